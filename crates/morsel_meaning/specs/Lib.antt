@@ -1,0 +1,7 @@
+-- Definitions that the contracts of several crates cite.
+pub mod Values
+pub mod Order
+pub mod Faults
+pub mod Outside
+pub mod Calls
+pub mod Asks
