@@ -1,0 +1,12 @@
+pub mod RangeLemmas
+pub mod PieceLemmas
+pub mod ColumnLemmas
+pub mod FrameLemmas
+pub mod RowLemmas
+pub mod BesideLemmas
+pub mod SameFields
+pub mod SeenNames
+pub mod SelectLemmas
+pub mod StackLemmas
+pub mod MemoryLemmas
+pub mod MemIoLemmas

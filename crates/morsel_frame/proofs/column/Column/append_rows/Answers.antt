@@ -1,0 +1,22 @@
+use Rattle.std.proofs.Common.{rules, arith, ap, length, ◌∙◌, ◌≤◌}
+use Rattle.morsel_frame.specs.Columns.{Values}
+use Rattle.morsel_frame.specs.Packing.{stored}
+use Rattle.morsel_frame.proofs.ColumnLemmas.{length-masked, masked-append, masked-range}
+use Rattle.morsel_frame.proofs.column.Column.append_rows.Goals as goal
+
+pub append_range-requires-clause-within : goal.append_range-requires-clause-within
+append_range-requires-clause-within c =
+    let lens = length-masked c.other.inside.valid.items (stored c.other.inside.packed) c.other.invariant in
+    let seen = ap (λ (column : Values). length column.values) c.other.view_is in
+    omega (arith, lens, seen, c.other.invariant, c.requires.within)
+
+pub append_slice-requires-clause-within : goal.append_slice-requires-clause-within
+append_slice-requires-clause-within c =
+    let lens = length-masked c.other.inside.valid.items (stored c.other.inside.packed) c.other.invariant in
+    let seen = ap (λ (column : Values). length column.values) c.other.view_is in
+    omega (arith, lens, seen, c.requires.within)
+
+pub returns-clause-ok : goal.returns-clause-ok
+returns-clause-ok c =
+    rw (← c.self.view_is, ← c.other.view_is, c.in_ok-append_slice.ensures.ok, c.in_ok-reserve.ensures.items, c.in_ok-append_range.ensures.items, c.in_ok-append_range.ensures.kind)
+    (rw (masked-append _ _ _ _ c.self.invariant, masked-range) (search rules))

@@ -1,0 +1,6 @@
+use Rattle.std.specs.List.{IsDistinct}
+use Rattle.morsel_frame.proofs.tests.selects_nothing.Goals as goal
+
+pub select-requires-clause-once : goal.select-requires-clause-once
+unfolding IsDistinct
+select-requires-clause-once c = tt

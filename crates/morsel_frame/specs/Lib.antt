@@ -1,0 +1,21 @@
+-- Definitions that the contracts cite. Those of the base crate are given on.
+pub use Rattle.morsel_meaning.specs.Values
+pub use Rattle.morsel_meaning.specs.Order
+pub use Rattle.morsel_meaning.specs.Faults
+pub use Rattle.morsel_meaning.specs.Outside
+pub use Rattle.morsel_meaning.specs.Calls
+pub use Rattle.morsel_meaning.specs.Asks
+pub mod Cells
+pub mod Columns
+pub mod Frames
+pub mod Made
+pub mod Names
+pub mod Packing
+pub mod Pieces
+pub mod Refusals
+pub mod Selects
+pub mod Stacks
+pub mod Tables
+pub mod Memory
+pub mod MemoryParts
+pub mod MemIo

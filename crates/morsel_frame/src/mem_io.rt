@@ -1,0 +1,409 @@
+//! An outside in memory that tells everything, and fails at the calls that it is told to fail at.
+ghost use Rattle.std.specs.Prelude.{◌≡◌, ◌<◌, ◌≤◌, ◌+◌, length, slice_index, take, min};
+ghost use Rattle.morsel_meaning.specs.Calls.{Rises, Opens, Reads, Makes, Writes, Prints};
+ghost use Rattle.morsel_frame.specs.Memory.{sizes_of};
+ghost use Rattle.morsel_frame.specs.MemoryParts.{stored_files};
+ghost use Rattle.morsel_frame.specs.MemIo.{told_of, at_start, read_fails, taken_at, next_taken, OpensStored, ReadsHeld, MakesKept, WritesKept, PrintsKept, after_read, after_read_fault, after_write, after_write_fault};
+
+use crate::memory::{AskedFor, IoEvent, Memory};
+use morsel_meaning::{FileNo, Io, IoErr, Name};
+use std::alloc::Global;
+use std::marker::Model;
+
+/// An outside in memory whose numbered calls fail.
+///
+/// Opens and reads are counted together from 0, and so are makes, writes and prints.
+#[derive(Debug, Drop)]
+pub struct MemIo {
+    memory: Memory,
+    fail_reads: Vec<u64>,
+    fail_writes: Vec<(u64, u64)>,
+    reads: u64,
+    writes: u64,
+    read_faults: u64,
+    write_faults: u64,
+    failed: usize,
+}
+
+impl Model for MemIo {
+    ghost use Rattle.morsel_frame.specs.MemIo.{FaultyMemory};
+
+    ghost Value = { FaultyMemory };
+
+    ghost view = { λ m. record {
+      contents = m.memory;
+      fail_reads = m.fail_reads.items;
+      fail_writes = m.fail_writes.items;
+      reads = m.reads;
+      writes = m.writes;
+      read_faults = m.read_faults;
+      write_faults = m.write_faults;
+      failed = m.failed;
+    } };
+}
+
+impl MemIo {
+    /// An outside of these files, of which nothing was asked yet.
+    ///
+    /// `fail_reads` has the numbers of the opens and reads that fail. `fail_writes` has the numbers of the makes, writes
+    /// and prints that fail, each with how many bytes of its piece a write takes then.
+    pub fn new(
+        alloc: Global,
+        files: Vec<(Name, Vec<u8>)>,
+        fail_reads: Vec<u64>,
+        fail_writes: Vec<(u64, u64)>,
+    ) -> MemIo
+        ensures { result ≡ at_start (stored_files files.items) fail_reads.items fail_writes.items }
+    {
+        MemIo {
+            memory: Memory::new(alloc, files),
+            fail_reads,
+            fail_writes,
+            reads: 0,
+            writes: 0,
+            read_faults: 0,
+            write_faults: 0,
+            failed: 0,
+        }
+    }
+
+    /// What was opened, made, written, printed and asked.
+    pub fn memory(&self) -> &Memory
+        ensures { result.now ≡ self.now.contents }
+    {
+        &self.memory
+    }
+
+    /// How many opens and reads failed.
+    pub fn read_faults(&self) -> u64
+        ensures { result ≡ self.now.read_faults }
+    {
+        self.read_faults
+    }
+
+    /// How many makes, writes and prints failed.
+    pub fn write_faults(&self) -> u64
+        ensures { result ≡ self.now.write_faults }
+    {
+        self.write_faults
+    }
+
+    /// The number of the file whose open or read failed last.
+    pub fn failed(&self) -> usize
+        ensures { result ≡ self.now.failed }
+    {
+        self.failed
+    }
+
+    fn read_fails(&self) -> bool
+        ensures { result ≡ read_fails self.now }
+    {
+        self.fail_reads.as_slice().contains(&self.reads)
+    }
+
+    fn next_taken(&self) -> Option<u64>
+        ensures { result ≡ next_taken self.now }
+    {
+        taken_at(self.fail_writes.as_slice(), self.writes)
+    }
+
+    fn count_read(&mut self)
+        ensures { self.new ≡ after_read self.old self.old.contents }
+    {
+        self.reads = self.reads.saturating_add(1);
+    }
+
+    fn count_read_fault(&mut self, file: usize)
+        ensures after { self.new ≡ after_read_fault self.old self.old.contents file }
+        ensures rises { Rises self.old.read_faults self.new.read_faults }
+    {
+        self.reads = self.reads.saturating_add(1);
+        self.read_faults = self.read_faults.saturating_add(1);
+        self.failed = file;
+    }
+
+    fn count_write(&mut self)
+        ensures { self.new ≡ after_write self.old self.old.contents }
+    {
+        self.writes = self.writes.saturating_add(1);
+    }
+
+    fn count_write_fault(&mut self)
+        ensures after { self.new ≡ after_write_fault self.old self.old.contents }
+        ensures rises { Rises self.old.write_faults self.new.write_faults }
+    {
+        self.writes = self.writes.saturating_add(1);
+        self.write_faults = self.write_faults.saturating_add(1);
+    }
+
+    fn open(&mut self, name: &str) -> Result<FileNo, IoErr>
+        ensures { OpensStored self.old name.now result self.new }
+    {
+        if self.read_fails() || !self.memory.has(name) {
+            let Ok(()) = self.memory.ask(AskedFor::Opening, name) else {
+                return Err(IoErr::OutOfMemory);
+            };
+            let file = self.memory.opened();
+            self.count_read_fault(file);
+            return Err(IoErr::Failed);
+        }
+        let Ok(file) = self.memory.open(name) else {
+            return Err(IoErr::OutOfMemory);
+        };
+        self.count_read();
+        Ok(file)
+    }
+
+    fn read(&mut self, file: FileNo, at: u64, into: &mut [u8]) -> Result<(), IoErr>
+        requires opened { file.0 < length (sizes_of self.old.contents) }
+        requires within { at + length into.old ≤ slice_index (sizes_of self.old.contents) file.0 }
+        ensures { ReadsHeld self.old file.0 at into.new result self.new }
+    {
+        let fails = self.read_fails();
+        let event = IoEvent::Read {
+            file: file.0,
+            at,
+            len: into.len(),
+        };
+        let Ok(()) = self.memory.note(event) else {
+            return Err(IoErr::OutOfMemory);
+        };
+        if fails {
+            self.count_read_fault(file.0);
+            return Err(IoErr::Failed);
+        }
+        self.memory.fill(file, at, into);
+        self.count_read();
+        Ok(())
+    }
+
+    fn make(&mut self, name: &str) -> Result<(), IoErr>
+        ensures { MakesKept self.old name.now result self.new }
+    {
+        if self.next_taken().is_some() {
+            let Ok(()) = self.memory.ask(AskedFor::Making, name) else {
+                return Err(IoErr::OutOfMemory);
+            };
+            self.count_write_fault();
+            return Err(IoErr::Failed);
+        }
+        let Ok(()) = self.memory.make(name) else {
+            return Err(IoErr::OutOfMemory);
+        };
+        self.count_write();
+        Ok(())
+    }
+
+    fn append(&mut self, piece: &[u8]) -> Result<(), IoErr>
+        requires { 0 < length self.old.contents.made }
+        ensures { WritesKept self.old piece.now result self.new }
+    {
+        if let Some(taken) = self.next_taken() {
+            let Ok(()) = self.memory.append(front(piece, taken)) else {
+                return Err(IoErr::OutOfMemory);
+            };
+            self.count_write_fault();
+            return Err(IoErr::Failed);
+        }
+        let Ok(()) = self.memory.append(piece) else {
+            return Err(IoErr::OutOfMemory);
+        };
+        self.count_write();
+        Ok(())
+    }
+
+    fn keep_line(&mut self, line: &str) -> Result<(), IoErr>
+        ensures { PrintsKept self.old line.now result self.new }
+    {
+        if self.next_taken().is_some() {
+            self.count_write_fault();
+            return Err(IoErr::Failed);
+        }
+        let Ok(()) = self.memory.print(line) else {
+            return Err(IoErr::OutOfMemory);
+        };
+        self.count_write();
+        Ok(())
+    }
+}
+
+impl Io for MemIo {
+    ghost seen = { told_of };
+
+    fn open_source(&mut self, name: &str) -> Result<FileNo, IoErr>
+        ensures opens { Opens (told_of self.old) name.now result (told_of self.new) }
+        ensures stored { OpensStored self.old name.now result self.new }
+    {
+        self.open(name)
+    }
+
+    fn size(&self, file: FileNo) -> u64 {
+        self.memory.size(file)
+    }
+
+    fn read_range(&mut self, file: FileNo, at: u64, into: &mut [u8]) -> Result<(), IoErr>
+        requires opened { file.0 < length (told_of self.old).sizes }
+        requires within { at + length into.old ≤ slice_index (told_of self.old).sizes file.0 }
+        ensures reads { Reads (told_of self.old) file.0 at into.new result (told_of self.new) }
+        ensures held { ReadsHeld self.old file.0 at into.new result self.new }
+    {
+        self.read(file, at, into)
+    }
+
+    fn make_sink(&mut self, name: &str) -> Result<(), IoErr>
+        ensures makes { Makes (told_of self.old) name.now result (told_of self.new) }
+        ensures kept { MakesKept self.old name.now result self.new }
+    {
+        self.make(name)
+    }
+
+    fn write(&mut self, piece: &[u8]) -> Result<(), IoErr>
+        requires { 0 < (told_of self.old).sinks }
+        ensures writes { Writes (told_of self.old) piece.now result (told_of self.new) }
+        ensures kept { WritesKept self.old piece.now result self.new }
+    {
+        self.append(piece)
+    }
+
+    fn print(&mut self, line: &str) -> Result<(), IoErr>
+        ensures prints { Prints (told_of self.old) line.now result (told_of self.new) }
+        ensures kept { PrintsKept self.old line.now result self.new }
+    {
+        self.keep_line(line)
+    }
+}
+
+/// The second of the first pair of this number.
+fn taken_at(pairs: &[(u64, u64)], number: u64) -> Option<u64>
+    ensures { result ≡ taken_at pairs.now number }
+{
+    for pair in pairs {
+        if pair.0 == number {
+            return Some(pair.1);
+        }
+    }
+    None
+}
+
+/// As many of the first bytes as there are, and at most `taken`.
+fn front(piece: &[u8], taken: u64) -> &[u8]
+    ensures { result.now ≡ take (min taken (length piece.now)) piece.now }
+{
+    let end = (piece.len() as u64).min(taken) as usize;
+    &piece[..end]
+}
+
+#[cfg(test)]
+mod tests {
+    use super::*;
+    use morsel_meaning::Fault;
+    use std::test::Fail;
+
+    fn files(alloc: Global) -> Result<Vec<(Name, Vec<u8>)>, Fault> {
+        let mut files = Vec::new(alloc);
+        for (name, text) in [("a.csv", "id,name\n1,ann\n2,\n"), ("a.csv", "later")] {
+            files.push((
+                Name::new(alloc, name)?,
+                Vec::from_slice(alloc, text.as_bytes())?,
+            ))?;
+        }
+        Ok(files)
+    }
+
+    #[test]
+    fn a_file_is_read_where_it_was_asked(rt: HostRuntime) -> Result<(), Fail> {
+        let alloc = rt.alloc();
+        let mut io = MemIo::new(alloc, files(alloc)?, vec![in alloc]?, vec![in alloc]?);
+        let file = io.open_source("a.csv")?;
+        assert_eq!(rt; (file.0, io.size(file)), (0, 17));
+        let mut into = [0; 4];
+        io.read_range(file, 3, &mut into)?;
+        assert_eq!(rt; into, *b"name");
+        assert_eq!(rt; io.memory().opened(), 1);
+        assert_eq!(rt; io.memory().bytes(file), b"id,name\n1,ann\n2,\n".as_slice());
+        assert_eq!(rt;
+            (io.read_faults(), io.write_faults(), io.failed()),
+            (0, 0, 0)
+        );
+        Ok(())
+    }
+
+    #[test]
+    fn an_absent_name_is_refused(rt: HostRuntime) -> Result<(), Fail> {
+        let alloc = rt.alloc();
+        let mut io = MemIo::new(alloc, files(alloc)?, vec![in alloc]?, vec![in alloc]?);
+        let _ = io.open_source("a.csv")?;
+        assert_eq!(rt; io.open_source("b.csv"), Err(IoErr::Failed));
+        assert_eq!(rt;
+            (io.memory().opened(), io.read_faults(), io.failed()),
+            (1, 1, 1)
+        );
+        assert_eq!(rt; io.memory().names(), 2);
+        assert_eq!(rt; io.memory().name(1), (AskedFor::Opening, "b.csv"));
+        Ok(())
+    }
+
+    #[test]
+    fn the_numbered_reads_fail(rt: HostRuntime) -> Result<(), Fail> {
+        let alloc = rt.alloc();
+        let fails = vec![in alloc; 0, 2]?;
+        let mut io = MemIo::new(alloc, files(alloc)?, fails, vec![in alloc]?);
+        assert_eq!(rt; io.open_source("a.csv"), Err(IoErr::Failed));
+        let file = io.open_source("a.csv")?;
+        assert_eq!(rt; (file.0, io.size(file)), (0, 17));
+        let mut into = [0; 2];
+        assert_eq!(rt; io.read_range(file, 0, &mut into), Err(IoErr::Failed));
+        io.read_range(file, 0, &mut into)?;
+        assert_eq!(rt; into, *b"id");
+        assert_eq!(rt;
+            (io.read_faults(), io.failed(), io.memory().events()),
+            (2, 0, 2)
+        );
+        assert_eq!(rt;
+            io.memory().event(0),
+            IoEvent::Read {
+                file: 0,
+                at: 0,
+                len: 2
+            }
+        );
+        Ok(())
+    }
+
+    #[test]
+    fn the_numbered_writes_fail_after_a_part(rt: HostRuntime) -> Result<(), Fail> {
+        let alloc = rt.alloc();
+        let fails = vec![in alloc; (0, 0), (2, 2), (4, 9), (5, 0)]?;
+        let mut io = MemIo::new(alloc, files(alloc)?, vec![in alloc]?, fails);
+        assert_eq!(rt; io.make_sink("o"), Err(IoErr::Failed));
+        assert_eq!(rt; io.memory().sinks(), 0);
+        io.make_sink("o")?;
+        assert_eq!(rt; io.write(b"hello"), Err(IoErr::Failed));
+        io.write(b" you")?;
+        assert_eq!(rt; io.write(b"r"), Err(IoErr::Failed));
+        assert_eq!(rt; io.print("lost"), Err(IoErr::Failed));
+        io.print("kept")?;
+        let memory = io.memory();
+        assert_eq!(rt;
+            (
+                memory.sinks(),
+                memory.lines(),
+                memory.events(),
+                memory.names()
+            ),
+            (1, 1, 3, 2)
+        );
+        assert_eq!(rt; (memory.sink_name(0), memory.line(0)), ("o", "kept"));
+        assert_eq!(rt; memory.text(0), b"he your".as_slice());
+        for (at, len) in [2, 4, 1].iter().enumerate() {
+            assert!(rt; at < memory.events());
+            assert_eq!(rt;
+                memory.event(at),
+                IoEvent::Wrote { len: *len },
+                "event {at}"
+            );
+        }
+        assert_eq!(rt; (io.read_faults(), io.write_faults()), (0, 4));
+        Ok(())
+    }
+}

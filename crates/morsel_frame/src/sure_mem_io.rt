@@ -1,0 +1,189 @@
+//! An outside in memory that tells everything and never fails.
+ghost use Rattle.std.specs.Prelude.{◌≡◌, ◌<◌, ◌≤◌, ◌+◌, length, slice_index, OnOk, IsOkUnless};
+ghost use Rattle.morsel_meaning.specs.Calls.{Rises, Opens, Reads, Makes, Writes, Prints};
+ghost use Rattle.morsel_frame.specs.Memory.{Contents, untouched, sure, with_opened};
+ghost use Rattle.morsel_frame.specs.MemoryParts.{stored_files};
+
+use crate::memory::{IoEvent, Memory};
+use morsel_meaning::{FileNo, Io, IoErr, Name};
+use std::alloc::Global;
+use std::marker::Model;
+
+/// An outside in memory that never fails: a name of which there is no file opens as an empty file.
+#[derive(Debug, Drop)]
+pub struct SureMemIo {
+    memory: Memory,
+}
+
+impl Model for SureMemIo {
+    ghost use Rattle.morsel_frame.specs.Memory.{Contents};
+
+    ghost Value = { Contents };
+
+    ghost view = { λ m. m.memory };
+}
+
+impl SureMemIo {
+    /// An outside of these files, of which nothing was asked yet.
+    pub fn new(alloc: Global, files: Vec<(Name, Vec<u8>)>) -> SureMemIo
+        ensures { result ≡ untouched (stored_files files.items) }
+    {
+        SureMemIo {
+            memory: Memory::new(alloc, files),
+        }
+    }
+
+    /// What was opened, made, written, printed and asked.
+    pub fn memory(&self) -> &Memory
+        ensures { result.now ≡ self.now }
+    {
+        &self.memory
+    }
+}
+
+impl Io for SureMemIo {
+    ghost seen = { sure };
+
+    fn open_source(&mut self, name: &str) -> Result<FileNo, IoErr>
+        ensures opens { Opens (sure self.old) name.now result (sure self.new) }
+        ensures stored { OnOk result (self.new ≡ with_opened self.old name.now) }
+        ensures out_of_memory { IsOkUnless result IoErr.OutOfMemory }
+    {
+        let Ok(file) = self.memory.open(name) else {
+            return Err(IoErr::OutOfMemory);
+        };
+        Ok(file)
+    }
+
+    fn size(&self, file: FileNo) -> u64 {
+        self.memory.size(file)
+    }
+
+    fn read_range(&mut self, file: FileNo, at: u64, into: &mut [u8]) -> Result<(), IoErr>
+        requires opened { file.0 < length (sure self.old).sizes }
+        requires within { at + length into.old ≤ slice_index (sure self.old).sizes file.0 }
+        ensures reads { Reads (sure self.old) file.0 at into.new result (sure self.new) }
+        ensures out_of_memory { IsOkUnless result IoErr.OutOfMemory }
+    {
+        let event = IoEvent::Read {
+            file: file.0,
+            at,
+            len: into.len(),
+        };
+        let Ok(()) = self.memory.note(event) else {
+            return Err(IoErr::OutOfMemory);
+        };
+        self.memory.fill(file, at, into);
+        Ok(())
+    }
+
+    fn make_sink(&mut self, name: &str) -> Result<(), IoErr>
+        ensures makes { Makes (sure self.old) name.now result (sure self.new) }
+        ensures out_of_memory { IsOkUnless result IoErr.OutOfMemory }
+    {
+        let Ok(()) = self.memory.make(name) else {
+            return Err(IoErr::OutOfMemory);
+        };
+        Ok(())
+    }
+
+    fn write(&mut self, piece: &[u8]) -> Result<(), IoErr>
+        requires { 0 < (sure self.old).sinks }
+        ensures writes { Writes (sure self.old) piece.now result (sure self.new) }
+        ensures out_of_memory { IsOkUnless result IoErr.OutOfMemory }
+    {
+        let Ok(()) = self.memory.append(piece) else {
+            return Err(IoErr::OutOfMemory);
+        };
+        Ok(())
+    }
+
+    fn print(&mut self, line: &str) -> Result<(), IoErr>
+        ensures prints { Prints (sure self.old) line.now result (sure self.new) }
+        ensures out_of_memory { IsOkUnless result IoErr.OutOfMemory }
+    {
+        let Ok(()) = self.memory.print(line) else {
+            return Err(IoErr::OutOfMemory);
+        };
+        Ok(())
+    }
+}
+
+/// Such an outside has no fault at any moment, so no count of faults ever rises.
+pub fn sure_never_fails()
+    ensures read_faults { (io : Contents) → (⟦<crate::SureMemIo as morsel_meaning::Io>⟧.seen io).read_faults ≡ 0 }
+    ensures write_faults { (io : Contents) → (⟦<crate::SureMemIo as morsel_meaning::Io>⟧.seen io).write_faults ≡ 0 }
+    ensures reads { (old new : Contents) → Rises (sure old).read_faults (sure new).read_faults → ⊥ }
+    ensures writes { (old new : Contents) → Rises (sure old).write_faults (sure new).write_faults → ⊥ }
+{}
+
+#[cfg(test)]
+mod tests {
+    use super::*;
+    use crate::AskedFor;
+    use std::test::Fail;
+
+    fn open<H: Io>(io: &mut H, name: &str) -> Result<FileNo, IoErr>
+        ensures { Opens (H.seen io.old) name.now result (H.seen io.new) }
+    {
+        io.open_source(name)
+    }
+
+    // What any outside may answer rules out `Failed` where the outside is this one.
+    fn open_surely(io: &mut SureMemIo, name: &str) -> Result<FileNo, IoErr>
+        ensures { IsOkUnless result IoErr.OutOfMemory }
+    {
+        open(io, name)
+    }
+
+    #[test]
+    fn an_absent_name_opens_as_an_empty_file(rt: HostRuntime) -> Result<(), Fail> {
+        let mut io = SureMemIo::new(rt.alloc(), vec![in rt.alloc()]?);
+        let _ = open_surely(&mut io, "absent")?;
+        let file = io.open_source("none")?;
+        assert_eq!(rt; (file.0, io.size(file)), (1, 0));
+        io.read_range(file, 0, &mut [])?;
+        assert_eq!(rt; (io.memory().opened(), io.memory().events()), (2, 1));
+        Ok(())
+    }
+
+    #[test]
+    fn all_that_was_done_is_told(rt: HostRuntime) -> Result<(), Fail> {
+        let alloc = rt.alloc();
+        let name = Name::new(alloc, "a.csv")?;
+        let bytes = Vec::from_slice(alloc, b"id\n1\n")?;
+        let mut io = SureMemIo::new(alloc, vec![in alloc; (name, bytes)]?);
+        let file = io.open_source("a.csv")?;
+        let mut into = [0; 2];
+        assert_eq!(rt; io.size(file), 5);
+        io.read_range(file, 3, &mut into)?;
+        assert_eq!(rt; into, *b"1\n");
+        io.make_sink("o")?;
+        io.write(b"{}\n")?;
+        io.print("1")?;
+        let memory = io.memory();
+        assert_eq!(rt;
+            (
+                memory.sinks(),
+                memory.lines(),
+                memory.events(),
+                memory.names()
+            ),
+            (1, 1, 2, 2)
+        );
+        assert_eq!(rt; (memory.sink_name(0), memory.line(0)), ("o", "1"));
+        assert_eq!(rt; memory.text(0), b"{}\n".as_slice());
+        assert_eq!(rt;
+            memory.event(0),
+            IoEvent::Read {
+                file: 0,
+                at: 3,
+                len: 2
+            }
+        );
+        assert_eq!(rt; memory.event(1), IoEvent::Wrote { len: 3 });
+        assert_eq!(rt; memory.name(0), (AskedFor::Opening, "a.csv"));
+        assert_eq!(rt; memory.name(1), (AskedFor::Making, "o"));
+        Ok(())
+    }
+}

@@ -1,0 +1,473 @@
+//! Each public call once with ample memory, on small tables.
+ghost use Rattle.std.specs.Prelude.{◌≡◌, IfOk};
+
+use super::*;
+use std::alloc::Global;
+use std::test::Fail;
+
+/// A column of numbers.
+fn column_of(alloc: Global, numbers: &[i64]) -> Result<Column, Fault>
+    ensures { IfOk result (λ column. column.kind ≡ ColType.Int) }
+{
+    let mut column = Column::new(alloc, ColType::Int);
+    for number in numbers {
+        column.push_int(*number)?;
+    }
+    Ok(column)
+}
+
+/// A frame of one column of numbers.
+fn frame_of(alloc: Global, name: &str, numbers: &[i64]) -> Result<Frame, Fault> {
+    let column = column_of(alloc, numbers)?;
+    let height = column.len();
+    let name = Name::new(alloc, name)?;
+    let fields = vec![in alloc;
+        Field {
+            name,
+            kind: ColType::Int
+        },
+    ]?;
+    let schema = Schema::new(alloc, fields)?;
+    Ok(Frame::new(alloc, schema, vec![in alloc; column]?, height))
+}
+
+/// The numbers of a column, and -1 for a null.
+fn numbers_at(alloc: Global, frame: &Frame, at: usize) -> Result<Vec<i64>, Fault> {
+    let mut numbers = Vec::new(alloc);
+    if at < frame.width() {
+        let column = frame.column(at);
+        for row in 0..column.len() {
+            match column.get(row) {
+                Cell::Int(number) => numbers.push(number)?,
+                _ => numbers.push(-1)?,
+            }
+        }
+    }
+    Ok(numbers)
+}
+
+/// Whether the first column has these numbers, and -1 for a null.
+fn has(alloc: Global, frame: &Frame, wanted: &[i64]) -> Result<bool, Fault> {
+    Ok(numbers_at(alloc, frame, 0)?.as_slice() == wanted)
+}
+
+/// A frame of a = 1, 2, 3.
+fn worked(alloc: Global) -> Result<Frame, Fault> {
+    frame_of(alloc, "a", &[1, 2, 3])
+}
+
+fn slices(alloc: Global, frame: &Frame) -> Result<bool, Fault> {
+    let slice = frame.slice(alloc, 1, 5)?;
+    has(alloc, &slice, &[2, 3])
+}
+
+fn sliced(alloc: Global) -> Result<bool, Fault> {
+    let frame = worked(alloc)?;
+    slices(alloc, &frame)
+}
+
+#[test]
+fn a_slice_has_the_rows_that_exist(rt: HostRuntime) -> Result<(), Fail> {
+    assert!(rt; sliced(rt.alloc())?);
+    Ok(())
+}
+
+fn stacks(alloc: Global, frame: &mut Frame, other: &Frame) -> Result<bool, Fault> {
+    if frame.height() > 10 || other.height() > 10 {
+        return Ok(false);
+    }
+    frame.vstack(other)?;
+    has(alloc, frame, &[1, 2, 3, 1, 2, 3])
+}
+
+fn stacked(alloc: Global) -> Result<bool, Fault> {
+    let mut frame = worked(alloc)?;
+    let other = worked(alloc)?;
+    stacks(alloc, &mut frame, &other)
+}
+
+#[test]
+fn a_frame_stands_below_itself(rt: HostRuntime) -> Result<(), Fail> {
+    assert!(rt; stacked(rt.alloc())?);
+    Ok(())
+}
+
+fn mismatches(frame: &mut Frame, other: &Frame) -> bool {
+    if frame.height() > 10 || other.height() > 10 {
+        return false;
+    }
+    match frame.vstack(other) {
+        Err(Fault::SchemaMismatch { name }) => name.as_str() == "a",
+        _ => false,
+    }
+}
+
+fn mismatched(alloc: Global) -> Result<bool, Fault> {
+    let mut frame = worked(alloc)?;
+    let other = frame_of(alloc, "b", &[4])?;
+    Ok(mismatches(&mut frame, &other))
+}
+
+#[test]
+fn another_name_is_a_mismatch_of_the_own(rt: HostRuntime) -> Result<(), Fail> {
+    assert!(rt; mismatched(rt.alloc())?);
+    Ok(())
+}
+
+fn parts_are(alloc: Global, front: &Frame, back: &Frame) -> Result<bool, Fault> {
+    let front_is = has(alloc, front, &[1])?;
+    let back_is = has(alloc, back, &[2, 3])?;
+    Ok(front_is && back_is)
+}
+
+fn splits(alloc: Global, frame: Frame) -> Result<bool, Fault> {
+    if frame.height() < 1 {
+        return Ok(false);
+    }
+    let parts = frame.split_at(alloc, 1)?;
+    parts_are(alloc, &parts.0, &parts.1)
+}
+
+fn split(alloc: Global) -> Result<bool, Fault> {
+    let frame = worked(alloc)?;
+    splits(alloc, frame)
+}
+
+#[test]
+fn a_split_frame_has_the_rows_before_and_behind(rt: HostRuntime) -> Result<(), Fail> {
+    assert!(rt; split(rt.alloc())?);
+    Ok(())
+}
+
+fn gathers(alloc: Global, frame: &Frame, rows: &[usize]) -> Result<bool, Fault> {
+    let height = frame.height();
+    if !rows.iter().all(|row| *row < height) {
+        return Ok(false);
+    }
+    let gathered = frame.gather(alloc, rows)?;
+    has(alloc, &gathered, &[3, 1])
+}
+
+fn gathered(alloc: Global) -> Result<bool, Fault> {
+    let frame = worked(alloc)?;
+    gathers(alloc, &frame, &[2, 0])
+}
+
+#[test]
+fn gathered_rows_come_in_the_order_asked(rt: HostRuntime) -> Result<(), Fail> {
+    assert!(rt; gathered(rt.alloc())?);
+    Ok(())
+}
+
+fn repeats(alloc: Global, frame: Frame, other: Frame) -> bool {
+    if frame.height() != other.height() {
+        return false;
+    }
+    match frame.hstack(alloc, other) {
+        Err(Fault::Duplicate { name }) => name.as_str() == "a",
+        _ => false,
+    }
+}
+
+fn repeated_beside(alloc: Global) -> Result<bool, Fault> {
+    let frame = worked(alloc)?;
+    let other = worked(alloc)?;
+    Ok(repeats(alloc, frame, other))
+}
+
+#[test]
+fn a_frame_beside_itself_repeats_a_name(rt: HostRuntime) -> Result<(), Fail> {
+    assert!(rt; repeated_beside(rt.alloc())?);
+    Ok(())
+}
+
+fn stands_beside(alloc: Global, frame: Frame, other: Frame) -> Result<bool, Fault> {
+    if frame.height() != other.height() {
+        return Ok(false);
+    }
+    let both = frame.hstack(alloc, other)?;
+    Ok(numbers_at(alloc, &both, 1)?.as_slice() == [4, 5, 6].as_slice())
+}
+
+fn stood_beside(alloc: Global) -> Result<bool, Fault> {
+    let frame = worked(alloc)?;
+    let other = frame_of(alloc, "b", &[4, 5, 6])?;
+    stands_beside(alloc, frame, other)
+}
+
+#[test]
+fn columns_of_other_names_stand_beside(rt: HostRuntime) -> Result<(), Fail> {
+    assert!(rt; stood_beside(rt.alloc())?);
+    Ok(())
+}
+
+fn is_indexed(alloc: Global, frame: Frame, name: Name) -> Result<bool, Fault> {
+    let indexed = frame.with_row_index(alloc, name, 7)?;
+    if indexed.schema().find("i").is_none() {
+        return Ok(false);
+    }
+    has(alloc, &indexed, &[7, 8, 9])
+}
+
+fn indexed(alloc: Global) -> Result<bool, Fault> {
+    let name = Name::new(alloc, "i")?;
+    let frame = worked(alloc)?;
+    is_indexed(alloc, frame, name)
+}
+
+#[test]
+fn a_row_index_counts_from_its_offset(rt: HostRuntime) -> Result<(), Fail> {
+    assert!(rt; indexed(rt.alloc())?);
+    Ok(())
+}
+
+fn refusal(alloc: Global, frame: Frame, name: Name, offset: u32) -> u8 {
+    match frame.with_row_index(alloc, name, offset) {
+        Ok(_) => 0,
+        Err(fault) => fault.number(),
+    }
+}
+
+fn index_refusal(alloc: Global, name: &str, offset: u32) -> Result<u8, Fault> {
+    let name = Name::new(alloc, name)?;
+    let frame = worked(alloc)?;
+    Ok(refusal(alloc, frame, name, offset))
+}
+
+#[test]
+fn a_row_index_of_a_name_that_stands_is_a_duplicate(rt: HostRuntime) -> Result<(), Fail> {
+    assert_eq!(rt; index_refusal(rt.alloc(), "a", 0)?, 9);
+    Ok(())
+}
+
+#[test]
+fn a_row_index_past_32_bits_is_refused(rt: HostRuntime) -> Result<(), Fail> {
+    assert_eq!(rt; index_refusal(rt.alloc(), "i", 4294967293)?, 10);
+    Ok(())
+}
+
+/// How often the column has this text.
+fn count_of(frame: &Frame, at: usize, text: &str) -> usize {
+    let mut count = 0usize;
+    if at < frame.width() {
+        let column = frame.column(at);
+        for row in 0..column.len() {
+            if let Cell::Text(found) = column.get(row) {
+                if found == text {
+                    count = count.wrapping_add(1);
+                }
+            }
+        }
+    }
+    count
+}
+
+fn is_marked(alloc: Global, frame: Frame, name: Name) -> Result<usize, Fault> {
+    let marked = frame.with_text_column(alloc, name, "f")?;
+    Ok(count_of(&marked, 1, "f"))
+}
+
+fn marked_rows(alloc: Global) -> Result<usize, Fault> {
+    let name = Name::new(alloc, "p")?;
+    let frame = worked(alloc)?;
+    is_marked(alloc, frame, name)
+}
+
+#[test]
+fn a_text_column_has_its_text_in_each_row(rt: HostRuntime) -> Result<(), Fail> {
+    assert_eq!(rt; marked_rows(rt.alloc())?, 3);
+    Ok(())
+}
+
+/// How many nulls a column has.
+fn nulls_of(column: &Column) -> usize {
+    let mut count = 0usize;
+    for row in 0..column.len() {
+        if column.get(row) == Cell::Null {
+            count = count.wrapping_add(1);
+        }
+    }
+    count
+}
+
+fn made_of_nulls(alloc: Global) -> Result<bool, Fault> {
+    let column = Column::full_null(alloc, ColType::Int, 2)?;
+    Ok(column.len() == 2 && nulls_of(&column) == 2)
+}
+
+#[test]
+fn a_column_of_nulls_has_nulls_alone(rt: HostRuntime) -> Result<(), Fail> {
+    assert!(rt; made_of_nulls(rt.alloc())?);
+    Ok(())
+}
+
+fn texts_of(alloc: Global) -> Result<Column, Fault> {
+    let mut texts = Column::new(alloc, ColType::Text);
+    texts.push_text("x")?;
+    texts.push_null()?;
+    Ok(texts)
+}
+
+fn put_cell(column: &mut Column, text: &str) -> Result<(), Fault> {
+    if column.kind() == ColType::Text {
+        column.push_cell(Cell::Text(text))?;
+    }
+    Ok(())
+}
+
+fn put_name(column: &mut Column, name: Name) -> Result<(), Fault> {
+    if column.kind() == ColType::Text {
+        column.push(Value::Text(name))?;
+    }
+    Ok(())
+}
+
+fn all_texts(alloc: Global) -> Result<Column, Fault> {
+    let mut texts = texts_of(alloc)?;
+    put_cell(&mut texts, "yz")?;
+    put_name(&mut texts, Name::new(alloc, "")?)?;
+    Ok(texts)
+}
+
+/// How many bytes the texts have that are no nulls.
+fn bytes_of(column: &Column) -> usize {
+    let mut count = 0usize;
+    for row in 0..column.len() {
+        if let Cell::Text(text) = column.get(row) {
+            count = count.wrapping_add(text.len());
+        }
+    }
+    count
+}
+
+/// The text of a row, and none for a null.
+fn is_text(column: &Column, row: usize, wanted: &str) -> bool {
+    if row >= column.len() {
+        return false;
+    }
+    match column.get(row) {
+        Cell::Text(text) => text == wanted,
+        _ => false,
+    }
+}
+
+/// The text that the buffer has at this place, and none past the last.
+fn is_kept(texts: &Texts, at: usize, wanted: &str) -> bool {
+    at < texts.len() && texts.get(at) == wanted
+}
+
+fn is_lent(column: &Column, at: usize, wanted: &str) -> bool {
+    match column.texts() {
+        Some((_, texts)) => is_kept(texts, at, wanted),
+        None => false,
+    }
+}
+
+fn texts_come_back(alloc: Global) -> Result<bool, Fault> {
+    let texts = all_texts(alloc)?;
+    Ok(
+        nulls_of(&texts) == 1
+            && is_text(&texts, 2, "yz")
+            && is_text(&texts, 3, "")
+            && is_lent(&texts, 0, "x"),
+    )
+}
+
+#[test]
+fn texts_come_back_and_nulls_are_marked(rt: HostRuntime) -> Result<(), Fail> {
+    assert!(rt; texts_come_back(rt.alloc())?);
+    Ok(())
+}
+
+fn gathered_texts(alloc: Global, texts: &Column) -> Result<Column, Fault> {
+    let mut gathered = Column::new(alloc, texts.kind());
+    gathered.append_gather(texts, &[2, u32::MAX, 0, 2])?;
+    Ok(gathered)
+}
+
+fn put_rows(column: &mut Column, texts: &Column) -> Result<(), Fault> {
+    if column.kind() == texts.kind() {
+        column.append_rows(texts, 0, texts.len())?;
+        column.truncate(6);
+    }
+    Ok(())
+}
+
+fn greatest_is_null(alloc: Global) -> Result<bool, Fault> {
+    let texts = all_texts(alloc)?;
+    let mut gathered = gathered_texts(alloc, &texts)?;
+    put_rows(&mut gathered, &texts)?;
+    Ok(nulls_of(&gathered) == 2 && bytes_of(&gathered) == 6 && is_text(&gathered, 3, "yz"))
+}
+
+#[test]
+fn the_greatest_row_number_gathers_a_null(rt: HostRuntime) -> Result<(), Fail> {
+    assert!(rt; greatest_is_null(rt.alloc())?);
+    Ok(())
+}
+
+fn flag_of(alloc: Global) -> Result<Column, Fault> {
+    let mut flags = Column::new(alloc, ColType::Bool);
+    if flags.kind() == ColType::Bool {
+        flags.push_bool(true)?;
+    }
+    Ok(flags)
+}
+
+fn lent_whole(alloc: Global) -> Result<bool, Fault> {
+    let flags = flag_of(alloc)?;
+    let numbers = column_of(alloc, &[5])?;
+    Ok(flags.ints().is_none() && flags.bools().is_some() && numbers.ints().is_some())
+}
+
+#[test]
+fn numbers_and_truth_values_are_lent_whole(rt: HostRuntime) -> Result<(), Fail> {
+    assert!(rt; lent_whole(rt.alloc())?);
+    Ok(())
+}
+
+fn put_field(alloc: Global, fields: &mut Vec<Field>, name: &str) -> Result<(), Fault> {
+    let name = Name::new(alloc, name)?;
+    fields.push(Field {
+        name,
+        kind: ColType::Text,
+    })?;
+    Ok(())
+}
+
+fn schema_fault(alloc: Global, fields: Vec<Field>) -> u8 {
+    match Schema::new(alloc, fields) {
+        Ok(_) => 0,
+        Err(fault) => fault.number(),
+    }
+}
+
+fn repeated_name(alloc: Global, first: &str, second: &str) -> Result<u8, Fault> {
+    let mut fields = Vec::new(alloc);
+    put_field(alloc, &mut fields, first)?;
+    put_field(alloc, &mut fields, second)?;
+    Ok(schema_fault(alloc, fields))
+}
+
+#[test]
+fn a_repeated_name_is_a_duplicate(rt: HostRuntime) -> Result<(), Fail> {
+    assert_eq!(rt; repeated_name(rt.alloc(), "a", "a")?, 9);
+    assert_eq!(rt; repeated_name(rt.alloc(), "a", "b")?, 0);
+    Ok(())
+}
+
+fn selects_nothing(alloc: Global, frame: Frame) -> Result<bool, Fault> {
+    let selected = frame.select(alloc, &[])?;
+    Ok(selected.height() == 3 && selected.width() == 0)
+}
+
+fn selected_nothing(alloc: Global) -> Result<bool, Fault> {
+    let frame = worked(alloc)?;
+    selects_nothing(alloc, frame)
+}
+
+#[test]
+fn no_columns_leave_the_height(rt: HostRuntime) -> Result<(), Fail> {
+    assert!(rt; selected_nothing(rt.alloc())?);
+    Ok(())
+}
