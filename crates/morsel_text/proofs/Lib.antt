@@ -1,0 +1,27 @@
+-- Lemmas on what the contracts cite.
+pub mod SplitLemmas
+pub mod IntLemmas
+pub mod RowLemmas
+pub mod TextLemmas
+pub mod ChoiceLemmas
+pub mod StepLemmas
+pub mod PutLemmas
+pub mod MemberLemmas
+pub mod LaneLemmas
+pub mod PlaceLemmas
+pub mod ByteLemmas
+pub mod QuotedFieldLemmas
+pub mod PlainFieldLemmas
+pub mod RecordEndLemmas
+pub mod FieldListLemmas
+pub mod CommentLemmas
+pub mod RecordLemmas
+pub mod WorkedFacts
+pub mod FirstRecordLemmas
+pub mod ReadingLemmas
+pub mod UsedRowLemmas
+pub mod WholeRecordLemmas
+pub mod FileLemmas
+pub mod JoinedLemmas
+pub mod ResultLemmas
+pub mod PieceRowLemmas

@@ -1,0 +1,74 @@
+-- What records are to the rows, and what passing one leaves to be read.
+use Rattle.std.proofs.Common.{◌≡◌, ℕ, zero, suc, ◌+◌, ◌-◌, ◌<◌, ◌∙◌, sym, ap, refl, arith, Bool, true, false, not, List, [], ◌∷◌, length, take, map}
+use Rattle.std.specs.Prelude.{Option, Some, None, if◌then◌else◌}
+use Rattle.std.specs.Str.{is_utf8}
+use Rattle.morsel_meaning.specs.declared.ColType.{ColType}
+use Rattle.morsel_meaning.specs.declared.Value.TheVariants as values
+use Rattle.morsel_text.specs.Options.{Options}
+use Rattle.morsel_text.specs.Grammar.{CsvField, CsvRecord, Comment, Fields}
+use Rattle.morsel_text.specs.Cells.{Cell, Held, cell_of}
+use Rattle.morsel_text.specs.Rows.{RowOf, NoRow, IsRow, Misfit, is_empty, cells_of, row_or_misfit, row_of_nothing, row_of, is_header}
+use Rattle.morsel_text.specs.Split.{record_at}
+use Rattle.morsel_text.specs.Reading.{Reading, Malformed, NotUtf8, refuses, with_cells, row_then, record_then, split_then, reading_up_to}
+use Rattle.morsel_text.specs.RowPlaces.{row_place, IsKind}
+use Rattle.morsel_text.specs.declared.place.RowKind.{RowKind}
+use Rattle.morsel_text.specs.declared.place.RowKind.TheVariants as kinds
+use Rattle.morsel_text.proofs.StepLemmas.{left_some, left_record, head_reading, row_reading}
+
+nothing_row : (ks : List ColType) → length ks ≡ 1 → (cells : List Cell) × (row_of_nothing ks ≡ IsRow cells)
+nothing_row [] one = absurd (omega arith)
+nothing_row (k ∷ []) one = (Held values.Null ∷ [], refl)
+nothing_row (k ∷ l ∷ ks) one = absurd (omega arith)
+
+some_cells : (o : Options) (ks : List ColType) (fields : List CsvField) → length fields ≡ length ks → (cells : List Cell) × (cells_of o ks fields ≡ Some cells)
+some_cells o [] [] same = ([], refl)
+some_cells o [] (f ∷ fields) same = absurd (omega arith)
+some_cells o (k ∷ ks) [] same = absurd (omega arith)
+some_cells o (k ∷ ks) (f ∷ fields) same = let later = some_cells o ks fields (omega arith) in (cell_of o k f ∷ later.0, rw later.1 refl)
+
+no_cells : (o : Options) (ks : List ColType) (fields : List CsvField) → (length fields ≡ length ks → ⊥) → cells_of o ks fields ≡ None
+no_cells o [] [] other = absurd (other refl)
+no_cells o [] (f ∷ fields) other = refl
+no_cells o (k ∷ ks) [] other = refl
+no_cells o (k ∷ ks) (f ∷ fields) other = rw (no_cells o ks fields (λ same. other (ap suc same))) refl
+
+row_of-empty : (o : Options) (ks : List ColType) (fields : List CsvField) → is_empty fields ≡ true → row_of o ks (Fields fields) ≡ row_of_nothing ks
+row_of-empty o ks fields is = rw is
+
+row_of-filled : (o : Options) (ks : List ColType) (fields : List CsvField) → is_empty fields ≡ false → row_of o ks (Fields fields) ≡ row_or_misfit (cells_of o ks fields)
+row_of-filled o ks fields is = rw is
+
+pub kind_null : (o : Options) (ks : List ColType) (fields : List CsvField) → is_empty fields ≡ true → length ks ≡ 1 → IsKind (row_of o ks (Fields fields)) kinds.Row
+kind_null o ks fields is one = let row = nothing_row ks one in (row.0, row_of-empty o ks fields is ∙ row.1)
+
+pub kind_row : (o : Options) (ks : List ColType) (fields : List CsvField) → is_empty fields ≡ false → length fields ≡ length ks → IsKind (row_of o ks (Fields fields)) kinds.Row
+kind_row o ks fields is same = let all = some_cells o ks fields same in (all.0, row_of-filled o ks fields is ∙ ap row_or_misfit all.1)
+
+pub kind_misfit : (o : Options) (ks : List ColType) (fields : List CsvField) → is_empty fields ≡ false → (length fields ≡ length ks → ⊥) → IsKind (row_of o ks (Fields fields)) kinds.Misfit
+kind_misfit o ks fields is other = row_of-filled o ks fields is ∙ ap row_or_misfit (no_cells o ks fields other)
+
+pub skip_row : (n : ℕ) (o : Options) (ks : List ColType) (head : Bool) (at : ℕ) (text rest : List ℕ) (r : CsvRecord) (found : RowOf) → 0 < length text → record_at o text ≡ Some (r, rest)
+    → is_utf8 (take (length text - length rest) text) ≡ true → head ≡ false → row_of o ks r ≡ found
+    → reading_up_to (suc n) o ks head at text ≡ row_then false at found (reading_up_to n o ks false (at + (length text - length rest)) rest)
+skip_row n o ks head at text rest r found some is utf8 behind kind =
+    ap (λ h. reading_up_to (suc n) o ks h at text) behind ∙ row_reading n o ks at text rest r some is utf8
+    ∙ ap (λ k. row_then false at k (reading_up_to n o ks false (at + (length text - length rest)) rest)) kind
+
+-- where a row stands among what is read from here on
+pub place_next : (total : Option ℕ) (row : ℕ) (before later : Reading) (at : ℕ) (cells : List Cell) → before ≡ with_cells at cells later → row_place before.rows (suc row) ≡ total
+    → row_place later.rows row ≡ total
+place_next total row before later at cells is so_far = sym (ap (λ (r : Reading). row_place r.rows (suc row)) is) ∙ so_far
+
+pub place_here : (total : Option ℕ) (before later : Reading) (at : ℕ) (cells : List Cell) → before ≡ with_cells at cells later → row_place before.rows 0 ≡ total → Some at ≡ total
+place_here total before later at cells is so_far = sym (ap (λ (r : Reading). row_place r.rows 0) is) ∙ so_far
+
+pub place_over : (total : Option ℕ) (row : ℕ) (rows : List (ℕ × List Cell)) → rows ≡ [] → row_place rows row ≡ total → None ≡ total
+place_over total row rows none so_far = sym (ap (λ rows. row_place rows row) none) ∙ so_far
+
+-- the step of reading that passing one record is
+pub next_fuel : (o : Options) (ks : List ColType) (head : Bool) (at n k row : ℕ) (rest : List ℕ) (total : Option ℕ) → k ≡ suc n
+    → row_place (reading_up_to k o ks head at rest).rows row ≡ total → row_place (reading_up_to (suc n) o ks head at rest).rows row ≡ total
+next_fuel o ks head at n k row rest total one_more so_far = sym (ap (λ m. row_place (reading_up_to m o ks head at rest).rows row) one_more) ∙ so_far
+
+pub place_same : (total : Option ℕ) (row : ℕ) (before later : Reading) → before ≡ later → row_place before.rows row ≡ total → row_place later.rows row ≡ total
+place_same total row before later is so_far = sym (ap (λ (r : Reading). row_place r.rows row) is) ∙ so_far

@@ -1,0 +1,20 @@
+use Rattle.std.proofs.Common.{sym, ◌∙◌, ap, rules, arith, get_or, ◌∷◌, [], ◌++◌}
+use Rattle.morsel_text.specs.Reading.{chosen}
+use Rattle.morsel_meaning.specs.declared.Field.{Field}
+use Rattle.morsel_meaning.specs.declared.ColType.TheVariants as types
+use Rattle.morsel_text.proofs.ChoiceLemmas.{copied_more, kept_skip}
+use Rattle.morsel_text.proofs.choice.chosen_fields.Goals as goal
+
+blank : Field
+blank = record { name = []; kind = types.Int }
+
+pub loop-at-preserved-then-not-used-at : goal.loop-at-preserved-then-not-used-at
+loop-at-preserved-then-not-used-at c =
+    kept_skip (chosen c.args.used.now c.args.schema.now) c.loop-at.fields.items c.args.used.now c.args.schema.now c.loop-at.at blank
+    (omega arith) (omega arith) c.if-not-used-at.true c.loop-at.invariant
+
+pub loop-at-preserved : goal.loop-at-preserved
+loop-at-preserved c =
+    copied_more (chosen c.args.used.now c.args.schema.now) c.loop-at.fields.items _ c.args.used.now c.args.schema.now c.loop-at.at c.field.result.now
+    (omega arith) (omega arith) c.if-not-used-at.false c.field.ensures
+    (c.in_ok-push.ensures.items ∙ ap (λ f. c.loop-at.fields.items ++ f ∷ []) c.in_ok-field_again.ensures.same) c.loop-at.invariant

@@ -1,0 +1,15 @@
+use Rattle.std.proofs.Common.{◌≡◌, ◌≤◌, ◌+◌, ◌-◌, length}
+use Rattle.morsel_text.specs.Pushes.{column_kinds}
+use Rattle.morsel_text.specs.Steps.{left}
+use Rattle.morsel_text.proofs.StepLemmas.{ReadSo}
+use Rattle.morsel_text.proofs.read.read_all.Given as goal
+
+abbrev pub invariant-loop : goal.invariant-loop
+invariant-loop l =
+    let ks = column_kinds l.fn.columns.items in
+    record {
+      so_far : ReadSo (left (length l.fn.bytes) l.setting.options.now ks l.setting.used.now l.fn.head l.fn.at l.fn.bytes) l.setting.used.now ks l.height l.columns.items
+          (left (length l.fn.bytes - l.counter) l.setting.options.now ks l.setting.used.now l.still l.place l.rest);
+      places : l.place + length l.rest ≡ l.fn.at + length l.fn.bytes;
+      height : l.height ≤ l.counter;
+    }

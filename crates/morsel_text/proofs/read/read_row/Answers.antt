@@ -1,0 +1,9 @@
+use Rattle.std.proofs.Common.{sym, ◌∙◌, ap, refl}
+use Rattle.std.specs.Prelude.{Some}
+use Rattle.morsel_text.proofs.StepLemmas.{row_read}
+use Rattle.morsel_text.proofs.read.read_row.Goals as goal
+
+pub returns-in-Row : goal.returns-in-Row
+returns-in-Row c =
+    let row = c.in-Row.ensures in
+    (Some row.1, (refl, row.4, row.5), row_read c.args.setting.now.used.now c.args.at _ row.0 row.1 row.2 row.3)

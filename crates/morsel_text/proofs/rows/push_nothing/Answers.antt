@@ -1,0 +1,13 @@
+use Rattle.std.proofs.Common.{◌≡◌, ◌∙◌, ap, sym, refl, arith, rules, length}
+use Rattle.morsel_text.proofs.RowLemmas.{no_row, null_put, null_unused}
+use Rattle.morsel_text.proofs.rows.push_nothing.Goals as goal
+
+pub returns-then-len-ne1 : goal.returns-then-len-ne1
+returns-then-len-ne1 c = (no_row c.args.columns.now.items (search rules), refl)
+
+pub returns-then-not-used : goal.returns-then-not-used
+returns-then-not-used c = null_unused c.args.used.now c.args.columns.now.items (search rules) c.requires (search rules)
+
+pub returns : goal.returns
+returns c = null_put c.args.used.now c.args.columns.now.items _ c.index_mut-column.result.now c.push_null.new.self
+    (search rules) c.requires (search rules) (sym c.index_mut-column.ensures.value) c.in-Ok.ensures.ok refl

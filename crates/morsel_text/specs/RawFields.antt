@@ -1,0 +1,85 @@
+-- Fields as they stand in a text, what they say, and what the steps of splitting find.
+use Rattle.std.specs.Prelude.{◌≡◌, ◌⊎◌, ℕ, ◌+◌, ◌<◌, ◌≤◌, ◌==◌, ◌||◌, get_or, Bool, true, false, Option, Some, None, List, [], ◌∷◌, ◌++◌, map, length}
+use Rattle.std.specs.Borrow.{Bor}
+use Rattle.morsel_text.specs.declared.split.RawField.{RawField}
+use Rattle.morsel_text.specs.declared.split.RawField.TheVariants as raws
+use Rattle.morsel_text.specs.declared.split.Next.{Next}
+use Rattle.morsel_text.specs.declared.split.Next.TheVariants as nexts
+use Rattle.morsel_text.specs.declared.split.Split.{Split}
+use Rattle.morsel_text.specs.declared.split.Split.TheVariants as splits
+use Rattle.morsel_text.specs.Options.{Options}
+use Rattle.morsel_text.specs.Grammar.{CsvField, CsvRecord, Comment, Fields}
+use Rattle.morsel_text.specs.Split.{stops, quoted_at, with_field, ended, fields_then, fields_up_to, record_at}
+
+-- no byte before this place ends an unquoted field
+abbrev pub PassedTo : Options → List ℕ → ℕ → Type 0
+PassedTo o text n = (k : ℕ) → k < n → stops o (get_or text k 0) ≡ false
+
+-- so many of the 16 bytes from a place are neither of two, and then comes one of the two, where there are fewer than 16
+pub record IsRun (a b : ℕ) (text : List ℕ) (at len : ℕ) : Type 0 where
+  pub within : len ≤ 16
+  pub passed : (k : ℕ) → at ≤ k → k < at + len → (get_or text k 0 == a || get_or text k 0 == b) ≡ false
+  pub stopped : len < 16 → (get_or text (at + len) 0 == a || get_or text (at + len) 0 == b) ≡ true
+
+-- whether the text begins with this byte
+abbrev pub begins : ℕ → List ℕ → Bool
+begins byte [] = false
+begins byte (b ∷ bs) = b == byte
+
+-- the content of a quoted field
+abbrev pub content_of : Option (List ℕ × List ℕ) → List ℕ
+content_of None = []
+content_of (Some found) = found.0
+
+-- what a field says
+abbrev pub shown : RawField → CsvField
+shown (raws.Plain text) = record { quoted = false; bytes = text.now }
+shown (raws.Quoted text) = record { quoted = true; bytes = text.now }
+shown (raws.Doubled text quote) = record { quoted = true; bytes = content_of (quoted_at quote text.now) }
+
+abbrev pub shown_found : Option (RawField × Bor (List ℕ)) → Option (CsvField × List ℕ)
+shown_found None = None
+shown_found (Some found) = Some (shown found.0, found.1.now)
+
+-- what stands behind a quoted field
+abbrev pub rest_of : Option (List ℕ × List ℕ) → Option (List ℕ)
+rest_of None = None
+rest_of (Some found) = Some found.1
+
+-- the fields of a record whose field `f` is followed by this
+abbrev pub next_of : Options → CsvField → (List ℕ → Option (List CsvField × List ℕ)) → Next → Option (List CsvField × List ℕ)
+next_of o f more (nexts.Field rest) = with_field f (more rest.now)
+next_of o f more (nexts.End rest) = ended o f rest.now
+next_of o f more nexts.Broken = None
+
+-- how many bytes are left
+abbrev pub next_len : Next → ℕ
+next_len (nexts.Field rest) = length rest.now
+next_len (nexts.End rest) = length rest.now
+next_len nexts.Broken = 0
+
+-- fields in front of those that are found
+abbrev pub with_front : List CsvField → Option (List CsvField × List ℕ) → Option (List CsvField × List ℕ)
+with_front front None = None
+with_front front (Some found) = Some (front ++ found.0, found.1)
+
+-- the fields that a text begins with
+abbrev pub FieldsAre : Options → List ℕ → List RawField → Split → Type 0
+FieldsAre o text fields (splits.Fields rest) = fields_up_to (length text + 1) o text ≡ Some (map shown fields, rest.now)
+FieldsAre o text fields (splits.Comment rest) = ⊥
+FieldsAre o text fields splits.Broken = fields_up_to (length text + 1) o text ≡ None
+FieldsAre o text fields splits.NoMemory = Unit {0}
+
+-- the record that a text begins with
+abbrev pub SplitsInto : Options → List ℕ → List RawField → Split → Type 0
+SplitsInto o text fields (splits.Fields rest) = record_at o text ≡ Some (Fields (map shown fields), rest.now)
+SplitsInto o text fields (splits.Comment rest) = (body : List ℕ) × (record_at o text ≡ Some (Comment body, rest.now))
+SplitsInto o text fields splits.Broken = record_at o text ≡ None
+SplitsInto o text fields splits.NoMemory = Unit {0}
+
+-- how many bytes are left
+abbrev pub split_len : Split → ℕ
+split_len (splits.Fields rest) = length rest.now
+split_len (splits.Comment rest) = length rest.now
+split_len splits.Broken = 0
+split_len splits.NoMemory = 0

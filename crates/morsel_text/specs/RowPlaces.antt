@@ -1,0 +1,37 @@
+-- The places of rows' records, and what passing one record finds.
+use Rattle.std.specs.Prelude.{◌≡◌, ℕ, zero, suc, ◌+◌, ◌-◌, Bool, false, Option, Some, None, List, [], ◌∷◌, length}
+use Rattle.morsel_meaning.specs.declared.value.ColType.{ColType}
+use Rattle.morsel_text.specs.Options.{Options}
+use Rattle.morsel_text.specs.Cells.{Cell}
+use Rattle.morsel_text.specs.Rows.{RowOf, NoRow, IsRow, Misfit}
+use Rattle.morsel_text.specs.Reading.{Reading, with_cells, reading_up_to}
+use Rattle.morsel_text.specs.declared.place.RowKind.{RowKind}
+use Rattle.morsel_text.specs.declared.place.RowKind.TheVariants as kinds
+use Rattle.morsel_text.specs.declared.place.Skip.{Skip}
+use Rattle.morsel_text.specs.declared.place.Skip.TheVariants as skips
+
+-- the place of the row of this number, counted from 0
+abbrev pub row_place : List (ℕ × List Cell) → ℕ → Option ℕ
+row_place [] row = None
+row_place (r ∷ rows) zero = Some r.0
+row_place (r ∷ rows) (suc row) = row_place rows row
+
+abbrev pub IsKind : RowOf → RowKind → Type 0
+IsKind found kinds.Row = (cells : List Cell) × (found ≡ IsRow cells)
+IsKind found kinds.NoRow = found ≡ NoRow
+IsKind found kinds.Misfit = found ≡ Misfit
+
+-- the record that a text begins with was passed
+abbrev pub SkipsTo : Options → List ColType → Bool → ℕ → List ℕ → Skip → Type 0
+SkipsTo o ks head at text (skips.Row rest) = (cells : List Cell) × ((n : ℕ) →
+    reading_up_to (suc n) o ks head at text ≡ with_cells at cells (reading_up_to n o ks false (at + (length text - length rest.now)) rest.now))
+SkipsTo o ks head at text (skips.Other rest still) = (n : ℕ) →
+    reading_up_to (suc n) o ks head at text ≡ reading_up_to n o ks still (at + (length text - length rest.now)) rest.now
+SkipsTo o ks head at text skips.Refused = (n : ℕ) → (reading_up_to (suc n) o ks head at text).rows ≡ []
+SkipsTo o ks head at text skips.NoMemory = Unit {0}
+
+abbrev pub skip_len : Skip → ℕ
+skip_len (skips.Row rest) = length rest.now
+skip_len (skips.Other rest still) = length rest.now
+skip_len skips.Refused = 0
+skip_len skips.NoMemory = 0

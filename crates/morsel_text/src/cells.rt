@@ -1,0 +1,155 @@
+//! What texts say under a column's type.
+ghost use Rattle.std.specs.Prelude.{◌≡◌, None, false, IsUtf8};
+ghost use Rattle.morsel_meaning.specs.declared.ColType.TheVariants as types;
+ghost use Rattle.morsel_text.specs.Cells.{int_of, bool_of, value_of, cell_or_bad, cell_of};
+ghost use Rattle.morsel_text.specs.RawFields.{shown};
+ghost use Rattle.morsel_text.specs.Pushes.{PushesCell};
+
+use crate::CsvOptions;
+use crate::split::{RawField, unquote};
+use morsel_frame::{ColType, Column};
+use std::str::from_utf8_unchecked;
+
+/// The number that a text writes.
+#[inline(always)]
+pub fn int_of(text: &str) -> Option<i64>
+    ensures { result ≡ int_of text.now }
+{
+    text.parse::<i64>().ok()
+}
+
+/// The truth value that a text names.
+pub fn bool_of(text: &str) -> Option<bool>
+    ensures { result ≡ bool_of text.now }
+{
+    if text == "true" || text == "True" || text == "TRUE" {
+        return Some(true);
+    }
+    if text == "false" || text == "False" || text == "FALSE" {
+        return Some(false);
+    }
+    None
+}
+
+/// What came of putting a cell into a column.
+pub enum Pushed {
+    /// It stands there.
+    Done,
+    /// It does not fit the column's type.
+    Bad,
+    /// There was no memory.
+    NoMemory,
+}
+
+/// Puts what stands for a field that does not fit its column's type.
+fn push_misfit(column: &mut Column, options: &CsvOptions) -> Pushed
+    ensures { PushesCell (cell_or_bad options.now.ignore_errors None) column.old result column.new }
+{
+    if !options.ignores_errors() {
+        return Pushed::Bad;
+    }
+    let Ok(()) = column.push_null() else {
+        return Pushed::NoMemory;
+    };
+    Pushed::Done
+}
+
+/// Puts the number that a text writes.
+#[inline(always)]
+fn push_int(column: &mut Column, text: &str, options: &CsvOptions) -> Pushed
+    requires { column.old.kind ≡ types.Int }
+    ensures { PushesCell (cell_or_bad options.now.ignore_errors (value_of types.Int text.now))
+        column.old result column.new }
+{
+    let Some(number) = int_of(text) else {
+        return push_misfit(column, options);
+    };
+    let Ok(()) = column.push_int(number) else {
+        return Pushed::NoMemory;
+    };
+    Pushed::Done
+}
+
+/// Puts the truth value that a text names.
+fn push_bool(column: &mut Column, text: &str, options: &CsvOptions) -> Pushed
+    requires { column.old.kind ≡ types.Bool }
+    ensures { PushesCell (cell_or_bad options.now.ignore_errors (value_of types.Bool text.now))
+        column.old result column.new }
+{
+    let Some(flag) = bool_of(text) else {
+        return push_misfit(column, options);
+    };
+    let Ok(()) = column.push_bool(flag) else {
+        return Pushed::NoMemory;
+    };
+    Pushed::Done
+}
+
+/// Puts a text.
+#[inline(always)]
+fn push_text(column: &mut Column, text: &str, options: &CsvOptions) -> Pushed
+    requires { column.old.kind ≡ types.Text }
+    ensures { PushesCell (cell_or_bad options.now.ignore_errors (value_of types.Text text.now))
+        column.old result column.new }
+{
+    let Ok(()) = column.push_text(text) else {
+        return Pushed::NoMemory;
+    };
+    Pushed::Done
+}
+
+/// Puts what a text says under the column's type.
+#[inline(always)]
+fn push_value(column: &mut Column, text: &str, options: &CsvOptions) -> Pushed
+    ensures { PushesCell (cell_or_bad options.now.ignore_errors (value_of column.old.kind text.now))
+        column.old result column.new }
+{
+    match column.kind() {
+        ColType::Int => push_int(column, text, options),
+        ColType::Bool => push_bool(column, text, options),
+        ColType::Text => push_text(column, text, options),
+    }
+}
+
+/// Puts a field without quotes.
+#[inline(always)]
+fn push_plain(column: &mut Column, text: &str, options: &CsvOptions) -> Pushed
+    ensures { PushesCell (cell_of options.now column.old.kind (record { quoted = false; bytes = text.now }))
+        column.old result column.new }
+{
+    if text == options.null_text() {
+        let Ok(()) = column.push_null() else {
+            return Pushed::NoMemory;
+        };
+        return Pushed::Done;
+    }
+    push_value(column, text, options)
+}
+
+/// Puts what a field says, with room for the content of one that holds quotes.
+#[inline(always)]
+pub fn push_cell(
+    column: &mut Column,
+    field: RawField<'_>,
+    options: &CsvOptions,
+    content: &mut Vec<u8>,
+) -> Pushed
+    requires { IsUtf8 (shown field).bytes }
+    ensures { PushesCell (cell_of options.now column.old.kind (shown field.entry))
+        column.old result column.new }
+{
+    match field {
+        RawField::Plain(text) => push_plain(column, unsafe { from_utf8_unchecked(text) }, options),
+        RawField::Quoted(text) => push_value(column, unsafe { from_utf8_unchecked(text) }, options),
+        RawField::Doubled(text, quote) => {
+            let Ok(()) = unquote(text, quote, content) else {
+                return Pushed::NoMemory;
+            };
+            push_value(
+                column,
+                unsafe { from_utf8_unchecked(content.as_slice()) },
+                options,
+            )
+        }
+    }
+}

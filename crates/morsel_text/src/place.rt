@@ -1,0 +1,142 @@
+//! Where in a text a row's record begins.
+ghost use Rattle.std.specs.Prelude.{◌≡◌, ◌+◌, ◌<◌, ◌≤◌, ◌^◌, List, length, map, IfOk, IsOkUnless};
+ghost use Rattle.morsel_meaning.specs.declared.value.ColType.{ColType};
+ghost use Rattle.morsel_meaning.specs.Values.{kinds_of};
+ghost use Rattle.morsel_text.specs.Options.{Options};
+ghost use Rattle.morsel_text.specs.Grammar.{Fields};
+ghost use Rattle.morsel_text.specs.Rows.{row_of};
+ghost use Rattle.morsel_text.specs.Reading.{reading};
+ghost use Rattle.morsel_text.specs.RawFields.{shown};
+ghost use Rattle.morsel_text.specs.RowPlaces.{row_place, IsKind, SkipsTo, skip_len};
+
+use crate::CsvOptions;
+use crate::rows::is_empty;
+use crate::split::{RawField, Split, split_record};
+use crate::text::is_text;
+use morsel_frame::{Fault, Schema};
+use std::alloc::Global;
+
+/// What a record of fields is to the rows.
+pub enum RowKind {
+    /// A row.
+    Row,
+    /// No row.
+    NoRow,
+    /// A record with another number of fields than there are columns.
+    Misfit,
+}
+
+/// A record that was passed.
+pub enum Skip<'a> {
+    /// A row, and this behind it.
+    Row(&'a [u8]),
+    /// No row, this behind it, and whether the header is still to come.
+    Other(&'a [u8], bool),
+    /// The record is refused.
+    Refused,
+    /// There was no memory.
+    NoMemory,
+}
+
+/// What a record of fields is to the rows of so many columns.
+fn row_kind(fields: &[RawField<'_>], width: usize) -> RowKind
+    ensures { (o : Options) (ks : List ColType) → length ks ≡ width →
+        IsKind (row_of o ks (Fields (map shown fields.now))) result }
+{
+    if is_empty(fields) {
+        if width == 1 {
+            return RowKind::Row;
+        }
+        return RowKind::NoRow;
+    }
+    if fields.len() != width {
+        return RowKind::Misfit;
+    }
+    RowKind::Row
+}
+
+/// Passes the record that a text begins with.
+fn skip_record<'a>(
+    text: &'a [u8],
+    at: u64,
+    head: bool,
+    schema: &Schema,
+    options: &CsvOptions,
+    fields: &mut Vec<RawField<'a>>,
+) -> Skip<'a>
+    requires { 0 < length text.now }
+    ensures value { SkipsTo options.now (kinds_of schema.now) head at text.now result }
+    ensures within { skip_len result ≤ length text.now }
+{
+    match split_record(text, options, fields) {
+        Split::Fields(rest) => {
+            if !is_text(&text[..text.len() - rest.len()]) {
+                return Skip::Refused;
+            }
+            if head {
+                return Skip::Other(rest, is_empty(fields.as_slice()));
+            }
+            match row_kind(fields.as_slice(), schema.len()) {
+                RowKind::Row => Skip::Row(rest),
+                RowKind::NoRow => Skip::Other(rest, false),
+                RowKind::Misfit => Skip::Refused,
+            }
+        }
+        Split::Comment(rest) => {
+            if !is_text(&text[..text.len() - rest.len()]) {
+                return Skip::Refused;
+            }
+            Skip::Other(rest, head)
+        }
+        Split::Broken => Skip::Refused,
+        Split::NoMemory => Skip::NoMemory,
+    }
+}
+
+/// The place of the record that gives the row of this number, where there is one before the first record that is
+/// refused for its form. Rows are counted from 0, and places as `at` counts them.
+pub fn place_of_row(
+    alloc: Global,
+    bytes: &[u8],
+    at: u64,
+    schema: &Schema,
+    head: bool,
+    options: &CsvOptions,
+    row: usize,
+) -> Result<Option<u64>, Fault>
+    requires places { at + length bytes.now < 2 ^ 64 }
+    ensures ok { IfOk result (λ place.
+        place ≡ row_place (reading options.now (kinds_of schema.now) head at bytes.now).rows row) }
+    ensures out_of_memory { IsOkUnless result Fault.OutOfMemory }
+{
+    let mut fields = Vec::new(alloc);
+    let mut rest = bytes;
+    let mut place = at;
+    let mut still = head;
+    let mut before = row;
+    for _ in 0..bytes.len() {
+        if rest.is_empty() {
+            return Ok(None);
+        }
+        match skip_record(rest, place, still, schema, options, &mut fields) {
+            Skip::Row(after) => {
+                if before == 0 {
+                    return Ok(Some(place));
+                }
+                before -= 1;
+                place += (rest.len() - after.len()) as u64;
+                rest = after;
+                still = false;
+                continue;
+            }
+            Skip::Other(after, head) => {
+                place += (rest.len() - after.len()) as u64;
+                rest = after;
+                still = head;
+            }
+            Skip::Refused => return Ok(None),
+            Skip::NoMemory => return Err(Fault::OutOfMemory),
+        }
+    }
+    Ok(None)
+}
