@@ -1,0 +1,101 @@
+-- What a run of a scan answers, why, and what it leaves.
+use Rattle.std.specs.Prelude.{◌≡◌, ◌⊎◌, ℕ, ◌+◌, ◌<◌, ◌≤◌, Bool, ◌&&◌, ◌==◌, nat_lt, if◌then◌else◌, Option, Some, None, Result, Ok, Err, List, [], ◌∷◌, ◌++◌, length, take, get_or}
+use Rattle.morsel_meaning.specs.declared.fault.Fault.{Fault}
+use Rattle.morsel_meaning.specs.declared.fault.Fault.TheVariants.{OutOfMemory, ReadFault, WriteFault, Malformed}
+use Rattle.morsel_meaning.specs.declared.value.Field.{Field}
+use Rattle.morsel_meaning.specs.Values.{Row, names_of}
+use Rattle.morsel_meaning.specs.Outside.{Outside, Event, Asked, Open, Make, with_sink}
+use Rattle.morsel_meaning.specs.Calls.{Rises}
+use Rattle.morsel_meaning.specs.Asks.{Gains, times_asked}
+use Rattle.morsel_text.specs.Ndjson.{ndjson}
+use Rattle.morsel_engine.specs.FileRows.{ScansFile}
+
+-- a scan of one CSV file into NDJSON
+pub record Query : Type 0 where
+  pub file : List ℕ
+  pub schema : List Field
+  pub out : List ℕ
+
+-- the names that a run asks for, in order
+abbrev pub names_asked : Query → List Asked
+names_asked q = Open q.file ∷ Make q.out ∷ []
+
+-- the file has these rows, all of them, where its bytes are told
+abbrev pub HasRows : Option (List (List ℕ)) → ℕ → List Field → List Row → Type 0
+HasRows None file schema rows = Unit {0}
+HasRows (Some files) file schema rows = ScansFile schema (get_or files file []) rows None
+
+-- the record at this place of the file is the first that is refused, where its bytes are told
+abbrev pub IsRefusedAt : Option (List (List ℕ)) → ℕ → List Field → ℕ → Type 0
+IsRefusedAt None file schema at = Unit {0}
+IsRefusedAt (Some files) file schema at = (rows : List Row) × ScansFile schema (get_or files file []) rows (Some at)
+
+-- a front of the text of the rows before the first refused record, where the file's bytes are told
+abbrev pub IsFrontOfText : Option (List (List ℕ)) → ℕ → List Field → List ℕ → Type 0
+IsFrontOfText None file schema text = Unit {0}
+IsFrontOfText (Some files) file schema text = (rows : List Row) × (refused : Option ℕ) × (n : ℕ)
+    × ScansFile schema (get_or files file []) rows refused × (text ≡ take n (ndjson (names_of schema) rows))
+
+-- a byte of the file is asked at most once; no byte behind its size, and none of another file
+abbrev pub AsksAtMostOnce : ℕ → ℕ → List Event → Type 0
+AsksAtMostOnce file size events = (source byte : ℕ) → times_asked source byte events ≤ (if source == file && nat_lt byte size then 1 else 0)
+
+abbrev pub AsksEachByte : ℕ → ℕ → List Event → Type 0
+AsksEachByte file size events = (byte : ℕ) → byte < size → times_asked file byte events ≡ 1
+
+-- the sink has the text of the file's rows, and nothing else was made or printed
+pub record Answers (old : Outside) (q : Query) (count : ℕ) (new : Outside) : Type 0 where
+  pub rows : List Row
+  pub of_file : HasRows new.held (length old.sizes) q.schema rows
+  pub counted : count ≡ length rows
+  pub made : new.made ≡ with_sink old.made q.out (ndjson (names_of q.schema) rows)
+  pub asked : new.asked ≡ old.asked ++ names_asked q
+  pub events : List Event
+  pub gained : Gains old.events events new.events
+  pub every_byte : AsksEachByte (length old.sizes) (get_or new.sizes (length old.sizes) 0) events
+
+-- when each fault may be answered
+abbrev pub HasCause : Outside → Query → Fault → Outside → Type 0
+HasCause old q OutOfMemory new = Unit {0}
+HasCause old q (ReadFault file) new = (file ≡ 0) × Rises old.read_faults new.read_faults × (new.failed ≡ length old.sizes)
+HasCause old q WriteFault new = Rises old.write_faults new.write_faults
+HasCause old q (Malformed file at) new = (file ≡ 0) × IsRefusedAt new.held (length old.sizes) q.schema at
+HasCause old q fault new = ⊥
+
+-- no sink was made, or one whose text is a front of the rows' text
+abbrev pub MadeSome : Outside → Query → Outside → Type 0
+MadeSome old q new = (new.made ≡ old.made)
+    ⊎ ((new.asked ≡ old.asked ++ names_asked q) × (text : List ℕ)
+    × IsFrontOfText new.held (length old.sizes) q.schema text × (new.made ≡ with_sink old.made q.out text))
+
+-- some of the names were asked for, the first ones
+abbrev pub AsksSome : Outside → Query → Outside → Type 0
+AsksSome old q new = (n : ℕ) × (new.asked ≡ old.asked ++ take n (names_asked q))
+
+-- the reads of a run, whatever it answers
+pub record Reads (old : Outside) (new : Outside) : Type 0 where
+  pub events : List Event
+  pub gained : Gains old.events events new.events
+  pub once : AsksAtMostOnce (length old.sizes) (get_or new.sizes (length old.sizes) 0) events
+
+abbrev pub Answered : Outside → Query → Result ℕ Fault → Outside → Type 0
+Answered old q (Ok count) new = Answers old q count new
+Answered old q (Err fault) new = Unit {0}
+
+abbrev pub Caused : Outside → Query → Result ℕ Fault → Outside → Type 0
+Caused old q (Ok count) new = Unit {0}
+Caused old q (Err fault) new = HasCause old q fault new
+
+abbrev pub AfterFault : Outside → Query → Result ℕ Fault → Outside → Type 0
+AfterFault old q (Ok count) new = Unit {0}
+AfterFault old q (Err fault) new = MadeSome old q new
+
+-- what a run answers, why, and what it leaves
+pub record Runs (old : Outside) (q : Query) (result : Result ℕ Fault) (new : Outside) : Type 0 where
+  pub answers : Answered old q result new
+  pub caused : Caused old q result new
+  pub after_fault : AfterFault old q result new
+  pub asks : AsksSome old q new
+  pub reads : Reads old new
+  pub printed : new.printed ≡ old.printed
+  pub no_lower : old.write_faults ≤ new.write_faults

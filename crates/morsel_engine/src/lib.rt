@@ -1,0 +1,9 @@
+//! Runs queries: from the bytes of the input files to the bytes of the output file.
+#![tactic(auto)]
+
+mod outside;
+mod run;
+mod scan;
+mod write;
+
+pub use run::run_scan;
