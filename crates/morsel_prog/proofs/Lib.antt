@@ -1,0 +1,4 @@
+pub mod CutLemmas
+pub mod FieldLemmas
+pub mod ProgramLemmas
+pub mod RealIoLemmas

@@ -1,0 +1,24 @@
+-- What a parse answers.
+use Rattle.std.specs.Prelude.{◌≡◌, Option, Some, None, Result, Ok, Err, List, Vec}
+use Rattle.std.specs.declared.alloc.Global.{Global}
+use Rattle.morsel_meaning.specs.declared.Fault.{Fault}
+use Rattle.morsel_prog.specs.declared.words.ScanCommand.{ScanCommand}
+use Rattle.morsel_prog.specs.Words.{Command, Scan}
+use Rattle.morsel_meaning.specs.declared.fault.Fault.TheVariants.{OutOfMemory, Usage}
+
+-- what was found, or `Usage` where there is nothing to find
+abbrev pub Finds : {A : Type 0} → Option A → Result A Fault → Type 0
+Finds found (Ok x) = found ≡ Some x
+Finds found (Err OutOfMemory) = Unit {0}
+Finds found (Err Usage) = found ≡ None
+Finds found (Err fault) = ⊥
+
+-- a vector seen as its list
+abbrev pub items_of : {A E : Type 0} → Result (Vec A Global) E → Result (List A) E
+items_of (Ok v) = Ok v.items
+items_of (Err e) = Err e
+
+-- a command seen by its words
+abbrev pub command_seen : {E : Type 0} → Result ScanCommand E → Result Command E
+command_seen (Ok c) = Ok (Scan c.file.now c.schema c.out.now)
+command_seen (Err e) = Err e

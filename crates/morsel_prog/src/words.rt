@@ -1,0 +1,128 @@
+//! The words of the command line, read by hand.
+ghost use Rattle.std.specs.Prelude.{◌≡◌, ◌<◌, ◌+◌, Some, None, length, take, drop, slice_index, map, IfSome, IsUtf8, MatchOption};
+ghost use Rattle.std.specs.String.{string_bytes};
+ghost use Rattle.morsel_prog.specs.Words.{option_text, cut_at, parts_at, kind_named, field_of, fields_of, schema_of, command_of};
+ghost use Rattle.morsel_prog.specs.Results.{Finds, items_of, command_seen};
+
+use memchr::memchr;
+use morsel_frame::{ColType, Fault, Field, Name, Schema};
+use std::alloc::Global;
+
+/// The place of the first such byte.
+fn first(text: &str, byte: u8) -> Option<usize>
+    ensures within { IfSome result (λ at. (at < length text.now) × (slice_index text.now at ≡ byte)) }
+    ensures cut { MatchOption result (cut_at byte text.now ≡ (text.now, None)) (λ at. cut_at byte text.now ≡ (take at text.now, Some (drop (at + 1) text.now))) }
+{
+    memchr(byte, text.as_bytes())
+}
+
+/// The text before the first such byte, which is ASCII, and what follows it.
+#[tactic(auto, using(std::proofs::lemmas::Str::lead_after_ascii))]
+fn cut(text: &str, byte: u8) -> (&str, Option<&str>)
+    requires { byte < 128 }
+    ensures cut { cut_at byte text.now ≡ (result.0.now, option_text result.1) }
+    ensures rest { IfSome result.1 (λ rest. IsUtf8 rest.now) }
+    ensures shorter { IfSome result.1 (λ rest. length rest.now < length text.now) }
+{
+    match first(text, byte) {
+        Some(at) => (&text[..at], Some(&text[at + 1..])),
+        None => (text, None),
+    }
+}
+
+fn kind_of(text: &str) -> Option<ColType>
+    ensures { result ≡ kind_named text.now }
+{
+    match text {
+        "int" => Some(ColType::Int),
+        "bool" => Some(ColType::Bool),
+        "text" => Some(ColType::Text),
+        _ => None,
+    }
+}
+
+/// The field of `name:type`.
+fn field(alloc: Global, part: &str) -> Result<Field, Fault>
+    ensures { Finds (field_of part.now) result }
+{
+    let (name, kind) = cut(part, b':');
+    let Some(kind) = kind else {
+        return Err(Fault::Usage);
+    };
+    let Some(kind) = kind_of(kind) else {
+        return Err(Fault::Usage);
+    };
+    if name.is_empty() {
+        return Err(Fault::Usage);
+    }
+    let name = Name::new(alloc, name)?;
+    Ok(Field { name, kind })
+}
+
+/// The fields of a schema's text: `name:type` joined by commas.
+fn fields(alloc: Global, text: &str) -> Result<Vec<Field>, Fault>
+    ensures { Finds (fields_of (parts_at 44 text.now)) (items_of result) }
+{
+    let mut fields = Vec::new(alloc);
+    let mut rest = text;
+    'parts: loop {
+        let (part, behind) = cut(rest, b',');
+        match field(alloc, part) {
+            Ok(field) => fields.push(field)?,
+            Err(fault) => return Err(fault),
+        }
+        match behind {
+            Some(more) => rest = more,
+            None => return Ok(fields),
+        }
+    }
+}
+
+/// `scan FILE SCHEMA OUT`: one CSV file is scanned into one NDJSON file.
+#[derive(Drop)]
+pub struct ScanCommand<'a> {
+    /// The name of the file to read.
+    pub file: &'a str,
+    /// Its columns.
+    pub schema: Schema,
+    /// The name of the file to write.
+    pub out: &'a str,
+}
+
+/// The greatest number of columns of a schema.
+const COLUMN_LIMIT: usize = 65535;
+
+/// The schema of a text: `name:type` joined by commas, the names distinct, at most 65,535 of them.
+fn schema(alloc: Global, text: &str) -> Result<Schema, Fault>
+    ensures { Finds (schema_of text.now) result }
+{
+    let fields = match fields(alloc, text) {
+        Ok(fields) => fields,
+        Err(fault) => return Err(fault),
+    };
+    if fields.len() > COLUMN_LIMIT {
+        return Err(Fault::Usage);
+    }
+    match Schema::new(alloc, fields) {
+        Ok(schema) => Ok(schema),
+        Err(Fault::OutOfMemory) => Err(Fault::OutOfMemory),
+        Err(_) => Err(Fault::Usage),
+    }
+}
+
+/// The command of the words: `Usage` where they are none, also where FILE and OUT are one word.
+pub fn command(alloc: Global, words: &[String]) -> Result<ScanCommand<'_>, Fault>
+    ensures { Finds (command_of (map string_bytes words.now)) (command_seen result) }
+{
+    let [verb, file, columns, out] = words else {
+        return Err(Fault::Usage);
+    };
+    let (file, out) = (file.as_str(), out.as_str());
+    if verb.as_str() != "scan" || file == out {
+        return Err(Fault::Usage);
+    }
+    match schema(alloc, columns.as_str()) {
+        Ok(schema) => Ok(ScanCommand { file, schema, out }),
+        Err(fault) => Err(fault),
+    }
+}
