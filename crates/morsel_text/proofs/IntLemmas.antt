@@ -1,13 +1,16 @@
--- The number that std reads from a text is the one that the digits write.
-use Rattle.std.proofs.Common.{◌≡◌, ◌≢◌, ℕ, suc, ◌+◌, ◌^◌, ◌<◌, ◌≤◌, ◌∙◌, sym, ap, refl, arith, Bool, true, false, ◌&&◌, ◌==◌, List, [], ◌∷◌, length, drop, get_or, pos, ℤ, neg_ℤ}
-use Rattle.std.proofs.lemmas.Bool.{eqb-true, eqb-false, ltb-true, lt-ltb, and_parts, and_from, cases_Bool}
-use Rattle.std.proofs.lemmas.Str.Parse.{IsNumeralModel, numerals_by_value, tells_all_ascii_digits, parse_signed_plain, parse_signed_plus, parse_signed_minus}
-use Rattle.std.specs.Prelude.{Option, Some, None, Result, Ok, Err, nat_lt, if◌then◌else◌}
-use Rattle.std.specs.Int.{w64}
+-- The number that a text writes is the one that std reads from it, and the one that its digits give one by one.
+use Rattle.std.proofs.Common.{◌≡◌, ◌≢◌, ℕ, zero, suc, ◌+◌, ◌-◌, ◌*◌, ◌^◌, ◌<◌, ◌≤◌, ◌∙◌, sym, ap, refl, arith, Bool, true, false, ◌&&◌, ◌==◌, List, [], ◌∷◌, length, take, get_or, pos, ℤ, neg_ℤ}
+use Rattle.std.proofs.lemmas.Bool.{eqb-true, eqb-false, ne_eqb, ltb-true, leb-true, lt-ltb, and_parts, and_from, and_left, and_right}
+use Rattle.std.proofs.lemmas.Int.Digits.{digits_more, digits_value_more}
+use Rattle.std.proofs.lemmas.Str.{digit_value_digit}
+use Rattle.std.proofs.lemmas.Str.Parse.{IsNumeralModel, numerals_by_value, tells_all_ascii_digits, digits_value_short, parse_signed_plain, parse_signed_plus, parse_signed_minus}
+use Rattle.std.specs.Prelude.{Some, None, Result, Ok, Err, nat_lt, if◌then◌else◌}
+use Rattle.std.specs.Char.{is_ascii_digit, digit_value}
+use Rattle.std.specs.Int.{w64, IsInRange}
 use Rattle.std.specs.Result.{result_ok, OkIff}
 use Rattle.std.specs.Str.{all_ascii_digits}
 use Rattle.std.specs.Str.Parse.{digits_value, ParsesSigned}
-use Rattle.morsel_text.specs.Cells.{number_below, signed, int_of}
+use Rattle.morsel_text.specs.Cells.{number_below, short_number, signed, int_of}
 
 own : IsNumeralModel (λ ds. all_ascii_digits ds ≡ true) (digits_value 10)
 own = numerals_by_value (λ ds. all_ascii_digits ds ≡ true) tells_all_ascii_digits
@@ -65,3 +68,55 @@ by_first b bs r parsed false false is other = rw (is, other) (plain (b ∷ bs) r
 pub int_parsed : {E : Type 0} (bs : List ℕ) (r : Result ℤ E) → ParsesSigned w64 10 bs r → result_ok r ≡ int_of bs
 int_parsed [] r parsed = plain [] r parsed (λ e. cc) (λ e. cc)
 int_parsed (b ∷ bs) r parsed = by_first b bs r parsed (b == 45) (b == 43) refl refl
+
+in_range : (c : ℕ) → is_ascii_digit c ≡ true → IsInRange 48 57 c
+in_range c is = let both = and_parts _ _ is in (leb-true 48 c both.0, leb-true c 57 both.1)
+
+-- digits up to a place are below 10 to the power of their number
+pub below_power : (bs : List ℕ) (k : ℕ) → all_ascii_digits bs ≡ true → length bs ≤ k → digits_value 10 bs < 10 ^ k
+below_power bs k digits size = digits_value_short own bs k digits size
+
+-- one more digit
+pub one_more_digit : (bs : List ℕ) (i : ℕ) → i < length bs → all_ascii_digits (take i bs) ≡ true → is_ascii_digit (get_or bs i 0) ≡ true
+    → all_ascii_digits (take (i + 1) bs) ≡ true
+one_more_digit bs i within before is =
+    let value : digit_value (get_or bs i 0) + 48 ≡ get_or bs i 0 = digit_value_digit (get_or bs i 0) (in_range _ is) in
+    let range : IsInRange 48 57 (get_or bs i 0) = in_range (get_or bs i 0) is in
+    own.from _ (digits_more 10 bs i within (own.to _ before) (omega (arith, range.1)))
+
+-- and its value
+pub one_more_value : (bs : List ℕ) (i n : ℕ) → i < length bs → is_ascii_digit (get_or bs i 0) ≡ true → n ≡ digits_value 10 (take i bs)
+    → n * 10 + (get_or bs i 0 - 48) ≡ digits_value 10 (take (i + 1) bs)
+one_more_value bs i n within is before =
+    let value : digit_value (get_or bs i 0) + 48 ≡ get_or bs i 0 = digit_value_digit (get_or bs i 0) (in_range _ is) in
+    let same : get_or bs i 0 - 48 ≡ digit_value (get_or bs i 0) = omega arith in
+    rw (before, same) (sym (digits_value_more 10 bs i within))
+
+other_byte : (bs : List ℕ) (i : ℕ) → i < length bs → is_ascii_digit (get_or bs i 0) ≡ false → all_ascii_digits bs ≡ false
+other_byte [] i within is = absurd (omega arith)
+other_byte (b ∷ bs) zero within is = and_left (is_ascii_digit b) (all_ascii_digits bs) is
+other_byte (b ∷ bs) (suc i) within is = and_right (is_ascii_digit b) (all_ascii_digits bs) (other_byte bs i (omega arith) is)
+
+-- a byte that is no digit
+pub no_short_number : (bs : List ℕ) (i : ℕ) → i < length bs → is_ascii_digit (get_or bs i 0) ≡ false → short_number bs ≡ None
+no_short_number bs i within is = rw (and_left _ (nat_lt 0 (length bs) && nat_lt (length bs) 19) (other_byte bs i within is))
+
+some_where : (t : Bool) (m n : ℕ) → (if t then Some m else None) ≡ Some n → (t ≡ true) × (m ≡ n)
+some_where true m n is = (refl, cc)
+some_where false m n is = absurd cc
+
+-- up to 18 digits without a sign are below the bound
+pub short_is_int : (bs : List ℕ) (n : ℕ) → short_number bs ≡ Some n → (int_of bs ≡ Some (pos n)) × (n < 10 ^ 18)
+short_is_int [] n is = absurd cc
+short_is_int (b ∷ bs) n is =
+    let parts = some_where (all_ascii_digits (b ∷ bs) && (nat_lt 0 (length (b ∷ bs)) && nat_lt (length (b ∷ bs)) 19)) (digits_value 10 (b ∷ bs)) n is in
+    let outer = and_parts (all_ascii_digits (b ∷ bs)) (nat_lt 0 (length (b ∷ bs)) && nat_lt (length (b ∷ bs)) 19) parts.0 in
+    let sizes = and_parts (nat_lt 0 (length (b ∷ bs))) (nat_lt (length (b ∷ bs)) 19) outer.1 in
+    let short : length (b ∷ bs) < 19 = ltb-true (length (b ∷ bs)) 19 sizes.1 in
+    let first : IsInRange 48 57 b = in_range b (and_parts (is_ascii_digit b) (all_ascii_digits bs) outer.0).0 in
+    let below : digits_value 10 (b ∷ bs) < 10 ^ 18 = below_power (b ∷ bs) 18 outer.0 (omega arith) in
+    let no_minus : (b == 45) ≡ false = ne_eqb b 45 (λ e. omega (arith, first.0)) in
+    let no_plus : (b == 43) ≡ false = ne_eqb b 43 (λ e. omega (arith, first.0)) in (
+      rw (no_minus, no_plus) (ap (signed false) (is_below (2 ^ 63) (b ∷ bs) (outer.0, omega arith, omega arith)) ∙ ap (λ (m : ℕ). Some (pos m)) parts.1),
+      omega (arith, parts.1),
+    )

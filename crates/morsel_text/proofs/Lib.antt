@@ -7,7 +7,10 @@ pub mod ChoiceLemmas
 pub mod StepLemmas
 pub mod PutLemmas
 pub mod MemberLemmas
+pub mod PaddedLemmas
 pub mod LaneLemmas
+pub mod LineLemmas
+pub mod EscapeLemmas
 pub mod PlaceLemmas
 pub mod ByteLemmas
 pub mod QuotedFieldLemmas
@@ -25,3 +28,10 @@ pub mod FileLemmas
 pub mod JoinedLemmas
 pub mod ResultLemmas
 pub mod PieceRowLemmas
+pub mod BatchLemmas
+pub mod BatchStepLemmas
+pub mod TurnLemmas
+pub mod OneEndLemmas
+pub mod PlainLemmas
+pub mod OneRowLemmas
+pub mod IntColumnLemmas

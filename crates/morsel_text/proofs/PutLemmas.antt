@@ -1,7 +1,6 @@
 -- Bytes that stand behind others, in a buffer that has room behind them.
-use Rattle.std.proofs.Common.{◌≡◌, ℕ, ◌+◌, ◌*◌, ◌-◌, ◌/◌, ◌%◌, ◌^◌, ◌<◌, ◌≤◌, List, [], ◌∷◌, ◌++◌, length, get_or, take, drop, refl, ap, sym, ◌∙◌, append_assoc, arith, length-append, decimal}
-use Rattle.std.specs.List.{flat_map}
-use Rattle.std.proofs.lemmas.List.{take_more, append-nil, take-take, take-append-drop, take_at, take-append-le, length-take-le, flat_map_more, take_all, drop_more, get_or-map}
+use Rattle.std.proofs.Common.{◌≡◌, ℕ, ◌+◌, ◌/◌, ◌%◌, ◌^◌, ◌<◌, ◌≤◌, List, [], ◌∷◌, ◌++◌, length, take, drop, refl, ap, sym, ◌∙◌, append_assoc, arith, length-append, decimal, subst, Result}
+use Rattle.std.proofs.lemmas.List.{take-take, take-append-drop, take_at, take-append-le, length-take-le}
 use Rattle.std.proofs.lemmas.List.{drop-take}
 use Rattle.std.proofs.Math.Seq.{take-append-add}
 use Rattle.std.proofs.lemmas.Bool.{leb-false, leb-true}
@@ -9,22 +8,7 @@ use mir.Val.{bool_byte}
 use lib.Dec.{leb}
 use mathlib.Core.Bool.{Bool, true, false}
 use Rattle.std.proofs.lemmas.Fmt.{decimal_digit, decimal_step}
-use Rattle.std.proofs.lemmas.Grind.{common_steps}
-use Rattle.morsel_meaning.specs.declared.Value.{Value}
-use Rattle.morsel_meaning.specs.declared.Value.TheVariants as values
-use Rattle.morsel_meaning.specs.declared.Field.{Field}
-use Rattle.morsel_meaning.specs.declared.ColType.{ColType}
-use Rattle.morsel_meaning.specs.Values.{Row, names_of, kinds_of, FitsRow, FitsRows}
-use Rattle.morsel_text.specs.Ndjson.{escaped, json_string, json_value, json_member, json_members, json_line, ndjson}
-use Rattle.morsel_text.specs.Members.{beginning, beginnings, begun, line_end, row_room, text_room, HasRoom, Put}
-
--- one text behind another
-pub put_then : {old mid new : List ℕ} {at between end : ℕ} {x y : List ℕ} → Put old at x between mid → Put mid between y end new → Put old at (x ++ y) end new
-put_then {old} {mid} {new} {at} {between} {end} {x} {y} first second = record {
-  rises = omega (arith, first.rises, second.rises);
-  within = second.within;
-  written = second.written ∙ (ap (λ (s : List ℕ). s ++ y) first.written ∙ append_assoc (take at old) x y);
-}
+use Rattle.morsel_text.specs.Members.{Puts}
 
 -- the front of what was written is what stood there before
 pub front_kept : (old now : List ℕ) (at to : ℕ) (x y : List ℕ) → at ≤ to → to ≤ length now → at ≤ length old
@@ -38,13 +22,6 @@ front_kept old now at to x y rises within was written =
 -- what is kept up to a later place is kept up to an earlier one
 pub kept_below : (now old : List ℕ) (at to : ℕ) → at ≤ to → take to now ≡ take to old → take at now ≡ take at old
 kept_below now old at to rises kept = sym (take-take at to now rises) ∙ (ap (λ (s : List ℕ). take at s) kept ∙ take-take at to old rises)
-
--- one more byte, with its escape
-pub escaped_more : (old out now text : List ℕ) (at i end to : ℕ) → i < length text
-    → take to out ≡ take at old ++ flat_map escaped (take i text) → take end now ≡ take to out ++ escaped (get_or text i 0)
-    → take end now ≡ take at old ++ flat_map escaped (take (i + 1) text)
-escaped_more old out now text at i end to within so_far one =
-    rw (one, so_far, flat_map_more escaped (take at old) (take i text) (get_or text i 0), take_more text i 0 within) refl
 
 -- what stands behind a front of known length
 pub take_behind : (xs ys : List ℕ) (at n : ℕ) → length xs ≡ at → take (at + n) (xs ++ ys) ≡ xs ++ take n ys
@@ -65,15 +42,23 @@ cut_words old now padded at from len past was long within written =
     sym (take-take (at + len) (at + from) now (omega arith)) ∙ (ap (λ (s : List ℕ). take (at + len) s) written
     ∙ (take_behind (take at old) (take from padded) at len place ∙ ap (λ (s : List ℕ). take at old ++ s) (take-take len from padded past)))
 
--- one more word
-pub one_word : (old out now padded : List ℕ) (at from : ℕ) → from + 16 ≤ length padded
-    → take (at + from) out ≡ take at old ++ take from padded → take (at + from + 16) now ≡ take (at + from) out ++ take 16 (drop from padded)
-    → take (at + (from + 16)) now ≡ take at old ++ take (from + 16) padded
-one_word old out now padded at from within so_far word =
-    let place : at + (from + 16) ≡ at + from + 16 = omega arith in
-    ap (λ (n : ℕ). take n now) place ∙ (word ∙ (ap (λ (s : List ℕ). s ++ take 16 (drop from padded)) so_far
-    ∙ (append_assoc (take at old) (take from padded) (take 16 (drop from padded))
-    ∙ ap (λ (s : List ℕ). take at old ++ s) (sym (take_add padded from 16)))))
+-- one more word of `n` bytes
+pub one_word : (old out now padded : List ℕ) (at from n : ℕ) → from + n ≤ length padded
+    → take (at + from) out ≡ take at old ++ take from padded → take (at + from + n) now ≡ take (at + from) out ++ take n (drop from padded)
+    → take (at + (from + n)) now ≡ take at old ++ take (from + n) padded
+one_word old out now padded at from n within so_far word =
+    let place : at + (from + n) ≡ at + from + n = omega arith in
+    ap (λ (m : ℕ). take m now) place ∙ (word ∙ (ap (λ (s : List ℕ). s ++ take n (drop from padded)) so_far
+    ∙ (append_assoc (take at old) (take from padded) (take n (drop from padded))
+    ∙ ap (λ (s : List ℕ). take at old ++ s) (sym (take_add padded from n)))))
+
+-- a word that begins within those before it
+pub word_over : (old out now padded : List ℕ) (at from last n len : ℕ) → last ≤ from → len ≤ last + n → at ≤ length old → from ≤ length padded → last + n ≤ length padded
+    → at + from ≤ length out → at + (last + n) ≤ length now → take (at + from) out ≡ take at old ++ take from padded
+    → take (at + last + n) now ≡ take (at + last) out ++ take n (drop last padded) → take (at + len) now ≡ take at old ++ take len padded
+word_over old out now padded at from last n len within ends was from_within last_within from_room last_room so_far word =
+    cut_words old now padded at (last + n) len ends was last_within last_room
+    (one_word old out now padded at last n last_within (cut_words old out padded at from last within was from_within from_room so_far) word)
 
 -- digits that end where they were said to end begin where they should
 pub digits_at : (old now digits : List ℕ) (at start : ℕ) → start + length digits ≡ at + length digits → at + length digits ≤ length old
@@ -145,8 +130,6 @@ pub one_more : (old out now : List ℕ) (at to end : ℕ) (x rest whole : List �
     → take to out ++ (x ++ rest) ≡ take at old ++ whole → take end now ++ rest ≡ take at old ++ whole
 one_more old out now at to end x rest whole put left = ap (λ (s : List ℕ). s ++ rest) put ∙ (append_assoc (take to out) x rest ∙ left)
 
--- a member is put where the room was made
-pub member_put : (old mid now : List ℕ) (at end : ℕ) (begin read value : List ℕ) → read ≡ begin → take at mid ≡ take at old
-    → take end now ≡ take at mid ++ (read ++ value) → take end now ≡ take at old ++ (begin ++ value)
-member_put old mid now at end begin read value same front put =
-    put ∙ (ap (λ (s : List ℕ). s ++ (read ++ value)) front ∙ ap (λ (s : List ℕ). take at old ++ (s ++ value)) same)
+-- what is put of one text is put of another that is the same
+pub puts_same : {E : Type 0} (old new text same : List ℕ) (at : ℕ) (result : Result ℕ E) → text ≡ same → Puts old at text result new → Puts old at same result new
+puts_same {E} old new text same at result is puts = subst (λ (s : List ℕ). Puts old at s result new) is puts

@@ -126,14 +126,14 @@ high-with_row height (true ∷ used) (column ∷ columns) [] same width high = a
 high-with_row height (true ∷ used) (column ∷ columns) (v ∷ row) same width high =
     (length-append column.values (v ∷ []) ∙ ap (λ n. n + 1) high.0, high-with_row height used columns row (omega arith) (omega arith) high.1)
 
-kinds-with_row : (used : List Bool) (columns : List Values) (row : Row) → column_kinds (with_row used columns row) ≡ column_kinds columns
+pub kinds-with_row : (used : List Bool) (columns : List Values) (row : Row) → column_kinds (with_row used columns row) ≡ column_kinds columns
 kinds-with_row used [] row = refl
 kinds-with_row [] (column ∷ columns) row = refl
 kinds-with_row (true ∷ used) (column ∷ columns) [] = refl
 kinds-with_row (true ∷ used) (column ∷ columns) (v ∷ row) = ap (λ (x : List ColType). column.kind ∷ x) (kinds-with_row used columns row)
 kinds-with_row (false ∷ used) (column ∷ columns) row = ap (λ (x : List ColType). column.kind ∷ x) (kinds-with_row used columns row)
 
-length-with_row : (used : List Bool) (columns : List Values) (row : Row) → length (with_row used columns row) ≡ length columns
+pub length-with_row : (used : List Bool) (columns : List Values) (row : Row) → length (with_row used columns row) ≡ length columns
 length-with_row used [] row = refl
 length-with_row [] (column ∷ columns) row = refl
 length-with_row (true ∷ used) (column ∷ columns) [] = refl

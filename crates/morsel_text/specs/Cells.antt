@@ -24,6 +24,11 @@ abbrev pub number_below : ℕ → List ℕ → Option ℕ
 number_below bound digits = if all_ascii_digits digits && (nat_lt 0 (length digits) && nat_lt (digits_value 10 digits) bound)
     then Some (digits_value 10 digits) else None
 
+-- the number that 1 to 18 decimal digits write
+abbrev pub short_number : List ℕ → Option ℕ
+short_number digits = if all_ascii_digits digits && (nat_lt 0 (length digits) && nat_lt (length digits) 19)
+    then Some (digits_value 10 digits) else None
+
 abbrev pub signed : Bool → Option ℕ → Option ℤ
 signed negative None = None
 signed true (Some n) = Some (neg_ℤ (pos n))

@@ -5,6 +5,7 @@ pub mod Cells
 pub mod Rows
 pub mod Split
 pub mod RawFields
+pub mod Lines
 pub mod Reading
 pub mod Ndjson
 pub mod Results
@@ -16,3 +17,6 @@ pub mod Laws
 pub mod GrammarRows
 pub mod GrammarResults
 pub mod Joined
+pub mod Batches
+pub mod OneEnd
+pub mod Plain

@@ -1,13 +1,19 @@
 -- A row of JSON as it is written: before each value stands what a column's member begins with, behind the last the end.
-use Rattle.std.specs.Prelude.{◌≡◌, ℕ, ◌+◌, ◌*◌, ◌≤◌, Bool, ◌||◌, ◌==◌, nat_lt, Result, Ok, Err, List, [], ◌∷◌, ◌++◌, codes, length, take}
+use Rattle.std.specs.Prelude.{◌≡◌, ℕ, ◌+◌, ◌*◌, ◌<◌, ◌≤◌, Bool, false, ◌||◌, ◌==◌, nat_lt, Result, Ok, Err, List, [], ◌∷◌, ◌++◌, codes, length, map, take, get_or}
+use Rattle.std.specs.List.{flat_map}
 use Rattle.morsel_meaning.specs.declared.Value.{Value}
 use Rattle.morsel_meaning.specs.declared.Value.TheVariants as values
 use Rattle.morsel_meaning.specs.Values.{Row}
+use Rattle.morsel_frame.specs.Tables.{cell_at}
 use Rattle.morsel_text.specs.Ndjson.{json_string, json_value}
 
 -- a byte that does not stand as it is
 abbrev pub needs_escape : ℕ → Bool
 needs_escape b = b == 34 || b == 92 || nat_lt b 32
+
+-- no byte from one place to another needs an escape
+abbrev pub ArePlain : ℕ → ℕ → List ℕ → Type 0
+ArePlain from to text = (k : ℕ) → from ≤ k → k < to → needs_escape (get_or text k 0) ≡ false
 
 -- a member up to its value
 abbrev pub beginning : ℕ → List ℕ → List ℕ
@@ -24,8 +30,26 @@ begun [] row = []
 begun (begin ∷ begins) [] = []
 begun (begin ∷ begins) (v ∷ row) = begin ++ json_value v ++ begun begins row
 
+-- the members of a column: each value behind what it begins with
+abbrev pub column_members : List ℕ → List Value → List (List ℕ)
+column_members begin vs = map (λ v. begin ++ json_value v) vs
+
+-- those of all columns, the first of which is at this place
+abbrev pub members_from : ℕ → List (List ℕ) → List Row → List (List (List ℕ))
+members_from at [] rows = []
+members_from at (begin ∷ begins) rows = column_members begin (map (cell_at at) rows) ∷ members_from (at + 1) begins rows
+
+-- a row's members, one from each column
+abbrev pub members_at : ℕ → List (List (List ℕ)) → List ℕ
+members_at row columns = flat_map (λ column. get_or column row []) columns
+
+-- each column has a member for this row
+abbrev pub HaveRow : ℕ → List (List (List ℕ)) → Type 0
+HaveRow row [] = Unit {0}
+HaveRow row (column ∷ columns) = (row < length column) × HaveRow row columns
+
 -- the end of each line: an object without members has no beginning
-abbrev pub line_end : List (List ℕ) → List ℕ
+abbrev pub line_end : {A : Type 0} → List A → List ℕ
 line_end [] = codes "{}\n"
 line_end (begin ∷ begins) = codes "}\n"
 
@@ -34,15 +58,10 @@ abbrev pub text_room : Value → ℕ
 text_room (values.Text text) = 6 * length text
 text_room v = 0
 
--- what members and the end of the line take at most, but for the texts
-abbrev pub row_room : List (List ℕ) → ℕ
-row_room [] = 3
-row_room (begin ∷ begins) = length begin + 20 + row_room begins
-
--- behind place `at` there is room for a text and this much more; for another value nothing changed
-abbrev pub HasRoom : Value → ℕ → ℕ → List ℕ → List ℕ → Type 0
-HasRoom (values.Text text) at room old new = at + (6 * length text + room) ≤ length new
-HasRoom v at room old new = new ≡ old
+-- the ends do not fall, and behind the last there is room for a word but one byte
+abbrev pub ArePadded : ℕ → List ℕ → List ℕ → Type 0
+ArePadded from [] padded = from + 15 ≤ length padded
+ArePadded from (end ∷ ends) padded = (from ≤ end) × ArePadded end ends padded
 
 -- from place `at` to place `end` stands the text, behind what stood before
 pub record Put (old : List ℕ) (at : ℕ) (text : List ℕ) (end : ℕ) (new : List ℕ) : Type 0 where

@@ -1,7 +1,7 @@
 //! What texts say under a column's type.
 ghost use Rattle.std.specs.Prelude.{◌≡◌, None, false, IsUtf8};
 ghost use Rattle.morsel_meaning.specs.declared.ColType.TheVariants as types;
-ghost use Rattle.morsel_text.specs.Cells.{int_of, bool_of, value_of, cell_or_bad, cell_of};
+ghost use Rattle.morsel_text.specs.Cells.{short_number, int_of, bool_of, value_of, cell_or_bad, cell_of};
 ghost use Rattle.morsel_text.specs.RawFields.{shown};
 ghost use Rattle.morsel_text.specs.Pushes.{PushesCell};
 
@@ -10,12 +10,36 @@ use crate::split::{RawField, unquote};
 use morsel_frame::{ColType, Column};
 use std::str::from_utf8_unchecked;
 
+/// So many digits are always a number below 2 to the power of 63.
+const SHORT: usize = 18;
+
 /// The number that a text writes.
 #[inline(always)]
 pub fn int_of(text: &str) -> Option<i64>
     ensures { result ≡ int_of text.now }
 {
+    if let Some(number) = short_number(text.as_bytes()) {
+        return Some(number as i64);
+    }
     text.parse::<i64>().ok()
+}
+
+/// The number that 1 to 18 digits write.
+#[inline(always)]
+fn short_number(digits: &[u8]) -> Option<u64>
+    ensures { result ≡ short_number digits.now }
+{
+    if digits.is_empty() || digits.len() > SHORT {
+        return None;
+    }
+    let mut number = 0u64;
+    for digit in digits {
+        if !digit.is_ascii_digit() {
+            return None;
+        }
+        number = number * 10 + (*digit - b'0') as u64;
+    }
+    Some(number)
 }
 
 /// The truth value that a text names.

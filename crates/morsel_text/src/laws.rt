@@ -3,6 +3,7 @@ ghost use Rattle.morsel_text.specs.Options.{Options, AreOptions};
 ghost use Rattle.morsel_text.specs.Laws.{ReadsByGrammar, RefusesByGrammar, BeginsWithOne, IsOneList, TakesBytes, EndsWithEol, StandsWhateverFollows, SplitsBehindWhole, ReadsCells, ReadsAllCells, PlacesRows, ReadsRows, ReadsAllRows, RefusesOpenQuotes, ReadsFiles};
 ghost use Rattle.morsel_text.specs.GrammarResults.{AnswersByGrammar, AnswersAllRows};
 ghost use Rattle.morsel_text.specs.Joined.{ReadsPieces, ReadsRowsOfPieces};
+ghost use Rattle.morsel_text.specs.OneEnd.{EndsOnce, StandsOnce};
 
 /// The record that is read is one that the text begins with, and any record that the text begins with is read.
 #[tactic(auto, using(crate::proofs::RecordLemmas::reads_by_grammar))]
@@ -113,4 +114,14 @@ pub fn readers_answer_all_rows()
 #[tactic(auto, using(crate::proofs::PieceRowLemmas::reads_rows_of_pieces))]
 pub fn used_columns_are_read_piece_by_piece()
     ensures { (o : Options) → AreOptions o → ReadsRowsOfPieces o }
+{}
+
+/// A text has one list of rows, up to its end or up to a record that is refused, and that record has one place.
+pub fn a_text_ends_at_one_place()
+    ensures { (o : Options) → AreOptions o → EndsOnce o }
+{}
+
+/// Behind so many rows there begins a row at one place.
+pub fn so_many_rows_end_at_one_place()
+    ensures { (o : Options) → AreOptions o → StandsOnce o }
 {}

@@ -72,6 +72,14 @@ impl CsvOptions {
         self.separator
     }
 
+    /// The byte round a quoted field, where there is one.
+    #[inline(always)]
+    pub fn quote(&self) -> Option<u8>
+        ensures { result ≡ self.now.quote }
+    {
+        self.quote
+    }
+
     /// The byte behind a record.
     #[inline(always)]
     pub fn eol(&self) -> u8

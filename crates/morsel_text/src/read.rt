@@ -1,6 +1,7 @@
 //! Reading whole records into a frame.
-ghost use Rattle.std.specs.Prelude.{◌≡◌, ◌+◌, ◌<◌, ◌≤◌, ◌^◌, length, map, IfOk};
+ghost use Rattle.std.specs.Prelude.{◌≡◌, ◌+◌, ◌<◌, ◌≤◌, ◌^◌, length, map, IfOk, IsTrue, IsUtf8};
 ghost use Rattle.morsel_meaning.specs.Values.{kinds_of};
+ghost use Rattle.morsel_text.specs.Options.{AreOptions};
 ghost use Rattle.morsel_text.specs.Grammar.{Fields};
 ghost use Rattle.morsel_text.specs.Rows.{row_of};
 ghost use Rattle.morsel_text.specs.Reading.{reading, read_of, chosen};
@@ -9,8 +10,10 @@ ghost use Rattle.morsel_text.specs.GrammarResults.{ReadsOfGrammar};
 ghost use Rattle.morsel_text.specs.RawFields.{shown};
 ghost use Rattle.morsel_text.specs.Pushes.{column_kinds, AreTexts};
 ghost use Rattle.morsel_text.specs.Steps.{RowStepsTo, StepsTo, AreHigh, ReadsAll, ReadsColumns};
+ghost use Rattle.morsel_text.specs.Batches.{TurnsTo};
 
 use crate::CsvOptions;
+use crate::batch::{BatchRead, read_batch};
 use crate::choice::{chosen_columns, chosen_fields, columns_of};
 use crate::rows::{RowPushed, is_empty, push_record};
 use crate::split::{RawField, Split, split_record};
@@ -81,9 +84,11 @@ fn read_record<'a>(
 ) -> Result<Step<'a>, Fault>
     requires some { 0 < length text.now }
     requires used { length setting.now.used.now ≡ length columns.old.items }
+    requires fit { AreOptions setting.now.options.now }
     ensures steps { StepsTo setting.now.options.now setting.now.used.now setting.now.file head at text.now
         columns.old.items result columns.new.items }
-    ensures within { IfOk result (λ step. length step.rest.now ≤ length text.now) }
+    ensures shorter { IfOk result (λ step. length step.rest.now < length text.now) }
+    ensures utf8 { IfOk result (λ step. IsUtf8 text.now → IsUtf8 step.rest.now) }
 {
     match split_record(text, setting.options, fields) {
         Split::Fields(rest) => {
@@ -132,6 +137,52 @@ fn read_record<'a>(
     }
 }
 
+/// Reads the rows of a batch of records, or where that is not to be, the one record that a text begins with.
+///
+/// `is_utf8` says that the text is known to be UTF-8.
+fn read_turn<'a>(
+    alloc: Global,
+    text: &'a [u8],
+    at: u64,
+    head: bool,
+    is_utf8: bool,
+    setting: &Setting<'_>,
+    columns: &mut Vec<Column>,
+    fields: &mut Vec<RawField<'a>>,
+    content: &mut Vec<u8>,
+) -> Result<Step<'a>, Fault>
+    requires some { 0 < length text.now }
+    requires used { length setting.now.used.now ≡ length columns.old.items }
+    requires fit { AreOptions setting.now.options.now }
+    requires utf8 { IsTrue is_utf8 → IsUtf8 text.now }
+    ensures turns { TurnsTo setting.now.options.now setting.now.used.now setting.now.file head at text.now
+        columns.old.items result columns.new.items }
+    ensures shorter { IfOk result (λ step. length step.rest.now < length text.now) }
+    ensures room { IfOk result (λ step. step.rows + length step.rest.now ≤ length text.now) }
+    ensures utf8 { IfOk result (λ step. IsUtf8 text.now → IsUtf8 step.rest.now) }
+{
+    if head || !is_utf8 {
+        return read_record(text, at, head, setting, columns, fields, content);
+    }
+    match read_batch(
+        alloc,
+        text,
+        columns,
+        setting.used,
+        setting.options,
+        fields,
+        content,
+    ) {
+        BatchRead::Rows(rest, rows) => Ok(Step {
+            rest,
+            head: false,
+            rows,
+        }),
+        BatchRead::Nothing => read_record(text, at, head, setting, columns, fields, content),
+        BatchRead::NoMemory => Err(Fault::OutOfMemory),
+    }
+}
+
 /// Reads record after record, and says how many rows they gave and whether the header is still to come.
 fn read_all(
     alloc: Global,
@@ -143,12 +194,15 @@ fn read_all(
 ) -> Result<(usize, bool), Fault>
     requires places { at + length bytes.now < 2 ^ 64 }
     requires used { length setting.now.used.now ≡ length columns.old.items }
+    requires fit { AreOptions setting.now.options.now }
     requires empty { AreHigh 0 (chosen setting.now.used.now columns.old.items) }
     ensures { ReadsAll setting.now.file setting.now.used.now
         (read_of setting.now.used.now
         (reading setting.now.options.now (column_kinds columns.old.items) head at bytes.now))
         columns.old.items result columns.new.items }
 {
+    // Most texts are UTF-8: then their records are read many at once, and are not tested one by one.
+    let is_utf8 = is_text(bytes);
     let mut fields = Vec::new(alloc);
     let mut content = Vec::new(alloc);
     let mut rest = bytes;
@@ -159,10 +213,12 @@ fn read_all(
         if rest.is_empty() {
             return Ok((height, still));
         }
-        match read_record(
+        match read_turn(
+            alloc,
             rest,
             place,
             still,
+            is_utf8,
             setting,
             columns,
             &mut fields,
@@ -201,6 +257,7 @@ fn read_columns(
 ) -> Result<ColumnsRead, Fault>
     requires places { at + length bytes.now < 2 ^ 64 }
     requires used { length setting.now.used.now ≡ length schema.now }
+    requires fit { AreOptions setting.now.options.now }
     ensures { ReadsColumns setting.now.file schema.now setting.now.used.now
         (read_of setting.now.used.now
         (reading setting.now.options.now (kinds_of schema.now) head at bytes.now)) result }
@@ -237,6 +294,7 @@ fn read_frame(
 ) -> Result<(Frame, bool), Fault>
     requires places { at + length bytes.now < 2 ^ 64 }
     requires used { length used.now ≡ length schema.now }
+    requires fit { AreOptions options.now }
     ensures { ReadsRecords file schema.now used.now
         (read_of used.now (reading options.now (kinds_of schema.now) head at bytes.now)) result }
 {

@@ -6,7 +6,10 @@ ghost use Rattle.morsel_text.specs.Grammar.{CsvField};
 ghost use Rattle.morsel_text.specs.Split.{plain_at, quoted_at, in_quotes, field_at, fields_then, returned, last_field, behind_front, line_at};
 ghost use Rattle.morsel_text.specs.RawFields.{IsRun, PassedTo, begins, content_of, shown, shown_found, rest_of, next_of, next_len, FieldsAre, SplitsInto, split_len};
 
+mod line;
+
 use crate::CsvOptions;
+use line::split_short;
 use memchr::memchr;
 use morsel_frame::Fault;
 use std::simd::prelude::*;
@@ -346,6 +349,9 @@ pub fn split_record<'a>(
         if let Some(body) = behind_front(text, prefix.as_str().as_bytes()) {
             return Split::Comment(behind_line(body, options.eol()));
         }
+    }
+    if let Some(rest) = split_short(text, options, fields) {
+        return Split::Fields(rest);
     }
     split_fields(text, options, fields)
 }

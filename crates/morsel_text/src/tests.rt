@@ -1,4 +1,6 @@
 //! Texts with the rows that they have, or the place of the record that is refused, worked out by hand.
+mod plain;
+
 use crate::{CsvOptions, place_of_row, read_records};
 use morsel_frame::{Cell, ColType, ComputeKind, Fault, Field, Frame, Name, Schema};
 use std::alloc::Global;
@@ -151,6 +153,17 @@ fn records_are_rows_behind_the_header(rt: HostRuntime) -> Result<(), Fail> {
 }
 
 #[test]
+fn short_and_long_records_are_rows(rt: HostRuntime) -> Result<(), Fail> {
+    gives(
+        &rt,
+        rt.alloc(),
+        b"id,name\n1,ann\r\n2,\n3,\"b,c\"\n4,a text that goes on for so long that its record ends far behind the sixty-fourth byte\n5,e\n",
+        "1 <ann>|2 null|3 <b,c>|4 <a text that goes on for so long that its record ends far behind the sixty-fourth byte>|5 <e>|",
+    )?;
+    Ok(())
+}
+
+#[test]
 fn a_return_before_a_line_feed_is_no_content(rt: HostRuntime) -> Result<(), Fail> {
     gives(
         &rt,
@@ -262,6 +275,21 @@ fn fields_say_what_their_type_asks(rt: HostRuntime) -> Result<(), Fail> {
         &[true, false],
         false,
         "true|",
+    )?;
+    Ok(())
+}
+
+#[test]
+fn numbers_are_read_whatever_their_length(rt: HostRuntime) -> Result<(), Fail> {
+    let kinds = [ColType::Int, ColType::Int];
+    reads(
+        &rt,
+        rt.alloc(),
+        b"123456789012345678,9223372036854775807\n-9223372036854775808,+00000000000000000000042\n",
+        &kinds,
+        &[true, true],
+        false,
+        "123456789012345678 9223372036854775807|-9223372036854775808 42|",
     )?;
     Ok(())
 }

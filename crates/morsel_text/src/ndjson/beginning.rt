@@ -2,9 +2,9 @@
 ghost use Rattle.std.specs.Prelude.{◌≡◌, ◌+◌, ◌*◌, ◌≤◌, ◌++◌, [], length, take, OnOk, IfOk, IsOkUnless};
 ghost use Rattle.morsel_meaning.specs.declared.Fault.TheVariants as faults;
 ghost use Rattle.morsel_meaning.specs.Values.{names_of};
-ghost use Rattle.morsel_text.specs.Members.{beginning, beginnings, row_room};
+ghost use Rattle.morsel_text.specs.Members.{beginning, beginnings};
 
-use super::cursor::{make_room, put_byte, put_words};
+use super::cursor::{put_byte, put_words};
 use super::values::put_string;
 use morsel_frame::{Fault, Schema};
 use std::alloc::Global;
@@ -87,22 +87,4 @@ pub fn make_beginnings(alloc: Global, schema: &Schema) -> Result<Vec<Beginning>,
         mark = b',';
     }
     Ok(begins)
-}
-
-/// What members and the end of the line take at most, but for the texts.
-pub fn room_of_row(begins: &[Beginning]) -> Result<usize, Fault>
-    ensures value { IfOk result (λ room. room ≡ row_room begins.now) }
-    ensures out_of_memory { IsOkUnless result Fault.OutOfMemory }
-{
-    let mut room = 3;
-    for at in 0..begins.len() {
-        let Some(more) = begins[at].len().checked_add(20) else {
-            return Err(Fault::OutOfMemory)
-        };
-        let Some(sum) = more.checked_add(room) else {
-            return Err(Fault::OutOfMemory)
-        };
-        room = sum;
-    }
-    Ok(room)
 }

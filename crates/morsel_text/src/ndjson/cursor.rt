@@ -1,5 +1,5 @@
 //! Bytes that are put into a slice behind a cursor. Each call has its room ahead, and gives the place behind its bytes.
-ghost use Rattle.std.specs.Prelude.{◌≡◌, ◌+◌, ◌≤◌, ◌<◌, ◌++◌, ◌∷◌, [], length, take, OnOk, decimal, drop, ◌^◌};
+ghost use Rattle.std.specs.Prelude.{◌≡◌, ◌+◌, ◌≤◌, ◌<◌, ◌++◌, ◌∷◌, [], length, take, OnOk, OnErr, decimal, drop, ◌^◌};
 ghost use Rattle.std.specs.Fmt.{signed_decimal};
 
 use itoa::write_digits;
@@ -11,6 +11,7 @@ use std::simd::prelude::*;
 pub fn make_room(bytes: &mut Vec<u8>, at: usize, more: usize) -> Result<(), AllocError>
     requires { at ≤ length bytes.old.items }
     ensures ok { OnOk result (at + more ≤ length bytes.new.items) }
+    ensures err { OnErr result (bytes.new.items ≡ bytes.old.items) }
     ensures within { at ≤ length bytes.new.items }
     ensures same_front { take at bytes.new.items ≡ take at bytes.old.items }
 {
@@ -26,6 +27,7 @@ pub fn make_room(bytes: &mut Vec<u8>, at: usize, more: usize) -> Result<(), Allo
 fn grow(bytes: &mut Vec<u8>, at: usize, more: usize) -> Result<(), AllocError>
     requires { at ≤ length bytes.old.items }
     ensures ok { OnOk result (at + more ≤ length bytes.new.items) }
+    ensures err { OnErr result (bytes.new.items ≡ bytes.old.items) }
     ensures within { at ≤ length bytes.new.items }
     ensures same_front { take at bytes.new.items ≡ take at bytes.old.items }
 {

@@ -1,10 +1,14 @@
-use Rattle.std.proofs.Common.{◌≡◌, ◌<◌, ◌≤◌, ◌+◌, ◌++◌, [], List, length, get_or, take, drop, ap, sym, ◌∙◌, arith}
+use Rattle.std.proofs.Common.{◌<◌, ◌+◌, ◌++◌, [], length, get_or, drop, ◌∙◌, arith}
 use Rattle.morsel_meaning.specs.Values.{Row, names_of}
 use Rattle.morsel_text.specs.Ndjson.{ndjson}
-use Rattle.morsel_text.specs.Members.{begun, line_end}
+use Rattle.morsel_text.specs.Members.{beginnings, members_at, line_end}
 use Rattle.morsel_text.proofs.PutLemmas.{one_more, front_kept, kept_below}
-use Rattle.morsel_text.proofs.MemberLemmas.{length_row, line_begun, ndjson_more}
+use Rattle.morsel_text.proofs.MemberLemmas.{length_row, members_line, have_row, ndjson_more}
 use Rattle.morsel_text.proofs.ndjson.put_lines.Goals as goal
+
+pub put_line-requires-clause-row : goal.put_line-requires-clause-row
+put_line-requires-clause-row c =
+    rw c.requires.columns (have_row 0 (beginnings 123 (names_of c.args.frame.now.schema)) c.args.frame.now.rows c.loop-row.row (omega (arith, c.loop-row-test.true, c.height-row-end.ensures.len)))
 
 pub loop-row-preserved : goal.loop-row-preserved
 loop-row-preserved c =
@@ -13,15 +17,15 @@ loop-row-preserved c =
     in let row : Row = get_or rows c.loop-row.row []
     in let here : c.loop-row.row < length rows = omega (arith, c.loop-row-test.true, c.height-row-end.ensures.len)
     in let wide = length_row c.args.frame.now.schema rows c.loop-row.row c.height-row-end.ensures.fits here
-    in let line = line_begun names row wide
+    in let line = members_line names rows c.loop-row.row here wide
     in let next = ndjson_more names rows c.loop-row.row here
     in record {
       rises = omega (arith, c.in-Ok.ensures.rises);
       within = c.in-Ok.ensures.within;
       written = one_more c.args.out.now.items c.loop-row.out.items c.put_line.new.out.items c.args.at c.loop-row.to c.in-Ok.end
-          (begun c.args.begins.now row ++ line_end c.args.begins.now) (ndjson names (drop (c.loop-row.row + 1) rows)) _
+          (members_at c.loop-row.row c.args.columns.now ++ line_end c.args.columns.now) (ndjson names (drop (c.loop-row.row + 1) rows)) _
           c.in-Ok.ensures.written
-          (rw c.requires.begins (rw line (rw next at c.loop-row.invariant.written)));
+          (rw c.requires.columns (rw line (rw next at c.loop-row.invariant.written)));
     }
 
 pub returns-in-Err : goal.returns-in-Err

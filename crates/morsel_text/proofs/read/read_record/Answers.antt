@@ -5,6 +5,8 @@ use Rattle.morsel_text.specs.RawFields.{shown}
 use Rattle.morsel_text.specs.Pushes.{column_kinds}
 use Rattle.morsel_text.proofs.TextLemmas.{record_texts}
 use Rattle.morsel_text.proofs.StepLemmas.{shown_record, row_steps, row_refused}
+use Rattle.morsel_text.specs.Grammar.{Comment}
+use Rattle.morsel_text.proofs.TurnLemmas.{behind_record}
 use Rattle.morsel_text.proofs.read.read_record.Goals as goal
 
 pub read_row-requires-clause-texts : goal.read_row-requires-clause-texts
@@ -33,3 +35,21 @@ returns-in-Err-clause-steps c =
     c.in-Fields.rest.now (Fields (map shown fields)) c.in-Err.fault c.requires.some
     (shown_record c.args.setting.now.options.now c.args.text.now c.in-Fields.rest.now _ fields c.as_slice-in-Fields.ensures.value c.in-Fields.ensures.value)
     (sym c.is_text.ensures ∙ c.if-not-is_text.false) c.if-head.false c.in-Err.ensures
+
+pub returns-then-head-clause-shorter : goal.returns-then-head-clause-shorter
+returns-then-head-clause-shorter c = (behind_record c.args.setting.now.options.now c.args.text.now c.in-Fields.rest.now _ c.split_record.ensures.fit c.requires.some c.in-Fields.ensures.value).0
+
+pub returns-then-head-clause-utf8 : goal.returns-then-head-clause-utf8
+returns-then-head-clause-utf8 c = (behind_record c.args.setting.now.options.now c.args.text.now c.in-Fields.rest.now _ c.split_record.ensures.fit c.requires.some c.in-Fields.ensures.value).1
+
+pub returns-in-Ok-clause-shorter : goal.returns-in-Ok-clause-shorter
+returns-in-Ok-clause-shorter c = (behind_record c.args.setting.now.options.now c.args.text.now c.in-Fields.rest.now _ c.split_record.ensures.fit c.requires.some c.in-Fields.ensures.value).0
+
+pub returns-in-Ok-clause-utf8 : goal.returns-in-Ok-clause-utf8
+returns-in-Ok-clause-utf8 c = (behind_record c.args.setting.now.options.now c.args.text.now c.in-Fields.rest.now _ c.split_record.ensures.fit c.requires.some c.in-Fields.ensures.value).1
+
+pub returns-else-not-is_text-2-clause-shorter : goal.returns-else-not-is_text-2-clause-shorter
+returns-else-not-is_text-2-clause-shorter c = (behind_record c.args.setting.now.options.now c.args.text.now c.in-Comment.rest.now (Comment c.in-Comment.ensures.value.0) c.split_record.ensures.fit c.requires.some c.in-Comment.ensures.value.1).0
+
+pub returns-else-not-is_text-2-clause-utf8 : goal.returns-else-not-is_text-2-clause-utf8
+returns-else-not-is_text-2-clause-utf8 c = (behind_record c.args.setting.now.options.now c.args.text.now c.in-Comment.rest.now (Comment c.in-Comment.ensures.value.0) c.split_record.ensures.fit c.requires.some c.in-Comment.ensures.value.1).1

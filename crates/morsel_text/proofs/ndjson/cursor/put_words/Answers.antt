@@ -5,7 +5,7 @@ use Rattle.morsel_text.proofs.ndjson.cursor.put_words.Goals as goal
 pub loop-from-preserved : goal.loop-from-preserved
 loop-from-preserved c = record {
   short = omega arith;
-  written = one_word c.args.out.now c.loop-from.out c.put_word.new.out c.args.padded.now c.args.at c.loop-from.from (omega arith)
+  written = one_word c.args.out.now c.loop-from.out c.put_word.new.out c.args.padded.now c.args.at c.loop-from.from 16 (omega arith)
       c.loop-from.invariant.written c.put_word.ensures;
 }
 

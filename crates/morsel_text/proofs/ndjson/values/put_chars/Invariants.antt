@@ -1,7 +1,7 @@
 use Rattle.std.proofs.Common.{◌≡◌, ◌≤◌, ◌+◌, ◌*◌, ◌++◌, take}
 use Rattle.std.specs.List.{flat_map}
 use Rattle.morsel_text.specs.Ndjson.{escaped}
-use Rattle.morsel_text.proofs.ndjson.values.put_escaped.Given as goal
+use Rattle.morsel_text.proofs.ndjson.values.put_chars.Given as goal
 
 abbrev pub invariant-loop-byte : goal.invariant-loop-byte
 invariant-loop-byte l = record {

@@ -1,0 +1,10 @@
+use Rattle.std.proofs.Common.{◌≡◌, ◌≤◌, ◌+◌, length}
+use Rattle.morsel_text.specs.Split.{quoted_at}
+use Rattle.morsel_text.specs.Plain.{with_content}
+use Rattle.morsel_text.proofs.plain.records.quoted.Given as goal
+
+abbrev pub invariant-loop : goal.invariant-loop
+invariant-loop l = record {
+  found : with_content l.bytes.items (quoted_at l.quote l.rest) ≡ quoted_at l.quote l.fn.text;
+  left : length l.rest + l.counter ≤ length l.fn.text;
+}

@@ -1,0 +1,9 @@
+use Rattle.std.proofs.Common.{◌==◌, ℕ, arith}
+use Rattle.std.proofs.lemmas.List.{length-take-le}
+use Rattle.std.proofs.lemmas.Simd.{bitmask_splat}
+use Rattle.std.specs.Int.{w8}
+use Rattle.morsel_text.proofs.LineLemmas.{marks_of}
+use Rattle.morsel_text.proofs.split.line.marks.Goals as goal
+
+pub returns : goal.returns
+returns c = marks_of c.args.byte c.args.text.now _ c.requires (bitmask_splat w8 (λ (x y : ℕ). x == y) _ 64 c.args.byte (length-take-le 64 c.args.text.now c.requires) (omega arith))

@@ -1,0 +1,102 @@
+-- Many records at once: their fields column by column, and what the columns gain.
+use Rattle.std.specs.Prelude.{◌≡◌, ◌⊎◌, ℕ, ◌<◌, Bool, true, false, Some, Result, Ok, Err, IsUtf8, List, [], ◌∷◌, ◌++◌, map, length, replicate}
+use Rattle.morsel_meaning.specs.declared.ColType.{ColType}
+use Rattle.morsel_meaning.specs.declared.Fault.{Fault}
+use Rattle.morsel_frame.specs.Columns.{Values}
+use Rattle.morsel_text.specs.Options.{Options}
+use Rattle.morsel_text.specs.Grammar.{Fields}
+use Rattle.morsel_meaning.specs.declared.Value.TheVariants as values
+use Rattle.morsel_text.specs.Cells.{Cell, Held, cell_of}
+use Rattle.morsel_text.specs.Rows.{is_empty}
+use Rattle.morsel_text.specs.Split.{record_at}
+use Rattle.morsel_text.specs.RawFields.{shown}
+use Rattle.morsel_text.specs.Pushes.{AreTexts, column_kinds}
+use Rattle.morsel_text.specs.Steps.{StepsTo}
+use Rattle.morsel_text.specs.declared.split.RawField.{RawField}
+use Rattle.morsel_text.specs.declared.read.Step.{Step}
+use Rattle.morsel_text.specs.declared.batch.BatchRead.{BatchRead}
+use Rattle.morsel_text.specs.declared.batch.BatchRead.TheVariants as batches
+use Rattle.morsel_text.specs.declared.ints.IntCell.{IntCell}
+use Rattle.morsel_text.specs.declared.ints.IntCell.TheVariants as ints
+use Rattle.morsel_text.specs.declared.batch.MadeAll.{MadeAll}
+use Rattle.morsel_text.specs.declared.batch.MadeAll.TheVariants as all
+use Rattle.morsel_text.specs.declared.batch.Made.{Made}
+use Rattle.morsel_text.specs.declared.batch.Made.TheVariants as makes
+
+-- each column with its entry of the row last
+abbrev pub spread : {A : Type 0} → List (List A) → List A → List (List A)
+spread [] row = []
+spread (column ∷ columns) [] = column ∷ columns
+spread (column ∷ columns) (x ∷ row) = (column ++ x ∷ []) ∷ spread columns row
+
+-- the columns with row after row
+abbrev pub spread_all : {A : Type 0} → List (List A) → List (List A) → List (List A)
+spread_all columns [] = columns
+spread_all columns (row ∷ rows) = spread_all (spread columns row) rows
+
+-- the text begins with these records, each with bytes and so many fields, and this stands behind them
+abbrev pub SplitsRows : Options → ℕ → List ℕ → List (List RawField) → List ℕ → Type 0
+SplitsRows o width text [] rest = rest ≡ text
+SplitsRows o width text (fields ∷ rows) rest = (behind : List ℕ) × (record_at o text ≡ Some (Fields (map shown fields), behind)) × (length behind < length text)
+    × (length fields ≡ width) × (is_empty (map shown fields) ≡ false) × SplitsRows o width behind rows rest
+
+-- the columns of fields gained those of so many records, which the text begins with
+abbrev pub SplitsBatch : Options → List ℕ → List (List RawField) → List ℕ × ℕ → List (List RawField) → Type 0
+SplitsBatch o text old found new = (lines : List (List RawField)) × (length lines ≡ found.1) × SplitsRows o (length old) text lines found.0 × (new ≡ spread_all old lines)
+
+-- the fields of each column are texts
+abbrev pub AreTextColumns : List (List RawField) → Type 0
+AreTextColumns [] = Unit {0}
+AreTextColumns (fields ∷ columns) = AreTexts (map shown fields) × AreTextColumns columns
+
+-- the column of these fields' values
+abbrev pub IsColumnOf : Options → ColType → List RawField → Values → Type 0
+IsColumnOf o kind fields column = (column.kind ≡ kind) × (map Held column.values ≡ map (λ f. cell_of o kind (shown f)) fields)
+
+-- a column of values for each that is used, and one without values for each other
+abbrev pub AreMade : Options → List Bool → List ColType → List (List RawField) → List Values → Type 0
+AreMade o [] [] [] [] = Unit {0}
+AreMade o (true ∷ used) (kind ∷ kinds) (fields ∷ batch) (column ∷ made) = IsColumnOf o kind fields column × AreMade o used kinds batch made
+AreMade o (false ∷ used) (kind ∷ kinds) (fields ∷ batch) (column ∷ made) = (column.kind ≡ kind) × (column.values ≡ []) × AreMade o used kinds batch made
+AreMade o used kinds batch made = ⊥
+
+-- what a field says in a column of numbers
+abbrev pub IsIntCell : Cell → IntCell → Type 0
+IsIntCell cell (ints.Number n) = cell ≡ Held (values.Int n)
+IsIntCell cell ints.Null = cell ≡ Held values.Null
+IsIntCell cell ints.Bad = Unit {0}
+IsIntCell cell ints.NoMemory = Unit {0}
+
+abbrev pub MakesColumn : Options → ColType → List RawField → Made → Type 0
+MakesColumn o kind fields (makes.Column column) = IsColumnOf o kind fields column
+MakesColumn o kind fields makes.Bad = Unit {0}
+MakesColumn o kind fields makes.NoMemory = Unit {0}
+
+abbrev pub MakesAll : Options → List Bool → List ColType → List (List RawField) → MadeAll → Type 0
+MakesAll o used kinds batch (all.Columns made) = AreMade o used kinds batch made.items
+MakesAll o used kinds batch all.Bad = Unit {0}
+MakesAll o used kinds batch all.NoMemory = Unit {0}
+
+-- the columns with those that were made behind them
+abbrev pub appended : List Values → List Values → List Values
+appended [] made = []
+appended (column ∷ columns) [] = column ∷ columns
+appended (column ∷ columns) (new ∷ made) = record column { values = column.values ++ new.values } ∷ appended columns made
+
+-- the rows of so many records, which the text begins with, were put into the columns
+abbrev pub PutsRows : Options → List Bool → List ℕ → List Values → List ℕ → ℕ → List Values → Type 0
+PutsRows o used text old rest rows new = (lines : List (List RawField)) × (made : List Values) × (length lines ≡ rows) × (0 < rows)
+    × SplitsRows o (length old) text lines rest × AreMade o used (column_kinds old) (spread_all (replicate (length old) []) lines) made
+    × (new ≡ appended old made)
+
+-- the rows of the first records of a text were put into the columns; or nothing was changed; or there was no memory
+abbrev pub ReadsBatch : Options → List Bool → List ℕ → List Values → BatchRead → List Values → Type 0
+ReadsBatch o used text old (batches.Rows rest rows) new = PutsRows o used text old rest.now rows new
+ReadsBatch o used text old batches.Nothing new = new ≡ old
+ReadsBatch o used text old batches.NoMemory new = Unit {0}
+
+-- one record was read, or a batch of rows behind the header
+abbrev pub TurnsTo : Options → List Bool → ℕ → Bool → ℕ → List ℕ → List Values → Result Step Fault → List Values → Type 0
+TurnsTo o used file head at text old (Ok step) new = StepsTo o used file head at text old (Ok step) new
+    ⊎ ((head ≡ false) × (step.head ≡ false) × IsUtf8 text × PutsRows o used text old step.rest.now step.rows new)
+TurnsTo o used file head at text old (Err fault) new = StepsTo o used file head at text old (Err fault) new

@@ -1,0 +1,271 @@
+//! Many records at once: first their fields, column by column, and then the columns' values.
+ghost use Rattle.std.specs.Prelude.{◌≡◌, ◌++◌, ◌∷◌, [], length, map, replicate, IfOk, OnOk, IsUtf8};
+ghost use Rattle.morsel_text.specs.RawFields.{shown};
+ghost use Rattle.morsel_text.specs.Pushes.{AreTexts, column_kinds};
+ghost use Rattle.morsel_text.specs.Batches.{spread, SplitsBatch, AreTextColumns, MakesColumn, MakesAll, appended, ReadsBatch};
+
+use crate::CsvOptions;
+use crate::cells::{Pushed, push_cell};
+use crate::ints::int_column;
+use crate::rows::is_empty;
+use crate::split::{RawField, Split, split_record};
+use morsel_frame::{ColType, Column, Fault};
+use std::alloc::Global;
+use std::marker::Model;
+
+/// How many records are split before their columns are made.
+const BATCH_ROWS: usize = 1024;
+
+/// The fields of some records that stand in one column.
+#[derive(Drop)]
+pub struct FieldColumn<'a> {
+    fields: Vec<RawField<'a>>,
+}
+
+impl<'a> Model for FieldColumn<'a> {
+    ghost use Rattle.std.specs.Prelude.{List};
+    ghost use Rattle.morsel_text.specs.declared.split.RawField.{RawField};
+
+    ghost Value = { List RawField };
+
+    ghost view = { λ column. column.fields.items };
+}
+
+impl<'a> FieldColumn<'a> {
+    /// No fields.
+    fn new(alloc: Global) -> FieldColumn<'a>
+        ensures { result ≡ [] }
+    {
+        FieldColumn {
+            fields: Vec::new(alloc),
+        }
+    }
+
+    /// Puts a field last.
+    fn push(&mut self, field: RawField<'a>) -> Result<(), Fault>
+        ensures { OnOk result (self.new ≡ self.old ++ field.entry ∷ []) }
+    {
+        self.fields.push(field)?;
+        Ok(())
+    }
+
+    /// The fields.
+    fn as_slice(&self) -> &[RawField<'a>]
+        ensures { result.now ≡ self.now }
+    {
+        self.fields.as_slice()
+    }
+}
+
+/// What came of making a column.
+pub enum Made {
+    /// The column of the fields' values.
+    Column(Column),
+    /// A field does not fit the column's type.
+    Bad,
+    /// There was no memory.
+    NoMemory,
+}
+
+/// What came of reading many records at once.
+pub enum BatchRead<'a> {
+    /// So many rows stand in the columns, and this stands behind their records.
+    Rows(&'a [u8], usize),
+    /// Nothing was changed: the first record is no row of fields, or a field does not fit its column.
+    Nothing,
+    /// There was no memory.
+    NoMemory,
+}
+
+/// No fields for each column.
+fn empty_batch<'a>(alloc: Global, width: usize) -> Result<Vec<FieldColumn<'a>>, Fault>
+    ensures { IfOk result (λ batch. batch.items ≡ replicate width []) }
+{
+    let mut batch = Vec::new(alloc);
+    for _ in 0..width {
+        batch.push(FieldColumn::new(alloc))?;
+    }
+    Ok(batch)
+}
+
+/// Puts each field last in its column.
+#[inline(always)]
+fn spread<'a>(fields: &[RawField<'a>], batch: &mut Vec<FieldColumn<'a>>) -> Result<(), Fault>
+    requires { length fields.now ≡ length batch.old.items }
+    ensures { OnOk result (batch.new.items ≡ spread batch.old.items fields.now) }
+{
+    for at in 0..fields.len() {
+        let column = &mut batch[at];
+        column.push(fields[at])?;
+    }
+    Ok(())
+}
+
+/// Splits records off the text, up to the first that has no bytes or does not give each column a field, and puts their
+/// fields into the columns. Says what stands behind them, and how many they are.
+fn split_rows<'a>(
+    text: &'a [u8],
+    options: &CsvOptions,
+    fields: &mut Vec<RawField<'a>>,
+    batch: &mut Vec<FieldColumn<'a>>,
+) -> Result<(&'a [u8], usize), Fault>
+    requires utf8 { IsUtf8 text.now }
+    requires texts { AreTextColumns batch.old.items }
+    ensures rows { IfOk result (λ found. SplitsBatch options.now text.now batch.old.items (found.0.now, found.1) batch.new.items) }
+    ensures texts { OnOk result (AreTextColumns batch.new.items) }
+{
+    let mut rest = text;
+    for row in 0..BATCH_ROWS {
+        if rest.is_empty() {
+            return Ok((rest, row));
+        }
+        match split_record(rest, options, fields) {
+            Split::Fields(behind) => {
+                if is_empty(fields.as_slice()) || fields.len() != batch.len() {
+                    return Ok((rest, row));
+                }
+                spread(fields.as_slice(), batch)?;
+                rest = behind;
+            }
+            Split::Comment(_) => return Ok((rest, row)),
+            Split::Broken => return Ok((rest, row)),
+            Split::NoMemory => return Err(Fault::OutOfMemory),
+        }
+    }
+    Ok((rest, BATCH_ROWS))
+}
+
+/// Makes the column of the fields' values, whatever its type.
+fn pushed_column(
+    alloc: Global,
+    kind: ColType,
+    fields: &[RawField<'_>],
+    options: &CsvOptions,
+    content: &mut Vec<u8>,
+) -> Made
+    requires { AreTexts (map shown fields.now) }
+    ensures { MakesColumn options.now kind fields.now result }
+{
+    let mut column = Column::new(alloc, kind);
+    for field in fields {
+        match push_cell(&mut column, *field, options, content) {
+            Pushed::Done => {}
+            Pushed::Bad => return Made::Bad,
+            Pushed::NoMemory => return Made::NoMemory,
+        }
+    }
+    Made::Column(column)
+}
+
+/// Makes the column of the fields' values.
+fn made_column(
+    alloc: Global,
+    kind: ColType,
+    fields: &[RawField<'_>],
+    options: &CsvOptions,
+    content: &mut Vec<u8>,
+) -> Made
+    requires { AreTexts (map shown fields.now) }
+    ensures { MakesColumn options.now kind fields.now result }
+{
+    match kind {
+        ColType::Int => int_column(alloc, fields, options, content),
+        kind => pushed_column(alloc, kind, fields, options, content),
+    }
+}
+
+/// What came of making columns.
+enum MadeAll {
+    /// A column of values for each that is used, and one without values for each other.
+    Columns(Vec<Column>),
+    /// A field does not fit its column's type.
+    Bad,
+    /// There was no memory.
+    NoMemory,
+}
+
+/// Makes a column of values for each that is used, and one without values for each other.
+fn made_columns(
+    alloc: Global,
+    columns: &[Column],
+    batch: &[FieldColumn<'_>],
+    used: &[bool],
+    options: &CsvOptions,
+    content: &mut Vec<u8>,
+) -> MadeAll
+    requires used { length used.now ≡ length columns.now }
+    requires batch { length batch.now ≡ length columns.now }
+    requires texts { AreTextColumns batch.now }
+    ensures { MakesAll options.now used.now (column_kinds columns.now) batch.now result }
+{
+    let mut made = Vec::new(alloc);
+    for at in 0..columns.len() {
+        let kind = columns[at].kind();
+        if !used[at] {
+            let Ok(()) = made.push(Column::new(alloc, kind)) else {
+                return MadeAll::NoMemory;
+            };
+            continue;
+        }
+        match made_column(alloc, kind, batch[at].as_slice(), options, content) {
+            Made::Column(column) => {
+                let Ok(()) = made.push(column) else {
+                    return MadeAll::NoMemory;
+                };
+            }
+            Made::Bad => return MadeAll::Bad,
+            Made::NoMemory => return MadeAll::NoMemory,
+        }
+    }
+    MadeAll::Columns(made)
+}
+
+/// Puts the values of each column that was made behind those of its column.
+fn append_columns(columns: &mut Vec<Column>, made: &[Column]) -> Result<(), Fault>
+    requires kinds { column_kinds made.now ≡ column_kinds columns.old.items }
+    requires width { length made.now ≡ length columns.old.items }
+    ensures { OnOk result (columns.new.items ≡ appended columns.old.items made.now) }
+{
+    for at in 0..made.len() {
+        let new = &made[at];
+        let column = &mut columns[at];
+        column.append_rows(new, 0, new.len())?;
+    }
+    Ok(())
+}
+
+/// Reads the rows of the first records of a text that is UTF-8 into the columns, as many as a batch has.
+pub fn read_batch<'a>(
+    alloc: Global,
+    text: &'a [u8],
+    columns: &mut Vec<Column>,
+    used: &[bool],
+    options: &CsvOptions,
+    fields: &mut Vec<RawField<'a>>,
+    content: &mut Vec<u8>,
+) -> BatchRead<'a>
+    requires utf8 { IsUtf8 text.now }
+    requires used { length used.now ≡ length columns.old.items }
+    ensures { ReadsBatch options.now used.now text.now columns.old.items result columns.new.items }
+{
+    let Ok(batch) = empty_batch(alloc, columns.len()) else {
+        return BatchRead::NoMemory;
+    };
+    let mut batch = batch;
+    let Ok((rest, rows)) = split_rows(text, options, fields, &mut batch) else {
+        return BatchRead::NoMemory;
+    };
+    if rows == 0 {
+        return BatchRead::Nothing;
+    }
+    match made_columns(alloc, columns, &batch, used, options, content) {
+        MadeAll::Columns(made) => {
+            let Ok(()) = append_columns(columns, &made) else {
+                return BatchRead::NoMemory;
+            };
+            BatchRead::Rows(rest, rows)
+        }
+        MadeAll::Bad => BatchRead::Nothing,
+        MadeAll::NoMemory => BatchRead::NoMemory,
+    }
+}
