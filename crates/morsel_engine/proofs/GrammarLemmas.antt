@@ -18,7 +18,7 @@ use Rattle.morsel_engine.specs.FileRows.{RowsOfFile, AreAllRows, EndAtFlaw, EndA
 use Rattle.morsel_engine.proofs.LimitLemmas.{limited-within, scan_of-plain}
 
 -- commas, double quotes and line feeds do not contradict each other
-standard_fits : AreOptions standard
+pub standard_fits : AreOptions standard
 standard_fits = record {
   separator_ascii = omega arith;
   separator_no_line_feed = λ is. cc;

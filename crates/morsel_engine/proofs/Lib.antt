@@ -6,3 +6,5 @@ pub mod WriteLemmas
 pub mod PlaceLemmas
 pub mod LimitLemmas
 pub mod GrammarLemmas
+pub mod EndLemmas
+pub mod CompleteLemmas

@@ -67,6 +67,11 @@ runs-not_opened old now q faults.OutOfMemory h = record {
   after_fault = inl (ap (λ (o : Outside). o.made) h);
   asks = (0, ap (λ (o : Outside). o.asked) h ∙ sym (append-nil old.asked));
   reads = reads_none old now (ap (λ (o : Outside). o.events) h);
+  keeps = record {
+    files = inl (ap (λ (o : Outside). o.sizes) h, ap (λ (o : Outside). o.held) h);
+    sinks = inl (ap (λ (o : Outside). o.sinks) h);
+    reads = inl (ap (λ (o : Outside). o.read_faults) h, ap (λ (o : Outside). o.failed) h);
+  };
   printed = ap (λ (o : Outside). o.printed) h;
   no_lower = let e = ap (λ (o : Outside). o.write_faults) h in omega arith;
 }
@@ -76,6 +81,7 @@ runs-not_opened old now q (faults.ReadFault file) (zeroth, count, rises, after) 
   after_fault = inl refl;
   asks = (1, refl);
   reads = reads_none old _ refl;
+  keeps = record { files = inl (refl, refl); sinks = inl refl; reads = inr (rises, refl) };
   printed = refl;
   no_lower = omega arith;
 })
@@ -92,6 +98,7 @@ runs-not_made old mid now q file bytes faults.OutOfMemory o h = subst (Runs old 
   after_fault = inl refl;
   asks = (1, refl);
   reads = reads_none old _ refl;
+  keeps = record { files = inr (record { bytes = bytes; sizes = refl; held = refl }); sinks = inl refl; reads = inl (refl, refl) };
   printed = refl;
   no_lower = omega arith;
 })
@@ -109,6 +116,7 @@ runs-not_made old mid now q file bytes faults.WriteFault o (count, rises, after)
       after_fault = inl refl;
       asks = (2, asked_both old.asked (Open q.file) (Make q.out));
       reads = reads_none old _ refl;
+      keeps = record { files = inr (record { bytes = bytes; sizes = refl; held = refl }); sinks = inl refl; reads = inl (refl, refl) };
       printed = refl;
       no_lower = rose.no_lower;
     })
@@ -143,6 +151,7 @@ runs-not_read old mid now q bytes faults.OutOfMemory s h = subst (Runs old q (Er
   after_fault = inr (refl, [], is_front-nil (with_last old.held bytes) (length old.sizes) q.schema, refl);
   asks = (2, refl);
   reads = reads_none old _ refl;
+  keeps = record { files = inr (record { bytes = bytes; sizes = refl; held = refl }); sinks = inr refl; reads = inl (refl, refl) };
   printed = refl;
   no_lower = omega arith;
 })
@@ -159,6 +168,7 @@ runs-not_read old mid now q bytes (faults.ReadFault file) s (zeroth, count, rise
       after_fault = inr (refl, [], is_front-nil (with_last old.held bytes) (length old.sizes) q.schema, refl);
       asks = (2, refl);
       reads = record { events = r.0; gained = r.1; once = r.2 };
+      keeps = record { files = inr (record { bytes = bytes; sizes = refl; held = refl }); sinks = inr refl; reads = inr (rose, refl) };
       printed = refl;
       no_lower = omega arith;
     })
@@ -184,6 +194,7 @@ runs-refused old now q bytes text fault f h = subst (Runs old q (Err fault)) (sy
   after_fault = inr (refl, [], is_front-nil (with_last old.held bytes) (length old.sizes) q.schema, refl);
   asks = (2, refl);
   reads = record { events = r.0; gained = r.1; once = r.2 };
+  keeps = record { files = inr (record { bytes = bytes; sizes = refl; held = refl }); sinks = inr refl; reads = inl (refl, refl) };
   printed = refl;
   no_lower = omega arith;
 })
@@ -229,6 +240,7 @@ runs-stopped old mid now q bytes text table n fault f s w cause =
       after_fault = inr (refl, take n (ndjson (names_of q.schema) (scan_of q.schema text).rows), is_front-text (with_last old.held bytes) (length old.sizes) q.schema text n f.is, ap (with_sink old.made q.out) (sym front));
       asks = (2, refl);
       reads = record { events = r.0; gained = r.1; once = r.2 };
+      keeps = record { files = inr (record { bytes = bytes; sizes = refl; held = refl }); sinks = inr refl; reads = inl (refl, refl) };
       printed = refl;
       no_lower = subst (λ (m : Outside). m.write_faults ≤ w.count) f.after w.no_lower;
     })
@@ -253,6 +265,9 @@ runs-whole old mid now q bytes text table f s w =
         rows = table.rows;
         of_file = has_rows-text (with_last old.held bytes) (length old.sizes) q.schema text table.rows f.is s.rows;
         counted = refl;
+        opened = record { bytes = bytes; sizes = refl; held = refl };
+        one_sink = refl;
+        read_well = (refl, refl);
         made = ap (λ fields. with_sink old.made q.out (ndjson (names_of fields) table.rows)) s.schema;
         asked = refl;
         events = ReadAt (length old.sizes) 0 (length bytes) ∷ w.added;
@@ -264,6 +279,7 @@ runs-whole old mid now q bytes text table f s w =
       after_fault = tt;
       asks = (2, refl);
       reads = record { events = r.0; gained = r.1; once = r.2 };
+      keeps = record { files = inr (record { bytes = bytes; sizes = refl; held = refl }); sinks = inr refl; reads = inl (refl, refl) };
       printed = refl;
       no_lower = subst (λ (m : Outside). m.write_faults ≤ w.count) f.after w.no_lower;
     })

@@ -4,3 +4,5 @@ pub mod Stages
 pub mod Run
 pub mod Limit
 pub mod FileRows
+pub mod Complete
+pub mod Ends

@@ -4,7 +4,7 @@ use Rattle.morsel_meaning.specs.declared.fault.Fault.{Fault}
 use Rattle.morsel_meaning.specs.declared.fault.Fault.TheVariants.{OutOfMemory, ReadFault, WriteFault, Malformed}
 use Rattle.morsel_meaning.specs.declared.value.Field.{Field}
 use Rattle.morsel_meaning.specs.Values.{Row, names_of}
-use Rattle.morsel_meaning.specs.Outside.{Outside, Event, Asked, Open, Make, with_sink}
+use Rattle.morsel_meaning.specs.Outside.{Outside, Event, Asked, Open, Make, with_last, with_sink}
 use Rattle.morsel_meaning.specs.Calls.{Rises}
 use Rattle.morsel_meaning.specs.Asks.{Gains, times_asked}
 use Rattle.morsel_text.specs.Ndjson.{ndjson}
@@ -43,11 +43,24 @@ AsksAtMostOnce file size events = (source byte : ℕ) → times_asked source byt
 abbrev pub AsksEachByte : ℕ → ℕ → List Event → Type 0
 AsksEachByte file size events = (byte : ℕ) → byte < size → times_asked file byte events ≡ 1
 
--- the sink has the text of the file's rows, and nothing else was made or printed
+-- one file more is open, with the bytes that are held of it
+pub record OpensOne (old new : Outside) : Type 0 where
+  pub bytes : List ℕ
+  pub sizes : new.sizes ≡ old.sizes ++ length bytes ∷ []
+  pub held : new.held ≡ with_last old.held bytes
+
+-- no read failed
+abbrev pub ReadsWell : Outside → Outside → Type 0
+ReadsWell old new = (new.read_faults ≡ old.read_faults) × (new.failed ≡ old.failed)
+
+-- the file was opened, the sink has the text of its rows, and nothing else was made or printed
 pub record Answers (old : Outside) (q : Query) (count : ℕ) (new : Outside) : Type 0 where
   pub rows : List Row
   pub of_file : HasRows new.held (length old.sizes) q.schema rows
   pub counted : count ≡ length rows
+  pub opened : OpensOne old new
+  pub one_sink : new.sinks ≡ old.sinks + 1
+  pub read_well : ReadsWell old new
   pub made : new.made ≡ with_sink old.made q.out (ndjson (names_of q.schema) rows)
   pub asked : new.asked ≡ old.asked ++ names_asked q
   pub events : List Event
@@ -78,6 +91,12 @@ pub record Reads (old : Outside) (new : Outside) : Type 0 where
   pub gained : Gains old.events events new.events
   pub once : AsksAtMostOnce (length old.sizes) (get_or new.sizes (length old.sizes) 0) events
 
+-- what else a run may change: one file more is open, one sink more was made, a read of the file failed
+pub record Keeps (old new : Outside) : Type 0 where
+  pub files : ((new.sizes ≡ old.sizes) × (new.held ≡ old.held)) ⊎ OpensOne old new
+  pub sinks : (new.sinks ≡ old.sinks) ⊎ (new.sinks ≡ old.sinks + 1)
+  pub reads : ReadsWell old new ⊎ (Rises old.read_faults new.read_faults × (new.failed ≡ length old.sizes))
+
 abbrev pub Answered : Outside → Query → Result ℕ Fault → Outside → Type 0
 Answered old q (Ok count) new = Answers old q count new
 Answered old q (Err fault) new = Unit {0}
@@ -97,5 +116,6 @@ pub record Runs (old : Outside) (q : Query) (result : Result ℕ Fault) (new : O
   pub after_fault : AfterFault old q result new
   pub asks : AsksSome old q new
   pub reads : Reads old new
+  pub keeps : Keeps old new
   pub printed : new.printed ≡ old.printed
   pub no_lower : old.write_faults ≤ new.write_faults

@@ -1,6 +1,7 @@
 //! A scan of one CSV file into an NDJSON file.
-ghost use Rattle.std.specs.Prelude.{◌≡◌};
+ghost use Rattle.std.specs.Prelude.{◌≡◌, length, IsOkUnless};
 ghost use Rattle.morsel_engine.specs.Run.{Runs};
+ghost use Rattle.morsel_engine.specs.Complete.{IsValid, NoneRises};
 
 use crate::outside::{make_sink, open_source, read_whole};
 use crate::scan::scan_text;
@@ -15,6 +16,23 @@ use std::alloc::Global;
 /// fields than the schema has columns, not UTF-8, with a field that does not fit its column, or behind 4,294,967,295
 /// rows; or place 0 of a file that begins as gzip or zstd files do.
 pub fn run_scan<H: Io>(
+    alloc: Global,
+    io: &mut H,
+    file: &str,
+    schema: &Schema,
+    out: &str,
+) -> Result<u64, Fault>
+    ensures runs { Runs (H.seen io.old) (record { file = file.now; schema = schema.now; out = out.now }) result (H.seen io.new) }
+
+    // A valid file gives its rows, unless a count of faults rose or memory was short.
+    ensures complete { IsValid (H.seen io.new).held (length (H.seen io.old).sizes) schema.now
+        → NoneRises (H.seen io.old) (H.seen io.new) → IsOkUnless result Fault.OutOfMemory }
+{
+    run_stages(alloc, io, file, schema, out)
+}
+
+/// Opens the source, makes the sink, reads the file and writes its rows, each where the one before went well.
+fn run_stages<H: Io>(
     alloc: Global,
     io: &mut H,
     file: &str,

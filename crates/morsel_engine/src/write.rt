@@ -11,7 +11,7 @@ use morsel_text::write_ndjson;
 use std::alloc::Global;
 
 /// How many rows are written at once.
-const PART_ROWS: usize = 4096;
+const PART_ROWS: usize = 1024;
 
 /// Makes `part` the text of some rows of the frame, from row `row` on.
 fn text_of(

@@ -11,9 +11,9 @@ use Rattle.morsel_meaning.specs.Outside.{Outside, with_last}
 use Rattle.morsel_meaning.specs.Calls.{Rises}
 use Rattle.morsel_text.specs.Ndjson.{ndjson}
 use Rattle.morsel_engine.specs.Scan.{Scan, scan_of}
-use Rattle.morsel_engine.specs.Run.{Query, Runs, Answers, HasCause, MadeSome, AsksSome, Reads, HasRows, IsFrontOfText}
+use Rattle.morsel_engine.specs.Run.{Query, OpensOne, Runs, Answers, HasCause, MadeSome, AsksSome, Reads, Keeps, HasRows, IsFrontOfText}
 use Rattle.morsel_prog.specs.Words.{Command, Scan as Scans}
-use Rattle.morsel_prog.specs.Program.{query_of, RunsWords, ReportsFault, ReportsCount, Reports, RunsAndReports, AnswersWords, HasCauseIn, TellsFault, CausesWords, LeavesAfterFault, AsksNames, ReadsOnce}
+use Rattle.morsel_prog.specs.Program.{query_of, RunsWords, ReportsFault, ReportsCount, Reports, RunsAndReports, AnswersWords, HasCauseIn, TellsFault, CausesWords, LeavesAfterFault, AsksNames, ReadsOnce, KeepsRest}
 
 -- a report changes what was printed and the count of write faults alone
 pub record IsReported (ran new : Outside) : Type 0 where
@@ -47,6 +47,9 @@ answers-printed old ran q count printed a = record {
   rows = a.rows;
   of_file = a.of_file;
   counted = a.counted;
+  opened = record { bytes = a.opened.bytes; sizes = a.opened.sizes; held = a.opened.held };
+  one_sink = a.one_sink;
+  read_well = a.read_well;
   made = a.made;
   asked = a.asked;
   events = a.events;
@@ -80,6 +83,26 @@ reads_once old new (Some (Scans file schema out)) status (ran, answer, runs, rep
 reads_once old new None status (ran, Ok count, runs, reports) = absurd runs
 reads_once old new None status (ran, Err fault, runs, reports) =
     let r = reported ran new (Err fault) status reports in ap (λ (o : Outside). o.events) r.after ∙ ap (λ (o : Outside). o.events) runs.0
+
+files_kept : (old ran : Outside) (printed : Option (List (List ℕ))) (count : ℕ) → ((ran.sizes ≡ old.sizes) × (ran.held ≡ old.held)) ⊎ OpensOne old ran
+    → ((ran.sizes ≡ old.sizes) × (ran.held ≡ old.held)) ⊎ OpensOne old (record ran { printed = printed; write_faults = count })
+files_kept old ran printed count (inl same) = inl same
+files_kept old ran printed count (inr one) = inr (record { bytes = one.bytes; sizes = one.sizes; held = one.held })
+
+-- and what else changed
+pub keeps_rest : (old new : Outside) (command : Option Command) (status : ℕ) → RunsAndReports old command status new → KeepsRest old command new
+keeps_rest old new (Some (Scans file schema out)) status (ran, answer, runs, reports) =
+    let r = reported ran new answer status reports in
+    subst (Keeps old) (sym r.after) (record { files = files_kept old ran r.printed r.count runs.keeps.files; sinks = runs.keeps.sinks; reads = runs.keeps.reads })
+keeps_rest old new None status (ran, Ok count, runs, reports) = absurd runs
+keeps_rest old new None status (ran, Err fault, runs, reports) =
+    let r = reported ran new (Err fault) status reports in
+    let same = runs.0 in (
+      ap (λ (o : Outside). o.sizes) r.after ∙ ap (λ (o : Outside). o.sizes) same,
+      ap (λ (o : Outside). o.held) r.after ∙ ap (λ (o : Outside). o.held) same,
+      ap (λ (o : Outside). o.sinks) r.after ∙ ap (λ (o : Outside). o.sinks) same,
+      (ap (λ (o : Outside). o.read_faults) r.after ∙ ap (λ (o : Outside). o.read_faults) same, ap (λ (o : Outside). o.failed) r.after ∙ ap (λ (o : Outside). o.failed) same),
+    )
 
 -- the text of all rows is a front of itself
 front_whole : (held : Option (List (List ℕ))) (file : ℕ) (schema : List Field) (rows : List Row) → HasRows held file schema rows → IsFrontOfText held file schema (ndjson (names_of schema) rows)

@@ -3,3 +3,4 @@ pub mod Words
 pub mod Results
 pub mod Program
 pub mod RealIo
+pub mod Complete

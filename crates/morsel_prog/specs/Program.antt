@@ -6,7 +6,7 @@ use Rattle.morsel_meaning.specs.declared.Field.{Field}
 use Rattle.morsel_meaning.specs.Faults.{fault_line, fault_status}
 use Rattle.morsel_meaning.specs.Outside.{Outside, with_last}
 use Rattle.morsel_meaning.specs.Calls.{Rises}
-use Rattle.morsel_engine.specs.Run.{Query, Runs, Answers, HasCause, MadeSome, AsksSome, Reads}
+use Rattle.morsel_engine.specs.Run.{Query, Runs, Answers, HasCause, MadeSome, AsksSome, Reads, ReadsWell, Keeps}
 use Rattle.morsel_prog.specs.Words.{Command, Scan}
 
 abbrev pub query_of : List ℕ → List Field → List ℕ → Query
@@ -82,3 +82,8 @@ AsksNames old None new = new.asked ≡ old.asked
 abbrev pub ReadsOnce : Outside → Option Command → Outside → Type 0
 ReadsOnce old (Some (Scan file schema out)) new = Reads old new
 ReadsOnce old None new = new.events ≡ old.events
+
+-- whatever the status, one file more is open at most, one sink more was made, and a read of the file failed; for words that are no command none
+abbrev pub KeepsRest : Outside → Option Command → Outside → Type 0
+KeepsRest old (Some (Scan file schema out)) new = Keeps old new
+KeepsRest old None new = (new.sizes ≡ old.sizes) × (new.held ≡ old.held) × (new.sinks ≡ old.sinks) × ReadsWell old new

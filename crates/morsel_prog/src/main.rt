@@ -1,9 +1,10 @@
 //! `morsel`: a streaming query engine whose answers are proved.
 //!
 //! `words` reads the command line, `program` has the two main calls, from the words to the status, `report` tells an
-//! answer, and `real_io` is the edge to the files of the system.
+//! answer, `help` has the texts of `--help` and `--version`, and `real_io` is the edge to the files of the system.
 #![tactic(auto)]
 
+mod help;
 mod program;
 mod real_io;
 mod report;
@@ -11,33 +12,34 @@ mod report;
 mod tests;
 mod words;
 
+use help::{HELP, VERSION};
 use morsel_frame::{Fault, OpenGate};
 use program::morsel_main;
 use real_io::RealIo;
-use std::env;
+use std::fs::File;
 use std::io::ErrorKind;
+use std::os::fd::IntoRawFd;
 use std::process::ExitCode;
 use std::rt::{Env, Files};
 use std::sync::Wait;
 use std::thread::Threads;
+use std::{env, io};
 
-const HELP: &str = "\
-morsel: a streaming query engine whose answers are proved
-
-usage:
-  morsel scan FILE SCHEMA OUT   writes the rows of the CSV file FILE as NDJSON into OUT, and prints their number
-  morsel --help                 prints this
-  morsel --version              prints the version
-
-FILE begins with a header, which is skipped. SCHEMA is name:type joined by commas, type one of int, bool, text.
-
-example:
-  morsel scan a.csv id:int,name:text out.ndjson
-
-status: 0, or 10 + N behind a line `error N: ..`
-";
-
-const VERSION: &str = "morsel 0.1.0\n";
+/// Takes the descriptors of standard input, output and error where they are closed, so that no file which the program
+/// opens gets one of them, and no line lands in a data file.
+///
+/// What takes them can't be written, so a line for a closed output fails. It stays open until the program ends.
+fn take_closed_streams<R: Files>(rt: &R) -> io::Result<()>
+where
+    R::File: IntoRawFd,
+{
+    for _ in 0..3 {
+        if File::open(rt, "/dev/null")?.into_raw_fd() > 2 {
+            return Ok(());
+        }
+    }
+    Ok(())
+}
 
 /// The words behind the program's name: none where one of them is not UTF-8.
 fn words_of<R: Env + AllocGlobal>(rt: &R) -> Result<Vec<String>, Fault> {
@@ -61,7 +63,14 @@ fn show(rt: &impl Print, text: &str) -> u8 {
     }
 }
 
-fn run<R: Files + Env + Print + Eprint + AllocGlobal + Threads + Wait + Sync>(rt: &R) -> u8 {
+fn run<R: Files + Env + Print + Eprint + AllocGlobal + Threads + Wait + Sync>(rt: &R) -> u8
+where
+    R::File: IntoRawFd,
+{
+    if let Err(error) = take_closed_streams(rt) {
+        let _ = eprintln!(rt; "/dev/null: {error}");
+        return report::status_of(&Fault::WriteFault);
+    }
     let Ok(words) = words_of(rt) else {
         return report::status_of(&Fault::OutOfMemory);
     };
@@ -76,6 +85,8 @@ fn run<R: Files + Env + Print + Eprint + AllocGlobal + Threads + Wait + Sync>(rt
     let status = morsel_main(rt, rt.alloc(), &words, &mut io, &OpenGate);
     if let Some(reason) = io.reason() {
         let _ = rt.eprintln(reason);
+    } else if status == report::status_of(&Fault::Usage) {
+        let _ = rt.eprintln("morsel --help tells the commands");
     }
     status
 }

@@ -2,7 +2,9 @@
 ghost use Rattle.std.specs.Prelude.{◌≡◌, map};
 ghost use Rattle.std.specs.String.{string_bytes};
 ghost use Rattle.morsel_prog.specs.Words.{command_of};
-ghost use Rattle.morsel_prog.specs.Program.{RunsWords, RunsAndReports, AnswersWords, CausesWords, LeavesAfterFault, AsksNames, ReadsOnce};
+ghost use Rattle.morsel_engine.specs.Complete.{NoneRises};
+ghost use Rattle.morsel_prog.specs.Program.{RunsWords, RunsAndReports, AnswersWords, CausesWords, LeavesAfterFault, AsksNames, ReadsOnce, KeepsRest};
+ghost use Rattle.morsel_prog.specs.Complete.{IsValidCommand, IsDone};
 
 use crate::report::report;
 use crate::words::command;
@@ -41,6 +43,9 @@ pub fn local_main<H: Io>(alloc: Global, words: &[String], io: &mut H) -> u8
     // Every other status tells a fault whose cause holds; `Usage` comes for words that are no command, and for no others.
     ensures caused { (result ≡ 0 → ⊥) → CausesWords (H.seen io.old) (command_of (map string_bytes words.now)) result (H.seen io.new) }
 
+    // A command over a valid file ends with status 0, unless a count of faults rose or memory was short.
+    ensures complete { IsValidCommand (H.seen io.old) (command_of (map string_bytes words.now)) (H.seen io.new) → NoneRises (H.seen io.old) (H.seen io.new) → IsDone result }
+
     // No sink was made, or one whose text is a front of the text of the rows before the first refused record.
     ensures after_fault { (result ≡ 0 → ⊥) → LeavesAfterFault (H.seen io.old) (command_of (map string_bytes words.now)) (H.seen io.new) }
 
@@ -49,6 +54,9 @@ pub fn local_main<H: Io>(alloc: Global, words: &[String], io: &mut H) -> u8
 
     // No byte of the file is asked twice, and none past its size.
     ensures reads { ReadsOnce (H.seen io.old) (command_of (map string_bytes words.now)) (H.seen io.new) }
+
+    // One file more is open, one sink more was made, a read of the file failed: nothing else changed but what the other clauses name.
+    ensures keeps { KeepsRest (H.seen io.old) (command_of (map string_bytes words.now)) (H.seen io.new) }
 
     // The run comes first, whole, and then its report: where only the printing fails, the text is whole.
     ensures reported { RunsAndReports (H.seen io.old) (command_of (map string_bytes words.now)) result (H.seen io.new) }
@@ -66,9 +74,11 @@ pub fn morsel_main<R: Threads + Wait + Sync, H: Io, G: Gate + Sync>(
 ) -> u8
     ensures answers { result ≡ 0 → AnswersWords (H.seen io.old) (command_of (map string_bytes words.now)) (H.seen io.new) }
     ensures caused { (result ≡ 0 → ⊥) → CausesWords (H.seen io.old) (command_of (map string_bytes words.now)) result (H.seen io.new) }
+    ensures complete { IsValidCommand (H.seen io.old) (command_of (map string_bytes words.now)) (H.seen io.new) → NoneRises (H.seen io.old) (H.seen io.new) → IsDone result }
     ensures after_fault { (result ≡ 0 → ⊥) → LeavesAfterFault (H.seen io.old) (command_of (map string_bytes words.now)) (H.seen io.new) }
     ensures asks { AsksNames (H.seen io.old) (command_of (map string_bytes words.now)) (H.seen io.new) }
     ensures reads { ReadsOnce (H.seen io.old) (command_of (map string_bytes words.now)) (H.seen io.new) }
+    ensures keeps { KeepsRest (H.seen io.old) (command_of (map string_bytes words.now)) (H.seen io.new) }
     ensures reported { RunsAndReports (H.seen io.old) (command_of (map string_bytes words.now)) result (H.seen io.new) }
 {
     let _ = rt;

@@ -83,7 +83,7 @@ impl<'r, R: Files + Print> RealIo<'r, R> {
     }
 
     /// What the system said of the last failure, behind the name of the file; `None` where there was none, or no
-    /// memory for its words.
+    /// memory for its words. A line that can't be printed leaves what was said before it, since that is the first cause.
     pub fn reason(&self) -> Option<&str> {
         match &self.reason {
             Some(reason) => Some(reason.as_str()),
@@ -146,6 +146,16 @@ impl<'r, R: Files + Print> RealIo<'r, R> {
         ensures untold { (self.old.made ≡ None) × (self.old.events ≡ None) }
     {
         write_last(self.alloc, self.sinks.as_mut_slice(), piece)
+    }
+
+    /// What was said before, or else what the system says of a line that could not be printed.
+    fn reason_of_line(&mut self, error: &io::Error) -> Option<String>
+        ensures { self.new ≡ self.old }
+    {
+        match self.reason.take() {
+            Some(earlier) => Some(earlier),
+            None => words(self.alloc, "standard output", error),
+        }
     }
 
     fn count_read_fault(&mut self, file: usize, reason: Option<String>)
@@ -229,7 +239,7 @@ impl<'r, R: Files + Print> Io for RealIo<'r, R> {
         let Err(error) = self.rt.println(line) else {
             return Ok(());
         };
-        let reason = words(self.alloc, "standard output", &error);
+        let reason = self.reason_of_line(&error);
         self.count_write_fault(reason);
         Err(IoErr::Failed)
     }
@@ -277,7 +287,16 @@ fn fill<R: Files>(rt: &R, name: &str, at: u64, into: &mut [u8]) -> io::Result<()
     file.read_exact(into)
 }
 
-/// Makes the file empty, and refuses one of the sources under whatever name before it is cut.
+/// Whether printed lines go to this file.
+fn is_standard_output<R: Files>(rt: &R, identity: Identity) -> bool {
+    match fs::metadata(rt, "/dev/stdout") {
+        Ok(metadata) => identity_of(&metadata) == identity,
+        Err(_) => false,
+    }
+}
+
+/// Makes the file empty. One of the sources under whatever name, or the file that lines are printed to, is refused before
+/// it is cut.
 fn create<R: Files>(rt: &R, name: &str, sources: &[Source]) -> io::Result<R::File> {
     let file = OpenOptions::new().write(true).create(true).open(rt, name)?;
     let metadata = file.metadata()?;
@@ -286,6 +305,9 @@ fn create<R: Files>(rt: &R, name: &str, sources: &[Source]) -> io::Result<R::Fil
         return Err(io::Error::new(ErrorKind::InvalidInput, "the sink is a source"));
     }
     if metadata.is_file() {
+        if is_standard_output(rt, identity) {
+            return Err(io::Error::new(ErrorKind::InvalidInput, "the sink is standard output"));
+        }
         file.set_len(0)?;
     }
     Ok(file)
@@ -315,6 +337,7 @@ fn words(alloc: Global, name: &str, error: &io::Error) -> Option<String> {
 #[cfg(test)]
 mod tests {
     use super::*;
+    use std::os::unix::fs::symlink;
     use std::test::Fail;
     use std::{env, process};
 
@@ -375,6 +398,22 @@ mod tests {
         assert_eq!(rt; (file.0, io.size(file)), (0, 5));
         assert_eq!(rt; io.read_range(file, 0, &mut [0; 5]), Err(IoErr::Failed));
         assert_eq!(rt; (io.read_faults, io.write_faults, io.failed), (3, 1, 0));
+        fs::remove_file(&rt, link.as_str())?;
+        fs::remove_file(&rt, from.as_str())?;
+        Ok(())
+    }
+
+    #[test]
+    fn a_source_under_another_name_is_no_sink(rt: HostRuntime) -> Result<(), Fail> {
+        let (from, link) = (path(&rt, "source.csv")?, path(&rt, "symbolic.csv")?);
+        fs::write(&rt, from.as_str(), "id\n1\n")?;
+        symlink(&rt, from.as_str(), link.as_str())?;
+        let mut io = RealIo::new(&rt, rt.alloc());
+        io.open_source(link.as_str())?;
+        assert_eq!(rt; io.make_sink(link.as_str()), Err(IoErr::Failed));
+        assert_eq!(rt; io.make_sink(from.as_str()), Err(IoErr::Failed));
+        assert_eq!(rt; (io.write_faults, io.sinks.len()), (2, 0));
+        assert_eq!(rt; fs::read_to_string(&rt, from.as_str())?.as_str(), "id\n1\n");
         fs::remove_file(&rt, link.as_str())?;
         fs::remove_file(&rt, from.as_str())?;
         Ok(())

@@ -1,5 +1,7 @@
 //! The main calls over files in memory, against rows that were worked out by hand.
+mod faults;
 mod hostile;
+mod sure;
 
 use crate::program::{local_main, morsel_main};
 use morsel_frame::{Fault, MemIo, Name, OpenGate, SureMemIo};
