@@ -1,0 +1,6 @@
+use Rattle.std.proofs.Common.{◌≡◌}
+use Rattle.morsel_meaning.specs.declared.ColType.TheVariants as types
+use Rattle.morsel_bench.proofs.table.text_column.Given as goal
+
+abbrev pub invariant-loop : goal.invariant-loop
+invariant-loop l = l.column.kind ≡ types.Text

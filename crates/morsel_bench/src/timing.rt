@@ -1,0 +1,70 @@
+//! How long a part takes, and one line for each.
+use morsel_frame::Fault;
+use std::rt::Clock;
+use std::time::Instant;
+
+/// Whether lines have times, and how often each part is run. The time is the least of all runs.
+#[derive(Clone, Copy, Debug)]
+pub struct Timing {
+    pub timed: bool,
+    pub runs: u32,
+}
+
+/// What a part gave, and the nanoseconds of its fastest run.
+#[derive(Clone, Copy, Debug)]
+pub struct Best {
+    pub count: usize,
+    pub nanos: u64,
+}
+
+impl Best {
+    /// No run yet.
+    pub fn new() -> Best {
+        Best {
+            count: 0,
+            nanos: u64::MAX,
+        }
+    }
+
+    /// Takes in a run that gave a count and has just ended.
+    pub fn take_in(&mut self, rt: &impl Clock, begun: Instant, count: usize) -> Result<(), Fault> {
+        let Ok(passed) = begun.elapsed(rt) else {
+            return Err(Fault::WriteFault);
+        };
+        let nanos = u64::try_from(passed.as_nanos()).unwrap_or(u64::MAX);
+        self.count = count;
+        self.nanos = self.nanos.min(nanos);
+        Ok(())
+    }
+}
+
+/// Now.
+pub fn now(rt: &impl Clock) -> Result<Instant, Fault> {
+    match Instant::now(rt) {
+        Ok(now) => Ok(now),
+        Err(_) => Err(Fault::WriteFault),
+    }
+}
+
+/// Prints what a part gave, and the time of each of so many items where lines have times.
+pub fn tell(
+    rt: &impl Print,
+    timing: Timing,
+    name: &str,
+    best: Best,
+    items: usize,
+) -> Result<(), Fault> {
+    let count = best.count;
+    let told = if timing.timed {
+        let picos = best.nanos.saturating_mul(1000) / (items as u64).max(1);
+        let whole = picos / 1000;
+        let part = picos % 1000;
+        println!(rt; "{name}: {count}, {whole}.{part:03} ns each")
+    } else {
+        println!(rt; "{name}: {count}")
+    };
+    match told {
+        Ok(()) => Ok(()),
+        Err(_) => Err(Fault::WriteFault),
+    }
+}

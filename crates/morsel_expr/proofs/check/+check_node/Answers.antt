@@ -1,0 +1,5 @@
+use Rattle.std.proofs.Common.{refl}
+use Rattle.morsel_expr.proofs.check.+check_node.Goals as goal
+
+pub returns-in-Cmp : goal.returns-in-Cmp
+returns-in-Cmp t c = rw c.in-Cmp.is c.check_sides.ensures

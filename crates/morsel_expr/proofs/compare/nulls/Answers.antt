@@ -1,0 +1,8 @@
+use Rattle.std.proofs.Common.{◌≡◌, not, map, ap, sym, ◌∙◌}
+use Rattle.std.proofs.lemmas.Result.{IfOk-equal}
+use Rattle.morsel_expr.specs.Truths.{certain}
+use Rattle.morsel_expr.proofs.CompareLemmas.{nulls-marks}
+use Rattle.morsel_expr.proofs.compare.nulls.Goals as goal
+
+pub returns-clause-ok : goal.returns-clause-ok
+returns-clause-ok c = rw (← nulls-marks c.args.column.now.values, c.marks.ensures) c.unmarked.ensures.ok
