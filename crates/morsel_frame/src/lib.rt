@@ -34,6 +34,3 @@ pub use open_gate::OpenGate;
 pub use schema::Schema;
 pub use sure_mem_io::{SureMemIo, sure_never_fails};
 pub use texts::Texts;
-
-#[cfg(test)]
-mod tests;

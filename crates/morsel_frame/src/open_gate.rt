@@ -10,14 +10,3 @@ impl Gate for OpenGate {
 
     fn left(&self, _task: TaskNo) {}
 }
-
-#[cfg(test)]
-mod tests {
-    use super::*;
-
-    #[test]
-    fn every_poll_passes() {
-        OpenGate.enter(TaskNo(1));
-        OpenGate.left(TaskNo(1));
-    }
-}

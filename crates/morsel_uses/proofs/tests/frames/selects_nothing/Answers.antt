@@ -1,5 +1,5 @@
 use Rattle.std.specs.List.{IsDistinct}
-use Rattle.morsel_frame.proofs.tests.selects_nothing.Goals as goal
+use Rattle.morsel_uses.proofs.tests.frames.selects_nothing.Goals as goal
 
 pub select-requires-clause-once : goal.select-requires-clause-once
 unfolding IsDistinct

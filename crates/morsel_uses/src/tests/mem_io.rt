@@ -1,0 +1,209 @@
+//! The outside in memory whose numbered calls fail.
+use super::told::{has_asked, has_event, has_line, has_opened, has_sink};
+use morsel_frame::{AskedFor, Fault, FileNo, Io, IoErr, IoEvent, MemIo, Memory, Name};
+use std::alloc::Global;
+use std::test::Fail;
+
+/// The text of the file that is opened.
+const TEXT: &str = "id,name\n1,ann\n2,\n";
+
+fn files(alloc: Global) -> Result<Vec<(Name, Vec<u8>)>, Fault> {
+    let mut files = Vec::new(alloc);
+    for (name, text) in [("a.csv", TEXT), ("a.csv", "later")] {
+        files.push((
+            Name::new(alloc, name)?,
+            Vec::from_slice(alloc, text.as_bytes())?,
+        ))?;
+    }
+    Ok(files)
+}
+
+/// An outside of the files, of which the calls of these numbers fail.
+fn outside(alloc: Global, fail_reads: &[u64], fail_writes: &[(u64, u64)]) -> Result<MemIo, Fault> {
+    let files = files(alloc)?;
+    let fail_reads = Vec::from_slice(alloc, fail_reads)?;
+    let fail_writes = Vec::from_slice(alloc, fail_writes)?;
+    Ok(MemIo::new(alloc, files, fail_reads, fail_writes))
+}
+
+/// The number and the size of the file that is opened.
+fn opens(io: &mut MemIo) -> Result<(usize, u64), IoErr> {
+    let file = io.open_source("a.csv")?;
+    Ok((file.0, io.size(file)))
+}
+
+fn open_fails(io: &mut MemIo, name: &str) -> bool {
+    io.open_source(name) == Err(IoErr::Failed)
+}
+
+/// Fills `into` from place `at` of the first file on, and answers whether it reaches so far.
+fn read(io: &mut MemIo, at: u64, into: &mut [u8]) -> Result<bool, IoErr> {
+    let file = FileNo(0);
+    if io.memory().opened() == 0 {
+        return Ok(false);
+    }
+    let size = io.size(file);
+    if at > size || into.len() as u64 > size - at {
+        return Ok(false);
+    }
+    io.read_range(file, at, into)?;
+    Ok(true)
+}
+
+/// The four bytes from place 3 on.
+fn four_bytes(io: &mut MemIo) -> Result<[u8; 4], IoErr> {
+    let mut into = [0; 4];
+    let _ = read(io, 3, &mut into)?;
+    Ok(into)
+}
+
+/// The first two bytes.
+fn two_bytes(io: &mut MemIo) -> Result<[u8; 2], IoErr> {
+    let mut into = [0; 2];
+    let _ = read(io, 0, &mut into)?;
+    Ok(into)
+}
+
+/// Whether so many reads and writes failed.
+fn has_failed(io: &MemIo, reads: u64, writes: u64) -> bool {
+    io.read_faults() == reads && io.write_faults() == writes
+}
+
+fn reads_where_asked(io: &mut MemIo) -> Result<bool, IoErr> {
+    if opens(io)? != (0, 17) || four_bytes(io)? != *b"name" {
+        return Ok(false);
+    }
+    Ok(has_opened(io.memory(), TEXT.as_bytes()) && has_failed(io, 0, 0) && io.failed() == 0)
+}
+
+#[test]
+fn a_file_is_read_where_it_was_asked(rt: HostRuntime) -> Result<(), Fail> {
+    let mut io = outside(rt.alloc(), &[], &[])?;
+    assert!(rt; reads_where_asked(&mut io)?);
+    Ok(())
+}
+
+fn refuses_an_absent_name(io: &mut MemIo) -> Result<bool, IoErr> {
+    let _ = opens(io)?;
+    Ok(
+        open_fails(io, "b.csv")
+            && io.memory().opened() == 1
+            && has_failed(io, 1, 0)
+            && io.failed() == 1
+            && io.memory().names() == 2
+            && has_asked(io.memory(), 1, AskedFor::Opening, "b.csv"),
+    )
+}
+
+#[test]
+fn an_absent_name_is_refused(rt: HostRuntime) -> Result<(), Fail> {
+    let mut io = outside(rt.alloc(), &[], &[])?;
+    assert!(rt; refuses_an_absent_name(&mut io)?);
+    Ok(())
+}
+
+fn read_fails(io: &mut MemIo) -> bool {
+    two_bytes(io) == Err(IoErr::Failed)
+}
+
+fn two_reads_fail(io: &mut MemIo) -> Result<bool, IoErr> {
+    Ok(
+        open_fails(io, "a.csv")
+            && opens(io)? == (0, 17)
+            && read_fails(io)
+            && two_bytes(io)? == *b"id",
+    )
+}
+
+fn told_of_reads(io: &MemIo) -> bool {
+    let event = IoEvent::Read {
+        file: 0,
+        at: 0,
+        len: 2,
+    };
+    has_failed(io, 2, 0)
+        && io.failed() == 0
+        && io.memory().events() == 2
+        && has_event(io.memory(), 0, event)
+}
+
+#[test]
+fn the_numbered_reads_fail(rt: HostRuntime) -> Result<(), Fail> {
+    let mut io = outside(rt.alloc(), &[0, 2], &[])?;
+    assert!(rt; two_reads_fail(&mut io)?);
+    assert!(rt; told_of_reads(&io));
+    Ok(())
+}
+
+/// A call that is given something to keep.
+#[derive(Clone, Copy)]
+enum Call {
+    Make(&'static str),
+    Write(&'static [u8]),
+    Print(&'static str),
+}
+
+/// What a call answers. Without a sink no piece is written.
+fn answer(io: &mut MemIo, call: &Call) -> Result<(), IoErr> {
+    match call {
+        Call::Make(name) => io.make_sink(name),
+        Call::Write(piece) if io.memory().sinks() > 0 => io.write(piece),
+        Call::Write(_) => Ok(()),
+        Call::Print(line) => io.print(line),
+    }
+}
+
+/// Whether the calls, in their order, fail where they are to fail.
+fn answers_are(io: &mut MemIo, calls: &[(Call, bool)]) -> Result<bool, IoErr> {
+    for (call, fails) in calls {
+        let failed = match answer(io, call) {
+            Ok(()) => false,
+            Err(IoErr::Failed) => true,
+            Err(fault) => return Err(fault),
+        };
+        if failed != *fails {
+            return Ok(false);
+        }
+    }
+    Ok(true)
+}
+
+fn every_other_call_fails(io: &mut MemIo) -> Result<bool, IoErr> {
+    let calls = [
+        (Call::Make("o"), true),
+        (Call::Make("o"), false),
+        (Call::Write(b"hello"), true),
+        (Call::Write(b" you"), false),
+        (Call::Write(b"r"), true),
+        (Call::Print("lost"), true),
+        (Call::Print("kept"), false),
+    ];
+    answers_are(io, &calls)
+}
+
+/// Whether the events are writes of so many bytes.
+fn has_written(memory: &Memory, lens: &[usize]) -> bool {
+    for (at, len) in lens.iter().enumerate() {
+        if !has_event(memory, at, IoEvent::Wrote { len: *len }) {
+            return false;
+        }
+    }
+    memory.events() == lens.len()
+}
+
+fn told_of_writes(io: &MemIo) -> bool {
+    let memory = io.memory();
+    has_sink(memory, "o", b"he your")
+        && has_line(memory, "kept")
+        && has_written(memory, &[2, 4, 1])
+        && memory.names() == 2
+        && has_failed(io, 0, 4)
+}
+
+#[test]
+fn the_numbered_writes_fail_after_a_part(rt: HostRuntime) -> Result<(), Fail> {
+    let mut io = outside(rt.alloc(), &[], &[(0, 0), (2, 2), (4, 9), (5, 0)])?;
+    assert!(rt; every_other_call_fails(&mut io)?);
+    assert!(rt; told_of_writes(&io));
+    Ok(())
+}

@@ -1,0 +1,121 @@
+//! The outside in memory that never fails.
+ghost use Rattle.std.specs.Prelude.{IsOkUnless};
+ghost use Rattle.morsel_meaning.specs.Calls.{Opens};
+
+use super::told::{has_asked, has_event, has_line, has_sink};
+use morsel_frame::{AskedFor, Fault, FileNo, Io, IoErr, IoEvent, Memory, Name, SureMemIo};
+use std::alloc::Global;
+use std::test::Fail;
+
+fn open<H: Io>(io: &mut H, name: &str) -> Result<FileNo, IoErr>
+    ensures { Opens (H.seen io.old) name.now result (H.seen io.new) }
+{
+    io.open_source(name)
+}
+
+// What any outside may answer rules out `Failed` where the outside is this one.
+fn open_surely(io: &mut SureMemIo, name: &str) -> Result<FileNo, IoErr>
+    ensures { IsOkUnless result IoErr.OutOfMemory }
+{
+    open(io, name)
+}
+
+/// The number and the size of the file that is opened.
+fn opens(io: &mut SureMemIo, name: &str) -> Result<(usize, u64), IoErr> {
+    let file = open_surely(io, name)?;
+    if file.0 >= io.memory().opened() {
+        return Ok((file.0, u64::MAX));
+    }
+    Ok((file.0, io.size(file)))
+}
+
+/// Fills `into` from place `at` of a file on, and answers whether it reaches so far.
+fn read(io: &mut SureMemIo, file: FileNo, at: u64, into: &mut [u8]) -> Result<bool, IoErr> {
+    if file.0 >= io.memory().opened() {
+        return Ok(false);
+    }
+    let size = io.size(file);
+    if at > size || into.len() as u64 > size - at {
+        return Ok(false);
+    }
+    io.read_range(file, at, into)?;
+    Ok(true)
+}
+
+fn opens_absent_names(io: &mut SureMemIo) -> Result<bool, IoErr> {
+    let _ = open_surely(io, "absent")?;
+    Ok(
+        opens(io, "none")? == (1, 0)
+            && read(io, FileNo(1), 0, &mut [])?
+            && io.memory().opened() == 2
+            && io.memory().events() == 1,
+    )
+}
+
+#[test]
+fn an_absent_name_opens_as_an_empty_file(rt: HostRuntime) -> Result<(), Fail> {
+    let mut io = SureMemIo::new(rt.alloc(), Vec::new(rt.alloc()));
+    assert!(rt; opens_absent_names(&mut io)?);
+    Ok(())
+}
+
+/// An outside of one file.
+fn outside(alloc: Global) -> Result<SureMemIo, Fault> {
+    let name = Name::new(alloc, "a.csv")?;
+    let bytes = Vec::from_slice(alloc, b"id\n1\n")?;
+    Ok(SureMemIo::new(alloc, vec![in alloc; (name, bytes)]?))
+}
+
+/// Whether the last two bytes are the last row.
+fn reads(io: &mut SureMemIo) -> Result<bool, IoErr> {
+    let mut into = [0; 2];
+    Ok(read(io, FileNo(0), 3, &mut into)? && into == *b"1\n")
+}
+
+fn writes_and_prints(io: &mut SureMemIo) -> Result<(), IoErr> {
+    io.make_sink("o")?;
+    io.write(b"{}\n")?;
+    io.print("1")
+}
+
+fn does_all(io: &mut SureMemIo) -> Result<bool, IoErr> {
+    if opens(io, "a.csv")? != (0, 5) || !reads(io)? {
+        return Ok(false);
+    }
+    writes_and_prints(io)?;
+    Ok(true)
+}
+
+/// Whether the file was read and the sink written.
+fn told_of_bytes(memory: &Memory) -> bool {
+    let read = IoEvent::Read {
+        file: 0,
+        at: 3,
+        len: 2,
+    };
+    memory.events() == 2
+        && has_event(memory, 0, read)
+        && has_event(memory, 1, IoEvent::Wrote { len: 3 })
+}
+
+/// Whether the file was opened and the sink made.
+fn told_of_names(memory: &Memory) -> bool {
+    memory.names() == 2
+        && has_asked(memory, 0, AskedFor::Opening, "a.csv")
+        && has_asked(memory, 1, AskedFor::Making, "o")
+}
+
+fn told_of_all(memory: &Memory) -> bool {
+    has_sink(memory, "o", b"{}\n")
+        && has_line(memory, "1")
+        && told_of_bytes(memory)
+        && told_of_names(memory)
+}
+
+#[test]
+fn all_that_was_done_is_told(rt: HostRuntime) -> Result<(), Fail> {
+    let mut io = outside(rt.alloc())?;
+    assert!(rt; does_all(&mut io)?);
+    assert!(rt; told_of_all(io.memory()));
+    Ok(())
+}
