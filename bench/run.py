@@ -1,52 +1,168 @@
 #!/usr/bin/env python3
-"""Times our own program on the scan of a facts file to NDJSON and prints a table in Markdown.
+"""Makes the data, builds the program, and times its scan of CSV to NDJSON beside each peer that is installed.
 
-usage: run.py BENCH_DIR PROGRAM [--size N] [--rounds N]
+usage: python3 bench/run.py [--size MEGABYTES] [--rounds N] [--folder FOLDER] [--program FILE]
 
-BENCH_DIR holds what gen.py made; the output goes beside it. PROGRAM is the built program. Of the runs: the median
-and the best wall time, the median user and system time, the peak resident memory, and MB of the input a second.
+The data and the outputs lie in FOLDER (none: morsel-bench in the folder for temporary files; best one in memory, as /dev/shm/morsel-bench).
+The program is the one that `rt ci` or `rt run` has built, if it is newer than its sources; else `rt run` proves and builds it first, which
+takes long from nothing. --program names another. Each round runs each of them once, in turn, on the same file; one that takes more than
+5 seconds runs three times at most. CLICKHOUSE names the URL of a server of ClickHouse, CLICKHOUSE_FILES its folder of users' files,
+CLICKHOUSE_PID its process.
+
+Printed: which peers are missing, and a table in Markdown: the median and the best time by the clock, the processor's time, MB of the
+file a second, the peak of resident memory, how many times morsel's seconds it took, and whether it wrote the same bytes, or at least the
+same lines in another order.
 """
 import argparse
+import datetime
+import hashlib
+import math
 import os
+import re
+import shutil
 import statistics
+import subprocess
 import sys
+import tempfile
 import time
 
+sys.dont_write_bytecode = True
+HERE = os.path.dirname(os.path.abspath(__file__))
+sys.path.append(f"{HERE}/../tools")
+import gen
+import peers
+import program
+
 SCHEMA = "id:int,g:int,v:int,name:text"
+SLOW = 5
 
 
-def run(words):
-    """One run: wall, user and system seconds and the peak resident memory in MB. A failed run ends the measurement."""
+def build():
+    """The path of the program, proved and built first where that is to be done."""
+    try:
+        return program.built()[0]
+    except SystemExit:
+        print("proving and building the program ..", file=sys.stderr, flush=True)
+    words = ["rt", "run", "--", "--version"]
+    if subprocess.run(words, cwd=program.CRATE, stdout=sys.stderr).returncode:
+        sys.exit("rt run in crates/morsel_prog failed")
+    return program.built()[0]
+
+
+def server_use(pid):
+    """The seconds of the processor that the server's process took so far, and the peak of its resident memory in MB."""
+    with open(f"/proc/{pid}/stat", encoding="utf-8") as it:
+        fields = it.read().rpartition(")")[2].split()
+    with open(f"/proc/{pid}/status", encoding="utf-8") as it:
+        peak = int(re.search(r"VmHWM:\s+(\d+)", it.read())[1]) / 1024
+    return (int(fields[11]) + int(fields[12])) / os.sysconf("SC_CLK_TCK"), peak
+
+
+def run(words, folder, is_server):
+    """One run: seconds by the clock and of the processor, and the peak of resident memory in MB; None where it failed.
+
+    Of a server these are its own, and not known where CLICKHOUSE_PID does not name its process.
+    """
+    told, pid = f"{folder}/times", os.environ.get("CLICKHOUSE_PID") if is_server else None
+    if pid:
+        with open(f"/proc/{pid}/clear_refs", "w", encoding="utf-8") as it:
+            it.write("5")
+        before, _ = server_use(pid)
+    # GNU time starts it, since what Python starts is told to have at least Python's memory
+    words = [shutil.which("time"), "-q", "-o", told, "-f", "%U %S %M", *words]
     began = time.monotonic()
-    child = os.posix_spawn(
-        words[0], words, {}, file_actions=[(os.POSIX_SPAWN_OPEN, 1, os.devnull, os.O_WRONLY, 0)]
-    )
-    _, status, used = os.wait4(child, 0)
+    ran = subprocess.run(words, stdin=subprocess.DEVNULL, stdout=subprocess.DEVNULL, stderr=subprocess.PIPE)
     wall = time.monotonic() - began
-    if status != 0:
-        sys.exit(f"{' '.join(words)}: status {os.waitstatus_to_exitcode(status)}")
-    return wall, used.ru_utime, used.ru_stime, used.ru_maxrss / 1024
+    if ran.returncode:
+        print(f"{' '.join(words[6:9])} ..: status {ran.returncode}: {ran.stderr.decode(errors='replace')[:300]}", file=sys.stderr)
+        return None
+    if pid:
+        taken, peak = server_use(pid)
+        return wall, taken - before, peak
+    if is_server:
+        return wall, math.nan, math.nan
+    with open(told, encoding="utf-8") as it:
+        user, system, peak = it.read().split()
+    return wall, float(user) + float(system), int(peak) / 1024
+
+
+def digest(path):
+    """What tells whether two outputs have the same bytes, and whether they have the same lines; None where there is none."""
+    if not os.path.exists(path):
+        return None
+    whole, lines = hashlib.sha256(), 0
+    with open(path, "rb") as it:
+        for line in it:
+            whole.update(line)
+            lines += hash(line)
+    return whole.digest(), lines
+
+
+def measure(runs, out, folder, rounds):
+    """The figures of each of the runs, round by round, and the digest of what it wrote."""
+    seen, wrote = {name: [] for name, _ in runs}, {}
+    for _ in range(rounds):
+        for name, words in runs:
+            figures = seen[name]
+            if None in figures or len(figures) >= 3 and statistics.median(it[0] for it in figures) > SLOW:
+                continue
+            if os.path.exists(out):
+                os.remove(out)
+            figures.append(run(words, folder, "server" in name))
+            if name not in wrote:
+                wrote[name] = digest(out)
+    return {name: figures for name, figures in seen.items() if None not in figures}, wrote
+
+
+def machine():
+    with open("/proc/cpuinfo", encoding="utf-8") as it:
+        model = re.search(r"model name\s*: (.*)", it.read())
+    memory = os.sysconf("SC_PAGE_SIZE") * os.sysconf("SC_PHYS_PAGES") / 2**30
+    return f"{os.cpu_count()} cores of {model[1] if model else 'an unknown processor'}, {memory:.0f} GiB, {os.uname().sysname} {os.uname().release.partition('-')[0]}; {datetime.date.today()}"
+
+
+def compared(wrote, ours):
+    if wrote is None:
+        return "none"
+    return "the same bytes" if wrote == ours else "the same lines" if wrote[1] == ours[1] else "others"
+
+
+def table(seen, wrote, size):
+    ours = statistics.median(it[0] for it in seen["morsel"])
+    print("| program | median s | best s | processor s | MB/s | peak MB | times morsel | output |")
+    print("|---|---:|---:|---:|---:|---:|---:|---|")
+    known = lambda number, form: "?" if math.isnan(number) else format(number, form)
+    for name, figures in sorted(seen.items(), key=lambda it: statistics.median(run[0] for run in it[1])):
+        wall, processor, peak = (statistics.median(part) for part in zip(*figures))
+        best = min(it[0] for it in figures)
+        text = "" if name == "morsel" else compared(wrote[name], wrote["morsel"])
+        print(f"| {name} | {wall:.2f} | {best:.2f} | {known(processor, '.2f')} | {size / wall:.0f} | {known(peak, '.0f')} | {wall / ours:.2f} | {text} |")
 
 
 def main():
     wanted = argparse.ArgumentParser(description=__doc__, formatter_class=argparse.RawDescriptionHelpFormatter)
-    wanted.add_argument("bench_dir")
-    wanted.add_argument("program")
     wanted.add_argument("--size", type=int, default=100)
-    wanted.add_argument("--rounds", type=int, default=7)
+    wanted.add_argument("--rounds", type=int, default=5)
+    wanted.add_argument("--folder", default=f"{tempfile.gettempdir()}/morsel-bench")
+    wanted.add_argument("--program")
     given = wanted.parse_args()
-    facts = f"{given.bench_dir}/facts-{given.size}.csv"
-    out = f"{given.bench_dir}/facts-{given.size}.ndjson"
-    runs = [run([given.program, "scan", facts, SCHEMA, out]) for _ in range(given.rounds)]
-    wall, user, system, peak = (statistics.median(part) for part in zip(*runs))
-    best = min(part[0] for part in runs)
+    if not shutil.which("time"):
+        sys.exit("GNU time is not installed: it tells the memory")
+    facts = gen.make(given.folder, given.size)
+    out = f"{given.folder}/out.ndjson"
+    runs = [("morsel", [os.path.abspath(given.program) if given.program else build(), "scan", facts, SCHEMA, out])]
+    for name, words, why in peers.all_peers(given.folder, facts, out):
+        if words:
+            runs.append((name, words))
+        else:
+            print(f"missing: {name} ({why})", flush=True)
     size = os.path.getsize(facts) / 1e6
-    print("| query | input MB | median s | best s | user s | system s | peak MB | MB/s |")
-    print("|---|---:|---:|---:|---:|---:|---:|---:|")
-    print(
-        f"| CSV to NDJSON | {size:.0f} | {wall:.2f} | {best:.2f} | {user:.2f} | {system:.2f} | {peak:.0f} |"
-        f" {size / wall:.0f} |"
-    )
+    print(f"\n{size:.0f} MB, CSV to NDJSON, {given.rounds} rounds; {machine()}\n", flush=True)
+    seen, wrote = measure(runs, out, given.folder, given.rounds)
+    if "morsel" not in seen:
+        sys.exit("morsel itself failed")
+    table(seen, wrote, size)
 
 
-main()
+if __name__ == "__main__":
+    main()

@@ -1,0 +1,53 @@
+//! What a Rust programmer would write with the crate csv in an hour: the facts file as NDJSON, one record at a time.
+//!
+//! usage: csv_crate FACTS OUT
+use std::error::Error;
+use std::fs::File;
+use std::io::{BufWriter, Write};
+use std::{env, str};
+
+/// Writes the text as a JSON string, what needs no escape in runs.
+fn put_text(out: &mut impl Write, text: &str) -> std::io::Result<()> {
+    let mut rest = text.as_bytes();
+    out.write_all(b"\"")?;
+    while let Some(at) = rest.iter().position(|&b| b < 32 || b == b'"' || b == b'\\') {
+        out.write_all(&rest[..at])?;
+        match rest[at] {
+            b'"' => out.write_all(b"\\\"")?,
+            b'\\' => out.write_all(b"\\\\")?,
+            b'\n' => out.write_all(b"\\n")?,
+            b'\r' => out.write_all(b"\\r")?,
+            b'\t' => out.write_all(b"\\t")?,
+            8 => out.write_all(b"\\b")?,
+            12 => out.write_all(b"\\f")?,
+            b => write!(out, "\\u{b:04x}")?,
+        }
+        rest = &rest[at + 1..];
+    }
+    out.write_all(rest)?;
+    out.write_all(b"\"")
+}
+
+fn main() -> Result<(), Box<dyn Error>> {
+    let words: Vec<String> = env::args().collect();
+    let [_, facts, to] = words.as_slice() else {
+        return Err("usage: csv_crate FACTS OUT".into());
+    };
+    let mut reader = csv::Reader::from_path(facts)?;
+    let mut out = BufWriter::with_capacity(1 << 16, File::create(to)?);
+    let mut record = csv::ByteRecord::new();
+    while reader.read_byte_record(&mut record)? {
+        let text = |at: usize| str::from_utf8(&record[at]);
+        let (id, g): (i64, i64) = (text(0)?.parse()?, text(1)?.parse()?);
+        write!(out, "{{\"id\":{id},\"g\":{g},\"v\":")?;
+        match text(2)? {
+            "" => out.write_all(b"null")?,
+            v => write!(out, "{}", v.parse::<i64>()?)?,
+        }
+        out.write_all(b",\"name\":")?;
+        put_text(&mut out, text(3)?)?;
+        out.write_all(b"}\n")?;
+    }
+    out.flush()?;
+    Ok(())
+}

@@ -1,0 +1,135 @@
+"""What else turns the facts file into NDJSON: each peer with its words, or why it is missing."""
+import os
+import re
+import shutil
+import subprocess
+from urllib.parse import quote
+
+HERE = os.path.dirname(os.path.abspath(__file__))
+DEBIAN_CRATES = "/usr/share/cargo/registry"
+
+SQLITE = """create table f(id int, g int, v int, name text);
+.import --csv --skip 1 {facts} f
+.mode list
+.once {out}
+select json_object('id', id, 'g', g, 'v', nullif(v, ''), 'name', name) from f;
+"""
+
+PANDAS = """
+import sys, pandas
+facts = pandas.read_csv(sys.argv[1], dtype={"v": "Int64", "name": str}, keep_default_na=False, na_values={"v": [""]})
+facts.to_json(sys.argv[2], orient="records", lines=True, force_ascii=False)
+"""
+
+MAWK = r"""NR > 1 { print "{\"id\":" $1 ",\"g\":" $2 ",\"v\":" ($3 == "" ? "null" : $3) ",\"name\":\"" $4 "\"}" }"""
+
+CLICKHOUSE = "SELECT id, g, v, name FROM {table} FORMAT JSONEachRow"
+COLUMNS = "id Int64, g Int64, v Nullable(Int64), name String"
+
+
+def said(words):
+    """What a program says, or None where it fails."""
+    try:
+        ran = subprocess.run(words, stdin=subprocess.DEVNULL, capture_output=True, text=True, timeout=60)
+    except (OSError, subprocess.TimeoutExpired):
+        return None
+    return ran.stdout.strip() if ran.returncode == 0 else None
+
+
+def build_csv_crate(folder):
+    """The Rust program over the crate csv, built without a network: from cargo's own store, or from Debian's packages."""
+    words = ["cargo", "build", "--release", "--offline", "--manifest-path", f"{folder}/csv_crate/Cargo.toml"]
+    debian = ["--config", 'source.crates-io.replace-with="debian"', "--config", f'source.debian.directory="{DEBIAN_CRATES}"']
+    shutil.rmtree(f"{folder}/csv_crate", ignore_errors=True)
+    shutil.copytree(f"{HERE}/csv_crate", f"{folder}/csv_crate", ignore=shutil.ignore_patterns("target", "Cargo.lock"))
+    for more in ([], debian):
+        if said([*words, *more]) is not None:
+            return f"{folder}/csv_crate/target/release/csv_crate"
+    return None
+
+
+def with_nulls(folder, facts):
+    """The facts as ClickHouse reads them fastest: a copy that has \\N for an empty number."""
+    path = f"{folder}/nulls-of-{os.path.basename(facts)}"
+    if not os.path.exists(path):
+        with open(facts, "rb") as it:
+            text = re.sub(rb"(?m)^(\d+,\d+,),", rb"\1\\N,", it.read())
+        with open(f"{path}.part", "wb") as it:
+            it.write(text)
+        os.rename(f"{path}.part", path)
+    return path
+
+
+def csv_crate(folder, facts, out):
+    if not shutil.which("cargo"):
+        return "Rust, crate csv", None, "no cargo"
+    program = build_csv_crate(folder)
+    return "Rust, crate csv", program and [program, facts, out], "cargo has no package csv"
+
+
+def sqlite(folder, facts, out):
+    version = said(["sqlite3", "--version"])
+    script = f"{folder}/scan.sql"
+    with open(script, "w", encoding="utf-8") as it:
+        it.write(SQLITE.format(facts=facts, out=out))
+    return f"sqlite3 {(version or '').partition(' ')[0]}, in memory", version and ["sh", "-c", 'exec sqlite3 :memory: < "$1"', "", script], "no sqlite3"
+
+
+def miller(folder, facts, out):
+    version = (said(["mlr", "--version"]) or "").split(" ")[-1]
+    return f"Miller {version}", version and ["sh", "-c", 'exec mlr --icsv --ojsonl cat "$1" > "$2"', "", facts, out], "no mlr"
+
+
+def pandas(folder, facts, out):
+    for python in (os.environ.get("PANDAS_PYTHON", "python3"), "/usr/bin/python3"):
+        version = said([python, "-c", "import pandas; print(pandas.__version__)"])
+        if version:
+            return f"pandas {version}", [python, "-c", PANDAS, facts, out], None
+    return "pandas", None, "no python3 with pandas; PANDAS_PYTHON names one"
+
+
+def mawk(folder, facts, out):
+    is_there = shutil.which("mawk")
+    return "mawk, splitting at each comma", is_there and ["sh", "-c", 'exec mawk -F, "$1" "$2" > "$3"', "", MAWK, facts, out], "no mawk"
+
+
+def clickhouse_local(folder, facts, out):
+    for words in (["clickhouse", "local"], ["clickhouse-local"]):
+        version = said([*words, "--version"])
+        if version:
+            words += ["--structure", COLUMNS, "--input-format", "CSVWithNames", "--query", CLICKHOUSE.format(table="table")]
+            facts = with_nulls(folder, facts)
+            return "ClickHouse, local", ["sh", "-c", 'facts="$1"; out="$2"; shift 2; exec "$@" < "$facts" > "$out"', "", facts, out, *words], None
+    return "ClickHouse, local", None, "no clickhouse-local"
+
+
+def clickhouse_server(folder, facts, out):
+    """The server that CLICKHOUSE names, as http://127.0.0.1:8123. It reads a copy of the file in its own folder for users' files, which
+    CLICKHOUSE_FILES names; where that is not set, the file is sent with the query, which takes longer."""
+    url, files = os.environ.get("CLICKHOUSE"), os.environ.get("CLICKHOUSE_FILES")
+    name = "ClickHouse, a server"
+    if not url or not shutil.which("curl"):
+        return name, None, "no server's URL in CLICKHOUSE, or no curl"
+    version = said(["curl", "-sf", f"{url}/?query={quote('SELECT version()')}"])
+    if not version:
+        return name, None, "CLICKHOUSE does not answer"
+    facts = with_nulls(folder, facts)
+    words, table, more = [], f"file('{os.path.basename(facts)}', 'CSVWithNames', '{COLUMNS}')", {}
+    if files:
+        shutil.copy(facts, files)
+    else:
+        words, table, more = ["-F", f"f=@{facts}"], "f", {"f_structure": COLUMNS, "f_format": "CSVWithNames"}
+    query = {"query": CLICKHOUSE.format(table=table), "output_format_json_quote_64bit_integers": "0", **more}
+    url += "/?" + "&".join(f"{it}={quote(text)}" for it, text in query.items())
+    name = f"ClickHouse {version}, a server that {'reads the file' if files else 'is sent the file'}"
+    return name, ["curl", "-sf", *words, "-o", out, url], None
+
+
+def plain_read(folder, facts, out):
+    return "dd, a plain read", ["dd", f"if={facts}", "of=/dev/null", "bs=1M", "status=none"], None
+
+
+def all_peers(folder, facts, out):
+    """Each peer's name, its words, or None and the reason; the plain read last."""
+    makers = (csv_crate, sqlite, miller, pandas, mawk, clickhouse_local, clickhouse_server, plain_read)
+    return [make(folder, facts, out) for make in makers]
