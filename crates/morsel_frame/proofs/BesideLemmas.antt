@@ -1,6 +1,6 @@
 -- Rows of columns side by side, of gathered columns, and of columns that are put first or last.
-use Rattle.std.proofs.Common.{◌≡◌, ◌⊎◌, ℕ, zero, suc, ◌+◌, ◌-◌, ◌<◌, ◌≤◌, List, [], ◌∷◌, ◌++◌, length, take, drop, get_or, map, replicate, refl, ap, sym, subst, inl, inr, ◌∙◌, arith, add-one, Bool, true, false, ◌&&◌, if◌then◌else◌, nat_lt, Some, None}
-use Rattle.std.specs.Prelude.{ℤ, pos, slice_range}
+use Rattle.std.proofs.Common.{◌≡◌, ◌⊎◌, ℕ, zero, suc, ◌+◌, ◌-◌, ◌<◌, ◌≤◌, List, [], ◌∷◌, ◌++◌, length, take, get_or, map, replicate, refl, ap, sym, subst, inl, inr, ◌∙◌, arith, add-one, Bool, true, false, ◌&&◌, if◌then◌else◌, nat_lt, Some, None}
+use Rattle.std.specs.Prelude.{ℤ, pos}
 use Rattle.std.specs.List.{All}
 use Rattle.std.proofs.lemmas.Bool.{le-ltb, lt-ltb}
 use Rattle.std.proofs.lemmas.List.{length-map, length-replicate, nil_from_length}
@@ -19,7 +19,7 @@ use Rattle.morsel_frame.specs.Refusals.{index_fault}
 use Rattle.morsel_frame.specs.Stacks.{column_range, column_front}
 use Rattle.morsel_frame.specs.Tables.{beside, rows_at, numbered, with_text}
 use Rattle.morsel_frame.proofs.ColumnLemmas.{of_type-at}
-use Rattle.morsel_frame.proofs.FrameLemmas.{length-rows, length-framed, length-with_column}
+use Rattle.morsel_frame.proofs.FrameLemmas.{length-rows, length-framed}
 use Rattle.morsel_frame.proofs.RowLemmas.{framed-range, rows-range, framed_rows-fit}
 
 -- the front of each column is its range from the first row on

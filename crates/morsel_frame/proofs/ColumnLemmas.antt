@@ -1,5 +1,5 @@
 -- Values under their marks: reading one, dropping the last ones, appending; and their type.
-use Rattle.std.proofs.Common.{◌≡◌, ℕ, zero, suc, ◌<◌, ◌≤◌, ◌-◌, Bool, true, false, if◌then◌else◌, List, [], ◌∷◌, ◌++◌, length, take, drop, get_or, map, replicate, refl, ap, sym, ◌∙◌, arith, length-take, min, inl, inr}
+use Rattle.std.proofs.Common.{◌≡◌, ℕ, zero, suc, ◌<◌, ◌-◌, Bool, true, false, if◌then◌else◌, List, [], ◌∷◌, ◌++◌, length, take, drop, get_or, map, replicate, refl, ap, sym, ◌∙◌, arith, length-take, min, inl, inr}
 use Rattle.std.specs.Prelude.{ℤ, Result, OnOk, slice_range}
 use Rattle.std.proofs.lemmas.Bool.{cases_lt, lt-ltb, le-ltb}
 use Rattle.std.proofs.lemmas.List.{map-append, take-map, get_or-take, get_or_past}

@@ -1,8 +1,8 @@
 -- Ranges of lists, and of texts where they may be cut.
-use Rattle.std.proofs.Common.{◌≡◌, ℕ, ◌+◌, ◌-◌, ◌<◌, ◌≤◌, List, [], ◌∷◌, ◌++◌, length, take, drop, get_or, rules, refl, ap, sym, subst, inl, inr, ◌∙◌, arith, slice_index, length-append, length-drop, length-take, map}
-use Rattle.std.proofs.lemmas.List.{take-take, take_at, drop_at, take_all, take-append-le, drop-append-le, get_or-take, get_or_append_left, map-append, take-map, drop-map, same_lists, places}
+use Rattle.std.proofs.Common.{◌≡◌, ℕ, ◌+◌, ◌-◌, ◌<◌, ◌≤◌, List, ◌++◌, length, take, drop, get_or, rules, refl, ap, sym, subst, inl, inr, ◌∙◌, arith, length-append, length-drop, length-take, map}
+use Rattle.std.proofs.lemmas.List.{take-take, drop_at, take_all, take-append-le, get_or-take, get_or_append_left, map-append, take-map, drop-map, same_lists, places}
 use Rattle.std.proofs.lemmas.Slice.{between_is}
-use Rattle.std.proofs.lemmas.Str.{IsCharBoundary-at_seam, IsCharBoundary-end}
+use Rattle.std.proofs.lemmas.Str.{IsCharBoundary-at_seam}
 use Rattle.std.proofs.lemmas.Bool.{cases_lt}
 use Rattle.std.proofs.lemmas.Result.{on_ok_weaker}
 use Rattle.std.specs.Prelude.{Result, OnOk, slice_range}

@@ -1,5 +1,5 @@
 -- Columns and fields at distinct places.
-use Rattle.std.proofs.Common.{◌≡◌, ◌≢◌, ℕ, zero, suc, ◌+◌, ◌<◌, ◌≤◌, Bool, true, false, List, [], ◌∷◌, ◌++◌, length, take, drop, get_or, map, set, replicate, nat_eq, refl, ap, sym, subst, inl, inr, ◌∙◌, arith, slice_index_or}
+use Rattle.std.proofs.Common.{◌≡◌, ℕ, zero, suc, ◌+◌, ◌<◌, ◌≤◌, false, List, [], ◌∷◌, ◌++◌, length, take, drop, get_or, map, set, replicate, nat_eq, refl, ap, sym, subst, inl, inr, ◌∙◌, arith}
 use Rattle.std.specs.List.{All, IsDistinct}
 use Rattle.std.specs.Str.{bytes_eq}
 use Rattle.std.proofs.lemmas.Bool.{cases_lt, cases_Bool, false≢true, eq-eqb}
@@ -7,7 +7,6 @@ use Rattle.std.proofs.lemmas.List.{get_or-set_other, get_or-map, get_or_read, ma
 use Rattle.std.proofs.lemmas.Map.Keys.{apart_from_distinct, IsDistinct-from_apart}
 use Rattle.std.proofs.lemmas.Slice.Eq.{bytes_eq-Decides}
 use Rattle.morsel_meaning.specs.declared.Field.{Field}
-use Rattle.morsel_meaning.specs.declared.Value.{Value}
 use Rattle.morsel_meaning.specs.Values.{Row, names_of}
 use Rattle.morsel_frame.specs.Columns.{Values, AreOfType}
 use Rattle.morsel_frame.specs.Frames.{with_column, rows_of, Fit, AreTyped, IsFramed}

@@ -1,5 +1,5 @@
 -- How a column keeps its values: numbers, truth values or texts side by side, and beside them which are valid.
-use Rattle.std.specs.Prelude.{◌≡◌, ℕ, Bool, false, pos, List, [], ◌∷◌, length, map}
+use Rattle.std.specs.Prelude.{◌≡◌, Bool, false, pos, List, [], length, map}
 use Rattle.morsel_meaning.specs.declared.ColType.{ColType}
 use Rattle.morsel_meaning.specs.declared.ColType.TheVariants as types
 use Rattle.morsel_meaning.specs.declared.Value.{Value}

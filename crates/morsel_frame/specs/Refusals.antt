@@ -1,6 +1,5 @@
 -- Which fault a call answers.
-use Rattle.std.specs.Prelude.{◌≡◌, ℕ, ◌+◌, ◌<◌, nat_lt, ◌&&◌, if◌then◌else◌, Option, Some, None, Result, Ok, Err, List, length}
-use Rattle.std.specs.Str.{bytes_eq}
+use Rattle.std.specs.Prelude.{◌≡◌, ℕ, ◌+◌, nat_lt, ◌&&◌, if◌then◌else◌, Option, Some, None, Result, Ok, Err, List}
 use Rattle.morsel_meaning.specs.declared.Field.{Field}
 use Rattle.morsel_meaning.specs.declared.Fault.{Fault}
 use Rattle.morsel_meaning.specs.declared.Fault.TheVariants.{OutOfMemory, SchemaMismatch, Duplicate, ComputeError}

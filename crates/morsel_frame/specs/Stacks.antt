@@ -1,6 +1,6 @@
 -- Columns one below the other, and ranges of columns: what is made of the columns of a frame.
-use Rattle.std.specs.Prelude.{◌≡◌, ℕ, zero, suc, ◌≤◌, List, [], ◌∷◌, ◌++◌, length, map, take, slice_range}
-use Rattle.morsel_frame.specs.Columns.{Values, value_at}
+use Rattle.std.specs.Prelude.{◌≡◌, ℕ, zero, suc, ◌≤◌, List, [], ◌∷◌, ◌++◌, length, take, slice_range}
+use Rattle.morsel_frame.specs.Columns.{Values}
 
 -- the rows of a column from one on to another
 abbrev pub column_range : ℕ → ℕ → Values → Values

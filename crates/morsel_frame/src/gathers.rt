@@ -29,7 +29,7 @@ fn push_items<T: Copy + Drop, R: RowNumber>(items: &mut Vec<T>, others: &[T], ro
     ensures { items.new.items ≡ items.old.items ++ map (λ row. get_or others.now (R.place row) blank) rows.now }
 {
     for row in rows {
-        items.push(item_or(others, row.place(), blank)).unwrap();
+        items.push_reserved(item_or(others, row.place(), blank));
     }
 }
 
@@ -52,6 +52,7 @@ pub fn gather_texts<R: RowNumber>(
     ensures err { OnErr result (texts.new ≡ texts.old) }
     ensures out_of_memory { IsOkUnless result Fault.OutOfMemory }
 {
+    texts.reserve(rows.len())?;
     let len = texts.len();
     if let Err(fault) = push_texts(texts, others, limit, rows) {
         texts.truncate(len);

@@ -62,7 +62,17 @@ impl Texts {
         span(self.bytes.as_str(), self.ends.as_slice(), at, at + 1)
     }
 
+    /// Takes memory for the ends of so many texts more, so that putting them does not grow their list again and again.
+    pub fn reserve(&mut self, more: usize) -> Result<(), Fault>
+        ensures same { self.new ≡ self.old }
+        ensures out_of_memory { IsOkUnless result Fault.OutOfMemory }
+    {
+        self.ends.reserve(more)?;
+        Ok(())
+    }
+
     /// Puts a text last.
+    #[inline(always)]
     pub fn push(&mut self, text: &str) -> Result<(), Fault>
         ensures ok { OnOk result (self.new ≡ self.old ++ text.now ∷ []) }
         ensures err { OnErr result (self.new ≡ self.old) }

@@ -3,7 +3,7 @@ use Rattle.std.specs.Prelude.{◌≡◌, ◌⊎◌, ℕ, ◌+◌, ◌-◌, ◌^�
 use Rattle.morsel_meaning.specs.declared.io.FileNo.{FileNo}
 use Rattle.morsel_meaning.specs.declared.io.IoErr.{IoErr}
 use Rattle.morsel_meaning.specs.declared.io.IoErr.TheVariants.{OutOfMemory, Failed}
-use Rattle.morsel_meaning.specs.Outside.{Outside, Event, ReadAt, Wrote, Asked, Open, Make, with_last, with_piece, with_sink, IsSized}
+use Rattle.morsel_meaning.specs.Outside.{Outside, ReadAt, Wrote, Open, Make, with_last, with_piece, with_sink, IsSized}
 
 -- a count of faults that rose: it is greater, or stands at the end of its type
 pub record Rises (before now : ℕ) : Type 0 where

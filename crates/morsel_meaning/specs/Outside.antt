@@ -1,5 +1,5 @@
 -- All that contracts see of the outside. What stands under `Option` is told by some objects only.
-use Rattle.std.specs.Prelude.{◌≡◌, ℕ, ◌+◌, Option, Some, None, List, [], ◌∷◌, ◌++◌, map, length}
+use Rattle.std.specs.Prelude.{◌≡◌, ℕ, Option, Some, None, List, [], ◌∷◌, ◌++◌, map, length}
 
 -- one read of a file, or one write to the sink
 pub data Event : Type 0 where

@@ -1,4 +1,4 @@
-use Rattle.std.proofs.Common.{rules, add-one, ◌<◌, length, sym}
+use Rattle.std.proofs.Common.{rules, add-one}
 use Rattle.morsel_frame.proofs.FrameLemmas.{typed-more}
 use Rattle.morsel_frame.proofs.frame.check_types.Goals as goal
 

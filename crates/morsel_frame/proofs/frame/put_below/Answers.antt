@@ -1,7 +1,7 @@
-use Rattle.std.proofs.Common.{rules, arith, ◌≡◌, ◌∙◌, ◌++◌, [], ◌<◌, ◌+◌, refl, ap, sym}
+use Rattle.std.proofs.Common.{rules, arith, ◌≡◌, ◌∙◌, ◌++◌, ◌<◌, ◌+◌, refl, ap, sym}
 use Rattle.std.proofs.lemmas.List.{append-nil}
 use Rattle.morsel_frame.specs.Frames.{rows_of}
-use Rattle.morsel_frame.proofs.RowLemmas.{level-tall, framed-level, framed_rows-fit, framed-nothing, fit-alike, fit-level, framed-stacked, rows-stacked, range_of_all}
+use Rattle.morsel_frame.proofs.RowLemmas.{level-tall, framed-level, framed_rows-fit, framed-nothing, fit-alike, framed-stacked, rows-stacked, range_of_all}
 use Rattle.morsel_frame.proofs.frame.put_below.Goals as goal
 
 pub returns-then-more-eq0-clause-rows : goal.returns-then-more-eq0-clause-rows

@@ -1,4 +1,4 @@
-use Rattle.std.proofs.Common.{rules, arith, ◌≡◌, ◌∙◌, ap, sym, length, refl, map, true, replicate}
+use Rattle.std.proofs.Common.{◌∙◌, sym, refl, map, true}
 use Rattle.std.proofs.lemmas.List.{length-map, length-replicate}
 use Rattle.morsel_meaning.specs.declared.Value.TheVariants as values
 use Rattle.morsel_frame.specs.Made.{counted}

@@ -1,4 +1,4 @@
-use Rattle.std.proofs.Common.{rules, ◌≡◌, ◌∙◌, length, refl, map, true, replicate}
+use Rattle.std.proofs.Common.{refl, replicate}
 use Rattle.std.proofs.lemmas.List.{length-replicate}
 use Rattle.morsel_meaning.specs.declared.Value.TheVariants as values
 use Rattle.morsel_frame.proofs.ColumnLemmas.{map-replicate}

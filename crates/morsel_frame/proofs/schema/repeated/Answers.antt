@@ -1,4 +1,4 @@
-use Rattle.std.proofs.Common.{rules, ◌∙◌, sym, ap, ◌∷◌}
+use Rattle.std.proofs.Common.{rules, ◌∙◌, sym, ◌∷◌}
 use Rattle.morsel_frame.proofs.SeenNames.{seen-more, was_absent, known-step}
 use Rattle.morsel_frame.proofs.schema.repeated.Goals as goal
 

@@ -1,4 +1,4 @@
-use Rattle.std.proofs.Common.{rules, ◌≡◌, ◌∙◌, get_or, refl, sym}
+use Rattle.std.proofs.Common.{◌∙◌, get_or, refl, sym}
 use Rattle.morsel_frame.proofs.SelectLemmas.{fields_at-more}
 use Rattle.morsel_frame.proofs.selects.pick_fields.Goals as goal
 

@@ -1,4 +1,3 @@
-use Rattle.std.proofs.Common.{rules}
 use Rattle.morsel_frame.proofs.SelectLemmas.{names_at-distinct}
 use Rattle.morsel_frame.proofs.selects.select_schema.Goals as goal
 

@@ -1,4 +1,4 @@
-use Rattle.std.proofs.Common.{rules, arith, ap, length, ◌∙◌, ◌<◌, ◌≡◌, List, ◌++◌, get_or, set, add-one}
+use Rattle.std.proofs.Common.{arith, ap, length, ◌∙◌, ◌≡◌, List, ◌++◌, get_or, set, add-one}
 use Rattle.morsel_meaning.specs.declared.Value.{Value}
 use Rattle.morsel_frame.specs.Columns.{Values}
 use Rattle.morsel_frame.specs.Stacks.{stacked_up_to}

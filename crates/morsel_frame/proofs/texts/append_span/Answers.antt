@@ -1,4 +1,4 @@
-use Rattle.std.proofs.Common.{rules, arith, ap, length, ◌∙◌, ◌≡◌, ◌-◌, get_or, ◌∷◌, slice_index}
+use Rattle.std.proofs.Common.{arith, ap, length, ◌∙◌, get_or, ◌∷◌}
 use Rattle.std.specs.Prelude.{slice_range}
 use Rattle.std.proofs.lemmas.Str.{IsCharBoundary-start}
 use Rattle.morsel_frame.proofs.RangeLemmas.{length-range}

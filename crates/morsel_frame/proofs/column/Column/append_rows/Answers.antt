@@ -1,4 +1,4 @@
-use Rattle.std.proofs.Common.{rules, arith, ap, length, ◌∙◌, ◌≤◌}
+use Rattle.std.proofs.Common.{rules, arith, ap, length}
 use Rattle.morsel_frame.specs.Columns.{Values}
 use Rattle.morsel_frame.specs.Packing.{stored}
 use Rattle.morsel_frame.proofs.ColumnLemmas.{length-masked, masked-append, masked-range}

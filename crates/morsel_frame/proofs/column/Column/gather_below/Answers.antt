@@ -1,4 +1,4 @@
-use Rattle.std.proofs.Common.{rules, arith, ap, length, map}
+use Rattle.std.proofs.Common.{rules, arith, ap, length}
 use Rattle.morsel_frame.specs.Columns.{Values}
 use Rattle.morsel_frame.specs.Packing.{stored, kind_of, blank_of}
 use Rattle.morsel_frame.proofs.ColumnLemmas.{length-masked, masked-append, masked-gather}

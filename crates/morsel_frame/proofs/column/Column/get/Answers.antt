@@ -1,4 +1,4 @@
-use Rattle.std.proofs.Common.{rules, arith, ◌≡◌, ◌<◌, length, sym, ap, ◌∙◌}
+use Rattle.std.proofs.Common.{arith, ◌<◌, length, sym, ap, ◌∙◌}
 use Rattle.morsel_frame.specs.Columns.{Values}
 use Rattle.morsel_frame.specs.Packing.{stored, kind_of}
 use Rattle.morsel_frame.proofs.ColumnLemmas.{length-masked, value_at-valid, value_at-null, stored_of_type, of_type-at}

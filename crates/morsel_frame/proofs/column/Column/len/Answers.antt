@@ -1,4 +1,4 @@
-use Rattle.std.proofs.Common.{arith, sym, ap, length, ◌∙◌}
+use Rattle.std.proofs.Common.{arith}
 use Rattle.morsel_frame.specs.Packing.{stored, kind_of}
 use Rattle.morsel_frame.proofs.ColumnLemmas.{length-masked, stored_of_type, masked_of_type}
 use Rattle.morsel_frame.proofs.column.Column.len.Goals as goal

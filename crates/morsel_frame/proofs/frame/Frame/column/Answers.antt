@@ -1,8 +1,8 @@
-use Rattle.std.proofs.Common.{rules, arith, ◌<◌, ◌≡◌, ◌∙◌, sym, ap, length, map}
+use Rattle.std.proofs.Common.{arith, ◌<◌, ◌∙◌, sym, ap, length, map}
 use Rattle.morsel_meaning.specs.Values.{Table}
 use Rattle.morsel_frame.specs.Columns.{Values}
 use Rattle.morsel_frame.specs.Tables.{cell_at}
-use Rattle.morsel_frame.proofs.FrameLemmas.{absent_rows, present_fit, length-fit, kind-of_field, kind-of_column, column-of_rows}
+use Rattle.morsel_frame.proofs.FrameLemmas.{absent_rows, present_fit, kind-of_column, column-of_rows}
 use Rattle.morsel_frame.proofs.frame.Frame.column.Goals as goal
 
 pub returns-then-at-len-clause-values : goal.returns-then-at-len-clause-values

@@ -1,4 +1,4 @@
-use Rattle.std.proofs.Common.{rules, sym}
+use Rattle.std.proofs.Common.{sym}
 use Rattle.morsel_frame.proofs.FrameLemmas.{length-framed, framed_rows_fit}
 use Rattle.morsel_frame.proofs.frame.Frame.height.Goals as goal
 

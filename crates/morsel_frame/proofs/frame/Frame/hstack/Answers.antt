@@ -1,4 +1,4 @@
-use Rattle.std.proofs.Common.{rules, arith, ◌≡◌, ◌∙◌, ◌<◌, [], ap, sym, length, refl}
+use Rattle.std.proofs.Common.{arith, ◌≡◌, ◌<◌, [], ap, length, refl}
 use Rattle.std.proofs.lemmas.List.{nil_from_length}
 use Rattle.morsel_frame.proofs.FrameLemmas.{length-framed}
 use Rattle.morsel_frame.proofs.BesideLemmas.{framed-hstack, rows-hstack}

@@ -1,7 +1,5 @@
-use Rattle.std.proofs.Common.{rules, arith, ◌≡◌, ◌∙◌, ◌<◌, [], ap, sym, length, refl}
-use Rattle.std.specs.List.{All}
+use Rattle.std.proofs.Common.{arith, ◌≡◌, ◌<◌, [], ap, length, refl}
 use Rattle.std.proofs.lemmas.List.{nil_from_length}
-use Rattle.morsel_frame.specs.Tables.{cells_at}
 use Rattle.morsel_frame.proofs.FrameLemmas.{length-framed, length-fit}
 use Rattle.morsel_frame.proofs.RowLemmas.{framed_rows-fit}
 use Rattle.morsel_frame.proofs.SelectLemmas.{framed-places, rows-at_places}

@@ -1,6 +1,5 @@
-use Rattle.std.proofs.Common.{rules, arith, ◌≡◌, ◌∙◌, ◌≤◌, ◌+◌, ap, refl}
+use Rattle.std.proofs.Common.{rules, arith, ◌+◌, refl}
 use Rattle.morsel_frame.specs.Frames.{rows_of}
-use Rattle.morsel_frame.specs.Tables.{rows_between}
 use Rattle.morsel_frame.proofs.FrameLemmas.{length-framed}
 use Rattle.morsel_frame.proofs.RowLemmas.{level-tall, framed-level, framed-range, rows-range, clamped}
 use Rattle.morsel_frame.proofs.frame.Frame.slice.Goals as goal

@@ -1,4 +1,4 @@
-use Rattle.std.proofs.Common.{rules, arith, ◌≡◌, ◌∙◌, ◌≤◌, ap, length, refl}
+use Rattle.std.proofs.Common.{arith, ◌≤◌, ap, length, refl}
 use Rattle.std.proofs.lemmas.List.{take_all}
 use Rattle.morsel_meaning.specs.Values.{Table}
 use Rattle.morsel_frame.proofs.FrameLemmas.{length-framed}

@@ -1,4 +1,4 @@
-use Rattle.std.proofs.Common.{rules, arith, ◌≡◌, ◌∙◌, ap, sym, subst, length, List}
+use Rattle.std.proofs.Common.{arith, ◌∙◌, ap, sym, subst, length, List}
 use Rattle.morsel_meaning.specs.Values.{Table}
 use Rattle.morsel_meaning.specs.declared.Field.{Field}
 use Rattle.morsel_frame.specs.Frames.{IsFramed}

@@ -1,4 +1,4 @@
-use Rattle.std.proofs.Common.{rules, arith, ◌≡◌, ◌∙◌, ◌<◌, ◌+◌, ◌≤◌, [], ◌∷◌, ap, sym, length, refl}
+use Rattle.std.proofs.Common.{arith, ◌≡◌, ◌∙◌, ◌<◌, [], ◌∷◌, ap, sym, length, refl}
 use Rattle.std.proofs.lemmas.List.{nil_from_length}
 use Rattle.morsel_meaning.specs.declared.ColType.TheVariants as types
 use Rattle.morsel_frame.specs.Refusals.{first_fault, index_fault, repeat_fault}

@@ -1,6 +1,4 @@
-use Rattle.std.proofs.Common.{rules, ◌∙◌, ap, sym, map}
 use Rattle.morsel_meaning.specs.declared.Value.TheVariants as values
-use Rattle.morsel_frame.specs.Packing.{blank_of}
 use Rattle.morsel_frame.proofs.ColumnLemmas.{map-replicate}
 use Rattle.morsel_frame.proofs.packed.Packed.blank.Goals as goal
 

@@ -1,4 +1,4 @@
-use Rattle.std.proofs.Common.{rules, arith, ap, length, refl}
+use Rattle.std.proofs.Common.{arith, ap, length, refl}
 use Rattle.std.specs.String.{string_bytes}
 use Rattle.std.proofs.lemmas.Str.{IsUtf8-string_bytes}
 use Rattle.morsel_frame.proofs.PieceLemmas.{length-pieces, append-range, append-range_are}

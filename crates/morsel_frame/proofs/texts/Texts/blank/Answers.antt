@@ -1,4 +1,3 @@
-use Rattle.std.proofs.Common.{rules}
 use Rattle.morsel_frame.proofs.PieceLemmas.{blank-pieces, blank-are_pieces}
 use Rattle.morsel_frame.proofs.texts.Texts.blank.Goals as goal
 

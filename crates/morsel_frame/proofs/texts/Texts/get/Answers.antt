@@ -1,4 +1,4 @@
-use Rattle.std.proofs.Common.{rules, arith, sym, ap, length, ◌<◌, ◌+◌, add-one}
+use Rattle.std.proofs.Common.{arith, sym, ap, length, ◌<◌, add-one}
 use Rattle.std.specs.String.{string_bytes}
 use Rattle.morsel_frame.proofs.PieceLemmas.{length-pieces, get_or-pieces}
 use Rattle.morsel_frame.proofs.texts.Texts.get.Goals as goal
