@@ -1,8 +1,7 @@
 -- How often a run asks each byte: one read of the whole file, and then writes.
-use Rattle.std.specs.Prelude.{◌≡◌, ◌≢◌, ℕ, ◌+◌, ◌<◌, ◌≤◌, Bool, true, false, ◌&&◌, ◌==◌, nat_lt, nat_le, if◌then◌else◌, Option, Some, None, List, [], ◌∷◌, ◌++◌, length, refl}
-use Rattle.std.proofs.Common.{sym, ap, ◌∙◌, arith, eq-eqb, add-zero, eqb, ltb}
+use Rattle.std.specs.Prelude.{◌≡◌, ℕ, ◌<◌, ◌≤◌, true, ◌&&◌, ◌==◌, nat_lt, if◌then◌else◌, List, [], ◌∷◌, refl}
+use Rattle.std.proofs.Common.{arith, add-zero}
 use Rattle.std.proofs.lemmas.Bool.Decides.{nat_tests}
-use borrow.Author.Tests.{lt-ltb}
 use Rattle.morsel_meaning.specs.Outside.{Event, ReadAt, Wrote}
 use Rattle.morsel_meaning.specs.Asks.{times_asked, asks}
 use Rattle.morsel_engine.specs.Stages.{AreWrites}

@@ -4,15 +4,15 @@ use Rattle.std.proofs.Common.{ap, ◌∙◌, sym, arith, inl, inr, length-append
 use Rattle.morsel_meaning.specs.declared.value.ColType.{ColType}
 use Rattle.morsel_meaning.specs.declared.value.Field.{Field}
 use Rattle.morsel_meaning.specs.Values.{Row, kinds_of}
-use Rattle.morsel_text.specs.Options.{standard}
-use Rattle.morsel_text.specs.Cells.{Cell}
-use Rattle.morsel_text.specs.Rows.{mark_len, unmarked}
-use Rattle.morsel_text.specs.Reading.{Refusal}
-use Rattle.morsel_text.specs.GrammarRows.{HasRowsBefore, HasRowAt}
-use Rattle.morsel_text.specs.OneEnd.{place_in}
-use Rattle.morsel_text.proofs.FileLemmas.{open_quotes_no_records}
-use Rattle.morsel_text.proofs.OneEndLemmas.{ends_once}
-use Rattle.morsel_text.proofs.OneRowLemmas.{stands_once}
+use Rattle.morsel_grammar.specs.Options.{standard}
+use Rattle.morsel_grammar.specs.Cells.{Cell}
+use Rattle.morsel_grammar.specs.Rows.{mark_len, unmarked}
+use Rattle.morsel_grammar.specs.Reading.{Refusal}
+use Rattle.morsel_grammar.specs.GrammarRows.{HasRowsBefore, HasRowAt}
+use Rattle.morsel_grammar.specs.OneEnd.{place_in}
+use Rattle.morsel_grammar.proofs.FileLemmas.{open_quotes_no_records}
+use Rattle.morsel_grammar.proofs.OneEndLemmas.{ends_once}
+use Rattle.morsel_grammar.proofs.OneRowLemmas.{stands_once}
 use Rattle.morsel_engine.specs.Scan.{row_limit, is_compressed}
 use Rattle.morsel_engine.specs.FileRows.{RowsOfFile, Ends, ScansFile}
 use Rattle.morsel_engine.specs.Ends.{HasOneEnd, RefusesWithin, RefusesOpenFiles}

@@ -1,20 +1,18 @@
 -- What a scan gives of a file is what the grammar says.
-use Rattle.std.specs.Prelude.{◌≡◌, ◌≢◌, ◌⊎◌, ℕ, zero, suc, ◌<◌, ◌≤◌, Bool, true, false, nat_le, Option, Some, None, List, [], ◌∷◌, ◌++◌, length, map, take, get_or, replicate, refl}
+use Rattle.std.specs.Prelude.{◌≡◌, ℕ, zero, suc, ◌<◌, ◌≤◌, Bool, true, false, nat_le, Option, Some, None, List, [], ◌∷◌, ◌++◌, length, map, take, get_or, replicate, refl}
 use Rattle.std.proofs.Common.{ap, ◌∙◌, sym, subst, arith, inl, inr}
 use Rattle.std.proofs.lemmas.List.{length-map, take-map}
 use Rattle.std.proofs.lemmas.Bool.Decides.{nat_tests}
 use Rattle.morsel_meaning.specs.declared.value.Field.{Field}
 use Rattle.morsel_meaning.specs.Values.{Row, kinds_of}
-use Rattle.morsel_text.specs.Options.{AreOptions, standard}
-use Rattle.morsel_text.specs.Cells.{Cell}
-use Rattle.morsel_text.specs.Rows.{mark_len, unmarked}
-use Rattle.morsel_text.specs.Reading.{Read, Refusal, used_values, used_rows, value_then, reading, read_of}
-use Rattle.morsel_text.specs.GrammarRows.{HasRowAt}
-use Rattle.morsel_text.proofs.FileLemmas.{places_rows}
-use Rattle.morsel_text.proofs.UsedRowLemmas.{read_of-rows}
+use Rattle.morsel_grammar.specs.Options.{AreOptions, standard}
+use Rattle.morsel_grammar.specs.Cells.{Cell}
+use Rattle.morsel_grammar.specs.Rows.{mark_len, unmarked}
+use Rattle.morsel_grammar.specs.Reading.{Read, Refusal, used_values, used_rows, value_then, reading}
+use Rattle.morsel_grammar.proofs.FileLemmas.{places_rows}
+use Rattle.morsel_grammar.proofs.UsedRowLemmas.{read_of-rows}
 use Rattle.morsel_engine.specs.Scan.{Scan, place_of, row_places, limited, row_limit, is_compressed, read_file, scan_of}
-use Rattle.morsel_engine.specs.Limit.{unlimited}
-use Rattle.morsel_engine.specs.FileRows.{RowsOfFile, AreAllRows, EndAtFlaw, EndAtLimit, IsCompressed, Ends, ScansFile}
+use Rattle.morsel_engine.specs.FileRows.{RowsOfFile, EndAtLimit, Ends, ScansFile}
 use Rattle.morsel_engine.proofs.LimitLemmas.{limited-within, scan_of-plain}
 
 -- commas, double quotes and line feeds do not contradict each other

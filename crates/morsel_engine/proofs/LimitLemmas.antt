@@ -11,11 +11,10 @@ use Rattle.morsel_meaning.specs.declared.fault.Fault.TheVariants as faults
 use Rattle.morsel_meaning.specs.Values.{Row, Table, kinds_of}
 use Rattle.morsel_meaning.specs.declared.value.ColType.{ColType}
 use Rattle.morsel_meaning.specs.declared.fault.ComputeKind.TheVariants as kinds
-use Rattle.morsel_text.specs.Options.{Options, standard}
-use Rattle.morsel_text.specs.Cells.{Cell}
-use Rattle.morsel_text.specs.Reading.{Read, Reading, Refusal, Flaw, Malformed, NotUtf8, IllTyped, used_values, used_rows, value_then, chosen, reading, read_of, places_of}
-use Rattle.morsel_text.specs.Results.{IsRefused, ReadsRecords, flaw_fault, refusal_fault}
-use Rattle.morsel_text.specs.RowPlaces.{row_place}
+use Rattle.morsel_grammar.specs.Options.{Options, standard}
+use Rattle.morsel_grammar.specs.Cells.{Cell}
+use Rattle.morsel_grammar.specs.Reading.{Read, Reading, Refusal, Flaw, Malformed, NotUtf8, IllTyped, used_values, used_rows, value_then, chosen, reading, read_of, places_of, row_place}
+use Rattle.morsel_grammar.specs.Results.{IsRefused, ReadsRecords, flaw_fault, refusal_fault}
 use Rattle.morsel_engine.specs.Scan.{Scan, place_of, row_places, limited, row_limit, is_compressed, read_file, scan_of, IsScan, IsRefusal}
 use Rattle.morsel_engine.specs.Limit.{read_text, unlimited, IsRefusedAt, Scans, as_malformed, cut_at}
 use Rattle.morsel_engine.proofs.PlaceLemmas.{Rising, rising-reading, reading-at_most}

@@ -3,12 +3,12 @@ use Rattle.std.specs.Prelude.{ℕ, zero, suc, ◌+◌, ◌-◌, ◌≤◌, Bool,
 use Rattle.std.specs.Str.{is_utf8}
 use Rattle.std.proofs.Common.{arith}
 use Rattle.morsel_meaning.specs.declared.value.ColType.{ColType}
-use Rattle.morsel_text.specs.Options.{Options}
-use Rattle.morsel_text.specs.Grammar.{CsvRecord}
-use Rattle.morsel_text.specs.Cells.{Cell}
-use Rattle.morsel_text.specs.Rows.{RowOf, NoRow, IsRow, Misfit, row_of, is_header}
-use Rattle.morsel_text.specs.Split.{record_at}
-use Rattle.morsel_text.specs.Reading.{Reading, Refusal, row_then, record_then, split_then, reading_up_to}
+use Rattle.morsel_grammar.specs.Options.{Options}
+use Rattle.morsel_grammar.specs.Grammar.{CsvRecord}
+use Rattle.morsel_grammar.specs.Cells.{Cell}
+use Rattle.morsel_grammar.specs.Rows.{RowOf, NoRow, IsRow, Misfit, row_of, is_header}
+use Rattle.morsel_grammar.specs.Split.{record_at}
+use Rattle.morsel_grammar.specs.Reading.{Reading, Refusal, row_then, record_then, split_then, reading_up_to}
 
 -- from a place on, each record stands no earlier than the one before it
 abbrev pub Rising : ℕ → List (ℕ × List Cell) → Option Refusal → Type 0

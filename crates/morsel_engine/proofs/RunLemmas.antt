@@ -1,20 +1,18 @@
 -- What a run answers and leaves at each of its exits, over what its calls left.
-use Rattle.std.specs.Prelude.{◌≡◌, ◌⊎◌, ℕ, ◌+◌, ◌<◌, ◌≤◌, Option, Some, None, Result, Ok, Err, List, [], ◌∷◌, ◌++◌, length, take, get_or, refl}
+use Rattle.std.specs.Prelude.{◌≡◌, ℕ, ◌+◌, ◌≤◌, Option, Result, Ok, Err, List, [], ◌∷◌, ◌++◌, length, take, get_or, refl}
 use Rattle.std.proofs.Common.{sym, ap, subst, ◌∙◌, append_assoc, append-nil, arith, inl, inr}
 use Rattle.std.proofs.Math.Seq.{get_or-append_seam}
 use Rattle.morsel_meaning.specs.declared.fault.Fault.{Fault}
 use Rattle.morsel_meaning.specs.declared.fault.Fault.TheVariants as faults
-use Rattle.morsel_meaning.specs.declared.io.FileNo.{FileNo}
-use Rattle.morsel_meaning.specs.declared.value.Field.{Field}
-use Rattle.morsel_meaning.specs.Values.{Row, names_of}
+use Rattle.morsel_meaning.specs.Values.{names_of}
 use Rattle.morsel_meaning.specs.Outside.{Outside, Event, ReadAt, Asked, Open, Make, with_last, with_piece, with_sink, IsSized}
 use Rattle.morsel_meaning.specs.Calls.{Rises, Holds, Opened}
 use Rattle.morsel_meaning.specs.Asks.{Gains}
-use Rattle.morsel_text.specs.Ndjson.{ndjson}
+use Rattle.morsel_ndjson.specs.Ndjson.{ndjson}
 use Rattle.morsel_meaning.specs.Values.{Table}
 use Rattle.morsel_engine.specs.Scan.{Scan, scan_of, IsRefusal, IsScan}
 use Rattle.morsel_engine.specs.Stages.{OpensSource, MakesSink, ReadsWhole, ReadFails, WritesText, WritesTable, Gained, AreWrites}
-use Rattle.morsel_engine.specs.Run.{Query, Runs, Reads, HasCause, MadeSome, AsksSome, AsksAtMostOnce, Answers, names_asked}
+use Rattle.morsel_engine.specs.Run.{Query, Runs, Reads, HasCause, AsksAtMostOnce, names_asked}
 use Rattle.morsel_engine.proofs.StageLemmas.{gains-nothing, gains-last, gains-append, with_piece-with_sink}
 use Rattle.morsel_engine.proofs.AskLemmas.{asks_each_byte-whole, asks_at_most_once-whole, asks_at_most_once-writes}
 use Rattle.morsel_engine.proofs.FileLemmas.{FileIs, file_is-opened, file_is-read, has_rows-text, is_refused_at-text, is_front-nil, is_front-text}

@@ -1,7 +1,6 @@
 -- The text of rows, written part by part.
-use Rattle.std.specs.Prelude.{◌≡◌, ◌⊎◌, ℕ, zero, suc, ◌+◌, ◌-◌, ◌^◌, ◌<◌, ◌≤◌, Result, Ok, Err, List, [], ◌∷◌, ◌++◌, length, take, drop, refl}
-use Rattle.std.specs.List.{flat_map}
-use Rattle.std.proofs.Common.{sym, ap, subst, ◌∙◌, append_assoc, append-nil, arith, inl, inr}
+use Rattle.std.specs.Prelude.{◌≡◌, ◌⊎◌, ℕ, zero, suc, ◌+◌, ◌-◌, ◌^◌, ◌<◌, ◌≤◌, Err, List, [], ◌∷◌, ◌++◌, take, drop, refl}
+use Rattle.std.proofs.Common.{sym, ap, subst, ◌∙◌, append_assoc, arith, inl, inr}
 use Rattle.std.proofs.lemmas.List.{take-append-drop}
 use Rattle.std.proofs.lemmas.List.Concat.{flat_map-append}
 use Rattle.morsel_meaning.specs.declared.Fault.{Fault}
@@ -9,10 +8,10 @@ use Rattle.morsel_meaning.specs.declared.Fault.TheVariants as faults
 use Rattle.morsel_meaning.specs.Values.{Row}
 use Rattle.morsel_meaning.specs.Outside.{Outside}
 use Rattle.morsel_meaning.specs.Calls.{Rises}
-use Rattle.morsel_text.specs.Ndjson.{ndjson, json_line}
+use Rattle.morsel_ndjson.specs.Ndjson.{ndjson, json_line}
 use Rattle.morsel_frame.specs.Tables.{rows_between}
 use Rattle.morsel_engine.specs.Stages.{Gained, WritesText}
-use Rattle.morsel_engine.proofs.StageLemmas.{gained-append, gained-nothing}
+use Rattle.morsel_engine.proofs.StageLemmas.{gained-append}
 
 take-nil : (n : ℕ) → take {A = Row} n [] ≡ []
 take-nil zero = refl

@@ -2,9 +2,9 @@
 use Rattle.std.specs.Prelude.{◌≡◌, ℕ, ◌<◌, Option, Some, None, List, length}
 use Rattle.morsel_meaning.specs.declared.value.Field.{Field}
 use Rattle.morsel_meaning.specs.Values.{Row}
-use Rattle.morsel_text.specs.Options.{standard}
-use Rattle.morsel_text.specs.Rows.{unmarked}
-use Rattle.morsel_text.specs.GrammarRows.{EndsWithinQuotes}
+use Rattle.morsel_grammar.specs.Options.{standard}
+use Rattle.morsel_grammar.specs.Rows.{unmarked}
+use Rattle.morsel_grammar.specs.GrammarRows.{EndsWithinQuotes}
 use Rattle.morsel_engine.specs.FileRows.{ScansFile}
 
 -- a file has one list of rows, up to its end or up to a record that is refused, and that record has one place

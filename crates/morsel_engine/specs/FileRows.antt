@@ -2,11 +2,11 @@
 use Rattle.std.specs.Prelude.{◌≡◌, ◌⊎◌, ℕ, ◌<◌, ◌≤◌, Bool, true, false, Option, Some, None, List, [], length, take, replicate}
 use Rattle.morsel_meaning.specs.declared.value.Field.{Field}
 use Rattle.morsel_meaning.specs.Values.{Row, kinds_of}
-use Rattle.morsel_text.specs.Options.{standard}
-use Rattle.morsel_text.specs.Cells.{Cell}
-use Rattle.morsel_text.specs.Rows.{mark_len, unmarked}
-use Rattle.morsel_text.specs.Reading.{Refusal}
-use Rattle.morsel_text.specs.GrammarRows.{RowsOfGrammar, HasRowAt}
+use Rattle.morsel_grammar.specs.Options.{standard}
+use Rattle.morsel_grammar.specs.Cells.{Cell}
+use Rattle.morsel_grammar.specs.Rows.{mark_len, unmarked}
+use Rattle.morsel_grammar.specs.Reading.{Refusal}
+use Rattle.morsel_grammar.specs.GrammarRows.{RowsOfGrammar, HasRowAt}
 use Rattle.morsel_engine.specs.Scan.{is_compressed, row_limit}
 
 -- rows of all columns up to the end of a file, or up to a record that is refused; the first record behind the mark is the header

@@ -1,5 +1,5 @@
 -- What a run of a scan answers, why, and what it leaves.
-use Rattle.std.specs.Prelude.{◌≡◌, ◌⊎◌, ℕ, ◌+◌, ◌<◌, ◌≤◌, Bool, ◌&&◌, ◌==◌, nat_lt, if◌then◌else◌, Option, Some, None, Result, Ok, Err, List, [], ◌∷◌, ◌++◌, length, take, get_or}
+use Rattle.std.specs.Prelude.{◌≡◌, ◌⊎◌, ℕ, ◌+◌, ◌<◌, ◌≤◌, ◌&&◌, ◌==◌, nat_lt, if◌then◌else◌, Option, Some, None, Result, Ok, Err, List, [], ◌∷◌, ◌++◌, length, take, get_or}
 use Rattle.morsel_meaning.specs.declared.fault.Fault.{Fault}
 use Rattle.morsel_meaning.specs.declared.fault.Fault.TheVariants.{OutOfMemory, ReadFault, WriteFault, Malformed}
 use Rattle.morsel_meaning.specs.declared.value.Field.{Field}
@@ -7,7 +7,7 @@ use Rattle.morsel_meaning.specs.Values.{Row, names_of}
 use Rattle.morsel_meaning.specs.Outside.{Outside, Event, Asked, Open, Make, with_last, with_sink}
 use Rattle.morsel_meaning.specs.Calls.{Rises}
 use Rattle.morsel_meaning.specs.Asks.{Gains, times_asked}
-use Rattle.morsel_text.specs.Ndjson.{ndjson}
+use Rattle.morsel_ndjson.specs.Ndjson.{ndjson}
 use Rattle.morsel_engine.specs.FileRows.{ScansFile}
 
 -- a scan of one CSV file into NDJSON

@@ -1,13 +1,13 @@
 -- What stands behind each stage of a run: what the calls to the outside left, and what stayed as it was.
-use Rattle.std.specs.Prelude.{◌≡◌, ℕ, ◌+◌, ◌≤◌, Option, Some, None, Result, Ok, Err, List, [], ◌∷◌, ◌++◌, length, take, get_or}
+use Rattle.std.specs.Prelude.{◌≡◌, ℕ, ◌+◌, ◌≤◌, Option, Result, Ok, Err, List, [], ◌∷◌, ◌++◌, length, take, get_or}
 use Rattle.morsel_meaning.specs.declared.fault.Fault.{Fault}
 use Rattle.morsel_meaning.specs.declared.fault.Fault.TheVariants.{OutOfMemory, ReadFault, WriteFault}
 use Rattle.morsel_meaning.specs.declared.io.FileNo.{FileNo}
-use Rattle.morsel_meaning.specs.Outside.{Outside, Event, ReadAt, Wrote, Asked, Open, Make, with_last, with_piece, with_sink, IsSized}
+use Rattle.morsel_meaning.specs.Outside.{Outside, Event, ReadAt, Wrote, Open, Make, with_last, with_piece, with_sink}
 use Rattle.morsel_meaning.specs.Calls.{Rises, Holds, Opened}
 use Rattle.morsel_meaning.specs.Asks.{Gains}
 use Rattle.morsel_meaning.specs.Values.{Table, names_of}
-use Rattle.morsel_text.specs.Ndjson.{ndjson}
+use Rattle.morsel_ndjson.specs.Ndjson.{ndjson}
 
 -- a file was opened, or the opening failed
 abbrev pub OpensSource : Outside → List ℕ → Result FileNo Fault → Outside → Type 0

@@ -2,7 +2,7 @@
 ghost use Rattle.std.specs.Prelude.{◌≡◌, ◌<◌, OnOk, IsOkUnless};
 ghost use Rattle.morsel_meaning.specs.Values.{names_of};
 ghost use Rattle.morsel_frame.specs.Tables.{rows_between};
-ghost use Rattle.morsel_text.specs.Ndjson.{ndjson};
+ghost use Rattle.morsel_ndjson.specs.Ndjson.{ndjson};
 ghost use Rattle.morsel_engine.specs.Stages.{WritesText, WritesTable};
 
 use crate::outside::write_part;

@@ -9,7 +9,7 @@ use Rattle.morsel_meaning.specs.Faults.{fault_line, fault_status, fault_number}
 use Rattle.morsel_meaning.specs.Values.{Row, names_of}
 use Rattle.morsel_meaning.specs.Outside.{Outside, with_last}
 use Rattle.morsel_meaning.specs.Calls.{Rises}
-use Rattle.morsel_text.specs.Ndjson.{ndjson}
+use Rattle.morsel_ndjson.specs.Ndjson.{ndjson}
 use Rattle.morsel_engine.specs.Scan.{Scan, scan_of}
 use Rattle.morsel_engine.specs.Run.{Query, OpensOne, Runs, Answers, HasCause, MadeSome, AsksSome, Reads, Keeps, HasRows, IsFrontOfText}
 use Rattle.morsel_prog.specs.Words.{Command, Scan as Scans}

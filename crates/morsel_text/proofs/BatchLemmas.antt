@@ -1,27 +1,27 @@
 -- Many records at once: their rows, and the columns that hold these.
-use Rattle.std.proofs.Common.{◌≡◌, ◌≢◌, ℕ, zero, suc, ◌+◌, ◌-◌, ◌<◌, ◌≤◌, ◌∙◌, sym, ap, refl, arith, subst, Bool, true, false, List, [], ◌∷◌, ◌++◌, length, take, drop, set, get_or, map, replicate, append_assoc, length-append}
-use Rattle.std.proofs.lemmas.List.{append-nil, drop_more, drop_all, take_all, take_more, take_more_set, drop-set-lt, length-replicate, length-map, get_or_default}
+use Rattle.std.proofs.Common.{◌≡◌, ◌≢◌, ℕ, zero, suc, ◌+◌, ◌-◌, ◌<◌, ◌≤◌, ◌∙◌, sym, ap, refl, arith, subst, Bool, true, false, List, [], ◌∷◌, ◌++◌, length, take, map, replicate, append_assoc}
+use Rattle.std.proofs.lemmas.List.{append-nil, length-replicate}
 use Rattle.std.proofs.lemmas.Str.{is_utf8-from_IsUtf8}
-use Rattle.std.specs.Prelude.{Option, Some, None, IsUtf8}
+use Rattle.std.specs.Prelude.{Option, Some, IsUtf8}
 use Rattle.std.specs.Str.{is_utf8}
 use Rattle.morsel_meaning.specs.declared.ColType.{ColType}
 use Rattle.morsel_meaning.specs.declared.Value.{Value}
 use Rattle.morsel_meaning.specs.Values.{Row}
 use Rattle.morsel_frame.specs.Columns.{Values}
-use Rattle.morsel_text.specs.Options.{Options, AreOptions}
-use Rattle.morsel_text.specs.Grammar.{CsvField, CsvRecord, Fields, IsRecord}
-use Rattle.morsel_text.specs.Cells.{Cell, Held, Bad, cell_of}
-use Rattle.morsel_text.specs.Rows.{RowOf, IsRow, is_empty, cells_of, row_of, row_or_misfit}
-use Rattle.morsel_text.specs.Split.{record_at}
-use Rattle.morsel_text.specs.Reading.{Read, used_values, chosen}
+use Rattle.morsel_grammar.specs.Options.{Options, AreOptions}
+use Rattle.morsel_grammar.specs.Grammar.{CsvField, CsvRecord, Fields, IsRecord}
+use Rattle.morsel_grammar.specs.Cells.{Cell, Held, cell_of}
+use Rattle.morsel_grammar.specs.Rows.{IsRow, is_empty, cells_of, row_of, row_or_misfit}
+use Rattle.morsel_grammar.specs.Split.{record_at}
+use Rattle.morsel_grammar.specs.Reading.{Read, used_values, chosen}
 use Rattle.morsel_text.specs.RawFields.{shown}
-use Rattle.morsel_text.specs.Pushes.{AreTexts, column_kinds, with_row, with_cell}
-use Rattle.morsel_text.specs.Steps.{left, row_first}
+use Rattle.morsel_text.specs.Pushes.{AreTexts, column_kinds, with_row}
+use Rattle.morsel_text.specs.Steps.{left}
 use Rattle.morsel_text.specs.Batches.{spread, spread_all, SplitsRows, AreTextColumns, IsColumnOf, AreMade, appended}
 use Rattle.morsel_text.specs.declared.split.RawField.{RawField}
-use Rattle.morsel_text.proofs.RecordLemmas.{IsFound, record_at-read}
-use Rattle.morsel_text.proofs.FirstRecordLemmas.{IsTaken, record_taken, bytes_taken, utf8_parts}
-use Rattle.morsel_text.proofs.StepLemmas.{ReadSo, read_more, row_steps, row_read, length-with_row, kinds-with_row}
+use Rattle.morsel_grammar.proofs.RecordLemmas.{IsFound, record_at-read}
+use Rattle.morsel_grammar.proofs.FirstRecordLemmas.{record_taken, bytes_taken, utf8_parts}
+use Rattle.morsel_text.proofs.StepLemmas.{ReadSo, read_more, row_steps, row_read, length-with_row}
 
 -- ---- one row more
 

@@ -1,22 +1,21 @@
 -- The steps by which a batch is split, made and appended.
-use Rattle.std.proofs.Common.{◌≡◌, ◌≢◌, ℕ, zero, suc, ◌+◌, ◌-◌, ◌<◌, ◌≤◌, ◌∙◌, sym, ap, refl, arith, subst, Bool, true, false, List, [], ◌∷◌, ◌++◌, length, take, drop, set, get_or, map, replicate, append_assoc, length-append}
-use Rattle.std.proofs.lemmas.List.{append-nil, drop_more, take_all, take_more, take_more_set, drop-set-lt, length-replicate, map-append, get_or_default}
-use Rattle.std.specs.Prelude.{Option, Some, None, IsUtf8}
+use Rattle.std.proofs.Common.{◌≡◌, ℕ, zero, suc, ◌+◌, ◌-◌, ◌<◌, ◌≤◌, ◌∙◌, sym, ap, refl, arith, subst, Bool, true, false, List, [], ◌∷◌, ◌++◌, length, take, drop, set, get_or, map, append_assoc, length-append}
+use Rattle.std.proofs.lemmas.List.{append-nil, drop_more, take_all, take_more, take_more_set, drop-set-lt, map-append}
+use Rattle.std.specs.Prelude.{Option, Some}
 use Rattle.std.specs.List.{slice_range}
 use Rattle.morsel_meaning.specs.declared.ColType.{ColType}
 use Rattle.morsel_meaning.specs.declared.Value.{Value}
 use Rattle.morsel_frame.specs.Columns.{Values}
-use Rattle.morsel_text.specs.Options.{Options, AreOptions}
-use Rattle.morsel_text.specs.Grammar.{Fields}
-use Rattle.morsel_text.specs.Cells.{Cell, Held, Bad, cell_of}
-use Rattle.morsel_text.specs.Rows.{is_empty}
-use Rattle.morsel_text.specs.Split.{record_at}
+use Rattle.morsel_grammar.specs.Options.{Options}
+use Rattle.morsel_grammar.specs.Grammar.{Fields}
+use Rattle.morsel_grammar.specs.Cells.{Cell, Held, Bad, cell_of}
+use Rattle.morsel_grammar.specs.Rows.{is_empty}
+use Rattle.morsel_grammar.specs.Split.{record_at}
 use Rattle.morsel_text.specs.RawFields.{shown}
 use Rattle.morsel_text.specs.Pushes.{AreTexts, column_kinds, with_cell}
 use Rattle.morsel_text.specs.Batches.{spread, spread_all, SplitsBatch, AreTextColumns, IsColumnOf, AreMade, appended}
 use Rattle.morsel_text.specs.declared.split.RawField.{RawField}
-use Rattle.morsel_text.proofs.TextLemmas.{record_texts}
-use Rattle.morsel_text.proofs.BatchLemmas.{splits_more, spread_more, text_behind, length-spread}
+use Rattle.morsel_text.proofs.BatchLemmas.{splits_more, spread_more, length-spread}
 
 -- a record more is split off
 pub batch_more : (o : Options) (text rest behind : List ℕ) (old columns new : List (List RawField)) (rows : ℕ) (fields : List RawField) → SplitsBatch o text old (rest, rows) columns

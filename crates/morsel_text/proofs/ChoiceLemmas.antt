@@ -1,10 +1,10 @@
 -- The entries of the used columns, one after another.
-use Rattle.std.proofs.Common.{◌≡◌, ℕ, zero, suc, ◌+◌, ◌<◌, ◌≤◌, ◌∙◌, sym, ap, refl, arith, Bool, true, false, List, [], ◌∷◌, ◌++◌, length, drop, set, get_or, append_assoc}
-use Rattle.std.proofs.lemmas.List.{drop_more, drop_all, append-nil, drop-set-lt}
-use Rattle.std.specs.Prelude.{Option, Some, None, slice_get}
+use Rattle.std.proofs.Common.{◌≡◌, ℕ, zero, suc, ◌+◌, ◌<◌, ◌≤◌, ◌∙◌, sym, ap, refl, Bool, true, false, List, [], ◌∷◌, ◌++◌, length, drop, get_or, append_assoc}
+use Rattle.std.proofs.lemmas.List.{drop_more, drop_all, append-nil}
+use Rattle.std.specs.Prelude.{Some, slice_get}
 use Rattle.morsel_meaning.specs.declared.Field.{Field}
 use Rattle.morsel_frame.specs.Columns.{Values}
-use Rattle.morsel_text.specs.Reading.{chosen}
+use Rattle.morsel_grammar.specs.Reading.{chosen}
 use Rattle.morsel_text.specs.Steps.{empty_columns}
 
 pub got : {A : Type 0} (xs : List A) (i : ℕ) (x : A) → slice_get xs i ≡ Some x → get_or xs i x ≡ x

@@ -1,13 +1,13 @@
 -- A column of numbers with a cell more.
-use Rattle.std.proofs.Common.{◌≡◌, ℕ, ℤ, ◌+◌, ◌<◌, ◌∙◌, sym, ap, refl, arith, subst, Bool, true, false, List, [], ◌∷◌, ◌++◌, suc, length, length-append, take, get_or, map}
+use Rattle.std.proofs.Common.{◌≡◌, ℕ, ℤ, ◌+◌, ◌<◌, ◌∙◌, sym, ap, refl, arith, subst, Bool, List, [], ◌∷◌, ◌++◌, suc, length, length-append, take, get_or, map}
 use Rattle.std.proofs.lemmas.List.{take_more, map-append}
 use Rattle.std.specs.Prelude.{if◌then◌else◌}
 use Rattle.morsel_meaning.specs.declared.ColType.TheVariants as types
 use Rattle.morsel_meaning.specs.declared.Value.{Value}
 use Rattle.morsel_meaning.specs.declared.Value.TheVariants as values
 use Rattle.morsel_frame.specs.Columns.{Values, masked}
-use Rattle.morsel_text.specs.Options.{Options}
-use Rattle.morsel_text.specs.Cells.{Cell, Held, cell_of}
+use Rattle.morsel_grammar.specs.Options.{Options}
+use Rattle.morsel_grammar.specs.Cells.{Cell, Held, cell_of}
 use Rattle.morsel_text.specs.RawFields.{shown}
 use Rattle.morsel_text.specs.Batches.{IsColumnOf}
 use Rattle.morsel_text.specs.declared.split.RawField.{RawField}

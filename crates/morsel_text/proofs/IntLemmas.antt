@@ -10,7 +10,7 @@ use Rattle.std.specs.Int.{w64, IsInRange}
 use Rattle.std.specs.Result.{result_ok, OkIff}
 use Rattle.std.specs.Str.{all_ascii_digits}
 use Rattle.std.specs.Str.Parse.{digits_value, ParsesSigned}
-use Rattle.morsel_text.specs.Cells.{number_below, short_number, signed, int_of}
+use Rattle.morsel_grammar.specs.Cells.{number_below, short_number, signed, int_of}
 
 own : IsNumeralModel (λ ds. all_ascii_digits ds ≡ true) (digits_value 10)
 own = numerals_by_value (λ ds. all_ascii_digits ds ≡ true) tells_all_ascii_digits

@@ -1,11 +1,11 @@
 -- What 16 bytes at once tell.
-use Rattle.std.proofs.Common.{◌≡◌, ◌⊎◌, inl, inr, refl, ℕ, ◌+◌, ◌<◌, ◌≤◌, ◌∙◌, sym, ap, arith, Bool, true, false, not, ◌||◌, ◌==◌, List, length, get_or, take, drop}
+use Rattle.std.proofs.Common.{◌≡◌, ◌⊎◌, inl, inr, refl, ℕ, ◌+◌, ◌<◌, ◌≤◌, sym, arith, Bool, true, false, not, ◌||◌, ◌==◌, List, length, get_or, take, drop}
 use Rattle.std.proofs.lemmas.Simd.{run_in_chunk_le, run_in_chunk_fails, run_in_chunk_stops}
 use Rattle.std.proofs.lemmas.Bool.{cases_lt}
 use Rattle.std.specs.List.{prefix_len}
 use lib.Lanes.{chunk}
-use Rattle.morsel_text.specs.Options.{Options}
-use Rattle.morsel_text.specs.Split.{stops, plain_at}
+use Rattle.morsel_grammar.specs.Options.{Options}
+use Rattle.morsel_grammar.specs.Split.{stops, plain_at}
 use Rattle.morsel_text.specs.RawFields.{PassedTo, IsRun}
 use Rattle.morsel_text.proofs.SplitLemmas.{plain_stop}
 

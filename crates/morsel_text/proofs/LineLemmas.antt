@@ -9,9 +9,9 @@ use Rattle.std.specs.Int.{bit_at, trailing_zeros, w64}
 use Rattle.std.specs.Int.Count.{trailing_of_zero}
 use Rattle.std.specs.Prelude.{Option, Some, if◌then◌else◌}
 use lib.Lanes.{mask_l}
-use Rattle.morsel_text.specs.Options.{Options, AreOptions}
-use Rattle.morsel_text.specs.Grammar.{CsvField}
-use Rattle.morsel_text.specs.Split.{is_quote, stops, plain_at, plain_field, field_at, last_field, ended, with_field, fields_then, fields_up_to}
+use Rattle.morsel_grammar.specs.Options.{Options, AreOptions}
+use Rattle.morsel_grammar.specs.Grammar.{CsvField}
+use Rattle.morsel_grammar.specs.Split.{is_quote, stops, plain_at, plain_field, field_at, last_field, ended, with_field, fields_then, fields_up_to}
 use Rattle.morsel_text.specs.RawFields.{PassedTo, with_front}
 use Rattle.morsel_text.specs.Lines.{IsPlainLine, Marks}
 use Rattle.morsel_text.proofs.SplitLemmas.{plain_stop, with_front-field}

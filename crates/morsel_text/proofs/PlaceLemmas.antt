@@ -1,19 +1,18 @@
 -- What records are to the rows, and what passing one leaves to be read.
-use Rattle.std.proofs.Common.{◌≡◌, ℕ, zero, suc, ◌+◌, ◌-◌, ◌<◌, ◌∙◌, sym, ap, refl, arith, Bool, true, false, not, List, [], ◌∷◌, length, take, map}
-use Rattle.std.specs.Prelude.{Option, Some, None, if◌then◌else◌}
+use Rattle.std.proofs.Common.{◌≡◌, ℕ, suc, ◌+◌, ◌-◌, ◌<◌, ◌∙◌, sym, ap, refl, arith, Bool, true, false, List, [], ◌∷◌, length, take}
+use Rattle.std.specs.Prelude.{Option, Some, None}
 use Rattle.std.specs.Str.{is_utf8}
 use Rattle.morsel_meaning.specs.declared.ColType.{ColType}
 use Rattle.morsel_meaning.specs.declared.Value.TheVariants as values
-use Rattle.morsel_text.specs.Options.{Options}
-use Rattle.morsel_text.specs.Grammar.{CsvField, CsvRecord, Comment, Fields}
-use Rattle.morsel_text.specs.Cells.{Cell, Held, cell_of}
-use Rattle.morsel_text.specs.Rows.{RowOf, NoRow, IsRow, Misfit, is_empty, cells_of, row_or_misfit, row_of_nothing, row_of, is_header}
-use Rattle.morsel_text.specs.Split.{record_at}
-use Rattle.morsel_text.specs.Reading.{Reading, Malformed, NotUtf8, refuses, with_cells, row_then, record_then, split_then, reading_up_to}
-use Rattle.morsel_text.specs.RowPlaces.{row_place, IsKind}
-use Rattle.morsel_text.specs.declared.place.RowKind.{RowKind}
+use Rattle.morsel_grammar.specs.Options.{Options}
+use Rattle.morsel_grammar.specs.Grammar.{CsvField, CsvRecord, Fields}
+use Rattle.morsel_grammar.specs.Cells.{Cell, Held, cell_of}
+use Rattle.morsel_grammar.specs.Rows.{RowOf, IsRow, is_empty, cells_of, row_or_misfit, row_of_nothing, row_of}
+use Rattle.morsel_grammar.specs.Split.{record_at}
+use Rattle.morsel_grammar.specs.Reading.{Reading, with_cells, row_then, reading_up_to, row_place}
+use Rattle.morsel_text.specs.RowPlaces.{IsKind}
 use Rattle.morsel_text.specs.declared.place.RowKind.TheVariants as kinds
-use Rattle.morsel_text.proofs.StepLemmas.{left_some, left_record, head_reading, row_reading}
+use Rattle.morsel_text.proofs.StepLemmas.{row_reading}
 
 nothing_row : (ks : List ColType) → length ks ≡ 1 → (cells : List Cell) × (row_of_nothing ks ≡ IsRow cells)
 nothing_row [] one = absurd (omega arith)

@@ -12,13 +12,13 @@ use Rattle.morsel_meaning.specs.declared.Field.{Field}
 use Rattle.morsel_meaning.specs.Values.{Row, IsOfType, FitsRow, kinds_of}
 use Rattle.morsel_frame.specs.Columns.{Values}
 use Rattle.morsel_frame.specs.Frames.{rows_of, Fit}
-use Rattle.morsel_text.specs.Options.{Options}
-use Rattle.morsel_text.specs.Grammar.{CsvField, CsvRecord, Fields}
-use Rattle.morsel_text.specs.Cells.{Cell, Held, Bad, int_value, bool_value, int_of, bool_of, value_of, cell_or_bad, cell_of}
-use Rattle.morsel_text.specs.Rows.{NoRow, IsRow, is_empty, cells_of, row_or_misfit, row_of_nothing, row_of}
-use Rattle.morsel_text.specs.Split.{with_field, fields_then, fields_up_to, field_at, record_at}
-use Rattle.morsel_text.specs.Reading.{Read, ends, read_of, used_values, chosen}
-use Rattle.morsel_text.specs.Results.{IsRefused}
+use Rattle.morsel_grammar.specs.Options.{Options}
+use Rattle.morsel_grammar.specs.Grammar.{CsvField, CsvRecord, Fields}
+use Rattle.morsel_grammar.specs.Cells.{Cell, Held, Bad, int_value, bool_value, int_of, bool_of, value_of, cell_or_bad, cell_of}
+use Rattle.morsel_grammar.specs.Rows.{NoRow, IsRow, is_empty, cells_of, row_or_misfit, row_of_nothing, row_of}
+use Rattle.morsel_grammar.specs.Split.{with_field, fields_then, fields_up_to, field_at, record_at}
+use Rattle.morsel_grammar.specs.Reading.{Read, ends, read_of, used_values, chosen}
+use Rattle.morsel_grammar.specs.Results.{IsRefused}
 use Rattle.morsel_text.specs.Pushes.{column_kinds, with_row}
 use Rattle.morsel_text.specs.Steps as steps
 use Rattle.morsel_text.specs.Steps.{left, row_first, AreHigh, empty_columns}

@@ -1,17 +1,17 @@
 -- Rows of fields in columns, one field after another.
-use Rattle.std.proofs.Common.{◌≡◌, ◌≢◌, ℕ, zero, suc, ◌+◌, ◌-◌, ◌<◌, ◌≤◌, ◌∙◌, sym, ap, refl, arith, Bool, true, false, List, [], ◌∷◌, ◌++◌, length, take, drop, set, get_or, map, add-one, subst}
-use Rattle.std.proofs.lemmas.List.{drop_more, drop_all, take_all, append-nil, take_more, take_more_set, drop-set-lt, append_assoc, get_or-map, get_or_default, length-map}
+use Rattle.std.proofs.Common.{◌≡◌, ℕ, zero, suc, ◌+◌, ◌<◌, ◌∙◌, sym, ap, refl, arith, Bool, true, false, List, [], ◌∷◌, ◌++◌, length, take, drop, set, get_or, map, subst}
+use Rattle.std.proofs.lemmas.List.{drop_more, take_more, take_more_set, drop-set-lt, append_assoc, get_or-map, get_or_default, length-map}
 use Rattle.std.specs.Prelude.{Option, Some, None, IsUtf8}
 use Rattle.morsel_frame.specs.Columns.{Values}
-use Rattle.morsel_text.specs.Options.{Options}
-use Rattle.morsel_text.specs.Grammar.{CsvField, Fields}
+use Rattle.morsel_grammar.specs.Options.{Options}
+use Rattle.morsel_grammar.specs.Grammar.{CsvField, Fields}
 use Rattle.morsel_meaning.specs.declared.ColType.TheVariants as types
 use Rattle.morsel_meaning.specs.declared.Value.{Value}
 use Rattle.morsel_meaning.specs.declared.Value.TheVariants as values
 use Rattle.morsel_meaning.specs.Values.{Row}
-use Rattle.morsel_text.specs.Cells.{Cell, Held, Bad, cell_of}
-use Rattle.morsel_text.specs.Rows.{RowOf, NoRow, IsRow, Misfit, is_empty, cells_of, row_or_misfit, row_of, row_of_nothing}
-use Rattle.morsel_text.specs.Reading.{used_values, chosen}
+use Rattle.morsel_grammar.specs.Cells.{Cell, Held, Bad, cell_of}
+use Rattle.morsel_grammar.specs.Rows.{RowOf, NoRow, is_empty, cells_of, row_or_misfit, row_of, row_of_nothing}
+use Rattle.morsel_grammar.specs.Reading.{used_values, chosen}
 use Rattle.morsel_text.specs.declared.rows.RowPushed.{RowPushed}
 use Rattle.morsel_text.specs.declared.rows.RowPushed.TheVariants as rows
 use Rattle.morsel_text.specs.RawFields.{shown}

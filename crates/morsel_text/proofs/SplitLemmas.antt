@@ -1,17 +1,15 @@
 -- How splitting goes on from one byte to the next.
-use Rattle.std.proofs.Common.{◌≡◌, ◌≢◌, ℕ, zero, suc, ◌+◌, ◌-◌, ◌<◌, ◌≤◌, ◌∙◌, sym, ap, refl, arith, Bool, true, false, not, ◌&&◌, ◌||◌, ◌==◌, cond, List, [], ◌∷◌, ◌++◌, length, take, drop, get_or, map, append_assoc, add-one}
+use Rattle.std.proofs.Common.{◌≡◌, ◌≢◌, ℕ, zero, suc, ◌+◌, ◌-◌, ◌<◌, ◌≤◌, ◌∙◌, sym, ap, refl, arith, Bool, true, false, ◌==◌, List, [], ◌∷◌, ◌++◌, length, take, drop, get_or, map, append_assoc}
 use Rattle.std.proofs.lemmas.Bool.{eq-eqb}
-use Rattle.std.proofs.lemmas.Bool.Decides.{Decides-eqb, not_from_Decides, same_from_decides}
-use Rattle.std.proofs.lemmas.List.{append-nil, map_push}
-use Rattle.std.specs.Prelude.{Option, Some, None, if◌then◌else◌}
-use Rattle.memchr.specs.Find.{IsFirstByte, is_byte}
-use Rattle.morsel_text.specs.Options.{Options}
-use Rattle.morsel_text.specs.Grammar.{CsvField, CsvRecord, Comment}
-use Rattle.morsel_text.specs.Split.{stops, plain_at, with_byte, quoted_at, field_at, last_field, without_return, ended, line_at, behind_front, with_field, fields_then, fields_up_to, comment_body, comment_record, record_then_fields, record_at}
-use Rattle.morsel_text.specs.RawFields.{PassedTo, begins, content_of, shown, rest_of, next_of, with_front}
+use Rattle.std.proofs.lemmas.Bool.Decides.{Decides-eqb}
+use Rattle.std.proofs.lemmas.List.{map_push}
+use Rattle.std.specs.Prelude.{Option, Some, None}
+use Rattle.morsel_grammar.specs.Options.{Options}
+use Rattle.morsel_grammar.specs.Grammar.{CsvField, CsvRecord, Comment}
+use Rattle.morsel_grammar.specs.Split.{stops, plain_at, with_byte, quoted_at, field_at, last_field, without_return, line_at, behind_front, with_field, fields_then, fields_up_to, comment_body, record_then_fields, record_at, begins}
+use Rattle.morsel_text.specs.RawFields.{PassedTo, shown, next_of, with_front}
 use Rattle.morsel_text.specs.declared.split.RawField.{RawField}
 use Rattle.morsel_text.specs.declared.split.Next.{Next}
-use Rattle.morsel_text.specs.declared.split.Next.TheVariants as nexts
 
 plain_first : (o : Options) (b : ℕ) (bs : List ℕ) → stops o b ≡ false → plain_at o (b ∷ bs) ≡ (b ∷ (plain_at o bs).0, (plain_at o bs).1)
 plain_first o b bs goes = rw goes

@@ -1,28 +1,26 @@
 -- What one record more makes of reading.
-use Rattle.std.proofs.Common.{◌≡◌, ◌≢◌, ℕ, zero, suc, ◌+◌, ◌-◌, ◌<◌, ◌≤◌, ◌∙◌, sym, ap, refl, arith, subst, Bool, true, false, not, List, [], ◌∷◌, ◌++◌, length, take, map, replicate, append_assoc, length-append}
-use Rattle.std.proofs.lemmas.List.{replicate_more, length-replicate, nil_from_length, append-nil}
-use Rattle.std.specs.Prelude.{Option, Some, None, Result, Ok, Err, if◌then◌else◌}
+use Rattle.std.proofs.Common.{◌≡◌, ℕ, suc, ◌+◌, ◌-◌, ◌<◌, ◌≤◌, ◌∙◌, sym, ap, refl, arith, subst, Bool, true, false, not, List, [], ◌∷◌, ◌++◌, length, take, map, append_assoc, length-append}
+use Rattle.std.proofs.lemmas.List.{replicate_more, length-replicate, nil_from_length}
+use Rattle.std.specs.Prelude.{Option, Some, None, if◌then◌else◌}
 use Rattle.std.specs.Str.{is_utf8}
 use Rattle.morsel_meaning.specs.declared.ColType.{ColType}
-use Rattle.morsel_meaning.specs.declared.ComputeKind.TheVariants as kinds
 use Rattle.morsel_meaning.specs.declared.Fault.{Fault}
-use Rattle.morsel_meaning.specs.declared.Fault.TheVariants as faults
 use Rattle.morsel_meaning.specs.declared.Value.{Value}
 use Rattle.morsel_meaning.specs.declared.Field.{Field}
 use Rattle.morsel_meaning.specs.Values.{Row, kinds_of}
 use Rattle.morsel_frame.specs.Columns.{Values}
 use Rattle.morsel_frame.specs.Frames.{with_column, rows_of, Fit}
-use Rattle.morsel_text.specs.Options.{Options}
-use Rattle.morsel_text.specs.Grammar.{CsvField, CsvRecord, Comment, Fields}
-use Rattle.morsel_text.specs.Cells.{Cell}
-use Rattle.morsel_text.specs.Rows.{RowOf, NoRow, IsRow, Misfit, is_empty, row_of, is_header}
-use Rattle.morsel_text.specs.Split.{record_at}
-use Rattle.morsel_text.specs.Reading.{Reading, Read, Refusal, Flaw, Malformed, NotUtf8, IllTyped, ends, refuses, row_then, record_then, split_then, reading_up_to, read_of, used_values, chosen}
-use Rattle.morsel_text.specs.Results.{IsRefused, refusal_fault}
+use Rattle.morsel_grammar.specs.Options.{Options}
+use Rattle.morsel_grammar.specs.Grammar.{CsvRecord, Fields}
+use Rattle.morsel_grammar.specs.Cells.{Cell}
+use Rattle.morsel_grammar.specs.Rows.{RowOf, IsRow, row_of, is_header}
+use Rattle.morsel_grammar.specs.Split.{record_at}
+use Rattle.morsel_grammar.specs.Reading.{Reading, Read, Refusal, NotUtf8, refuses, row_then, record_then, split_then, reading_up_to, read_of, used_values, chosen}
+use Rattle.morsel_grammar.specs.Results.{IsRefused}
 use Rattle.morsel_text.specs.RawFields.{shown}
 use Rattle.morsel_text.specs.declared.split.RawField.{RawField}
 use Rattle.morsel_text.specs.Pushes.{column_kinds, with_row}
-use Rattle.morsel_text.specs.Steps.{left, row_first, Gains, AreHigh, ReadsAll, empty_columns}
+use Rattle.morsel_text.specs.Steps.{left, row_first, Gains, AreHigh, empty_columns}
 
 -- a record's row
 pub row_read : (used : List Bool) (at : ℕ) (found : RowOf) (cells : List Cell) (row : Row) → found ≡ IsRow cells → used_values used cells ≡ Some row

@@ -1,13 +1,12 @@
 -- The fields of a record that is text are texts.
-use Rattle.std.proofs.Common.{◌≡◌, ◌≢◌, ℕ, zero, suc, ◌+◌, ◌-◌, ◌<◌, ◌≤◌, ◌∙◌, sym, ap, refl, arith, subst, Bool, true, false, not, ◌&&◌, ◌==◌, List, [], ◌∷◌, ◌++◌, length, take, drop, get_or, append_assoc, length-append, ◌⊎◌, inl, inr, lit<}
+use Rattle.std.proofs.Common.{◌≡◌, ℕ, zero, suc, ◌+◌, ◌-◌, ◌<◌, ◌∙◌, sym, ap, refl, arith, subst, Bool, true, false, not, ◌&&◌, ◌==◌, List, [], ◌∷◌, ◌++◌, length, take, drop, get_or, append_assoc, length-append, ◌⊎◌, inl, inr, lit<}
 use Rattle.std.proofs.lemmas.Bool.{eqb-true, and_parts}
 use Rattle.std.proofs.lemmas.List.{take_at, drop_at, append-nil, get_or_at}
-use Rattle.std.proofs.lemmas.Str.{IsUtf8-append, IsUtf8-nil, IsUtf8-take, IsUtf8-drop, IsCharBoundary-before_ascii, IsCharBoundary-after_ascii, IsUtf8-from_ascii, IsUtf8-encode}
-use Rattle.std.specs.Prelude.{Option, Some, None, if◌then◌else◌, IsUtf8}
-use Rattle.morsel_text.specs.Options.{Options, AreOptions, IsQuoteFor}
-use Rattle.morsel_text.specs.Grammar.{CsvField, CsvRecord, Comment, Fields}
-use Rattle.morsel_text.specs.Split.{is_quote, stops, plain_at, with_byte, quoted_at, in_quotes, field_at, plain_field, without_return, last_field, ended, returned, with_field, fields_then, fields_up_to, comment_body, fields_record, comment_record, line_at, record_then_fields, record_at}
-use Rattle.morsel_text.specs.RawFields.{begins}
+use Rattle.std.proofs.lemmas.Str.{IsUtf8-append, IsUtf8-take, IsUtf8-drop, IsCharBoundary-before_ascii, IsCharBoundary-after_ascii, IsUtf8-from_ascii}
+use Rattle.std.specs.Prelude.{Option, Some, None, IsUtf8}
+use Rattle.morsel_grammar.specs.Options.{Options, AreOptions, IsQuoteFor}
+use Rattle.morsel_grammar.specs.Grammar.{CsvField, CsvRecord, Comment, Fields}
+use Rattle.morsel_grammar.specs.Split.{is_quote, stops, plain_at, with_byte, quoted_at, in_quotes, field_at, plain_field, without_return, last_field, ended, returned, with_field, fields_then, fields_up_to, comment_body, fields_record, line_at, record_then_fields, record_at, begins}
 use Rattle.morsel_text.specs.Pushes.{AreTexts}
 use Rattle.morsel_text.proofs.SplitLemmas.{closed_by, quoted_other, quoted_twice}
 

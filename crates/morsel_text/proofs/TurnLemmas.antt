@@ -4,10 +4,10 @@ use Rattle.std.specs.Prelude.{Option, Some, Result, Ok, Err, IsUtf8}
 use Rattle.morsel_meaning.specs.declared.ColType.{ColType}
 use Rattle.morsel_meaning.specs.Values.{Row}
 use Rattle.morsel_frame.specs.Columns.{Values}
-use Rattle.morsel_text.specs.Options.{Options, AreOptions}
-use Rattle.morsel_text.specs.Grammar.{CsvRecord, Fields, IsRecord}
-use Rattle.morsel_text.specs.Split.{record_at}
-use Rattle.morsel_text.specs.Reading.{Read, read_of}
+use Rattle.morsel_grammar.specs.Options.{Options, AreOptions}
+use Rattle.morsel_grammar.specs.Grammar.{CsvRecord, Fields, IsRecord}
+use Rattle.morsel_grammar.specs.Split.{record_at}
+use Rattle.morsel_grammar.specs.Reading.{Read, read_of}
 use Rattle.morsel_text.specs.Pushes.{column_kinds}
 use Rattle.morsel_meaning.specs.declared.Fault.{Fault}
 use Rattle.morsel_text.specs.Steps.{left, row_first, Gains, StepsTo}
@@ -15,9 +15,9 @@ use Rattle.morsel_text.specs.RawFields.{shown}
 use Rattle.morsel_text.specs.Batches.{spread_all, SplitsRows, AreMade, appended, PutsRows, TurnsTo}
 use Rattle.morsel_text.specs.declared.read.Step.{Step}
 use Rattle.morsel_text.specs.declared.split.RawField.{RawField}
-use Rattle.morsel_text.proofs.RecordLemmas.{IsFound, record_at-read}
-use Rattle.morsel_text.proofs.FirstRecordLemmas.{record_taken, utf8_parts}
-use Rattle.morsel_text.proofs.JoinedLemmas.{reading_up_to-enough}
+use Rattle.morsel_grammar.proofs.RecordLemmas.{IsFound, record_at-read}
+use Rattle.morsel_grammar.proofs.FirstRecordLemmas.{record_taken, utf8_parts}
+use Rattle.morsel_grammar.proofs.JoinedLemmas.{reading_up_to-enough}
 use Rattle.morsel_text.proofs.StepLemmas.{ReadSo, step_more, gains_one}
 use Rattle.morsel_text.proofs.BatchLemmas.{some_bytes, splits_len, columns_by, columns_spread, rows_read}
 

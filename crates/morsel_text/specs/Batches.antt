@@ -3,12 +3,12 @@ use Rattle.std.specs.Prelude.{◌≡◌, ◌⊎◌, ℕ, ◌<◌, Bool, true, fa
 use Rattle.morsel_meaning.specs.declared.ColType.{ColType}
 use Rattle.morsel_meaning.specs.declared.Fault.{Fault}
 use Rattle.morsel_frame.specs.Columns.{Values}
-use Rattle.morsel_text.specs.Options.{Options}
-use Rattle.morsel_text.specs.Grammar.{Fields}
+use Rattle.morsel_grammar.specs.Options.{Options}
+use Rattle.morsel_grammar.specs.Grammar.{Fields}
 use Rattle.morsel_meaning.specs.declared.Value.TheVariants as values
-use Rattle.morsel_text.specs.Cells.{Cell, Held, cell_of}
-use Rattle.morsel_text.specs.Rows.{is_empty}
-use Rattle.morsel_text.specs.Split.{record_at}
+use Rattle.morsel_grammar.specs.Cells.{Cell, Held, cell_of}
+use Rattle.morsel_grammar.specs.Rows.{is_empty}
+use Rattle.morsel_grammar.specs.Split.{record_at}
 use Rattle.morsel_text.specs.RawFields.{shown}
 use Rattle.morsel_text.specs.Pushes.{AreTexts, column_kinds}
 use Rattle.morsel_text.specs.Steps.{StepsTo}

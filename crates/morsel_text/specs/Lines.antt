@@ -1,8 +1,8 @@
 -- A line without quotes, and where the bits of a number tell of its bytes.
 use Rattle.std.specs.Prelude.{◌≡◌, ℕ, ◌<◌, ◌≤◌, ◌==◌, get_or, Bool, true, false, if◌then◌else◌, List, length}
 use Rattle.std.specs.Int.{bit_at}
-use Rattle.morsel_text.specs.Options.{Options}
-use Rattle.morsel_text.specs.Split.{is_quote}
+use Rattle.morsel_grammar.specs.Options.{Options}
+use Rattle.morsel_grammar.specs.Split.{is_quote}
 
 -- so many bytes stand before the first eol byte, and none up to it is a quote
 pub record IsPlainLine (o : Options) (text : List ℕ) (len : ℕ) : Type 0 where

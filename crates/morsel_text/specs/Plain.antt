@@ -1,5 +1,5 @@
 -- What the plain reader's steps find.
-use Rattle.std.specs.Prelude.{◌≡◌, ℕ, suc, ◌+◌, ◌-◌, Bool, false, ◌==◌, Option, Some, None, Result, Ok, Err, List, [], ◌∷◌, ◌++◌, map, length, Vec}
+use Rattle.std.specs.Prelude.{◌≡◌, ℕ, suc, ◌+◌, ◌-◌, Bool, false, Option, Some, None, Result, Ok, Err, List, [], ◌∷◌, ◌++◌, map, length, Vec}
 use Rattle.std.specs.declared.alloc.Global.{Global}
 use Rattle.morsel_meaning.specs.declared.ColType.{ColType}
 use Rattle.morsel_meaning.specs.declared.Value.{Value}
@@ -7,13 +7,13 @@ use Rattle.morsel_meaning.specs.declared.Fault.{Fault}
 use Rattle.morsel_meaning.specs.Values.{Row}
 use Rattle.morsel_frame.specs.Columns.{Values}
 use Rattle.morsel_frame.specs.Frames.{rows_of}
-use Rattle.morsel_text.specs.Options.{Options}
-use Rattle.morsel_text.specs.Grammar.{CsvField, Comment, Fields}
-use Rattle.morsel_text.specs.Cells.{Cell, Held, Bad, cell_of}
-use Rattle.morsel_text.specs.Rows.{RowOf, NoRow, IsRow, Misfit}
-use Rattle.morsel_text.specs.Split.{with_field, ended, record_at}
-use Rattle.morsel_text.specs.Reading.{Reading, Read, row_then, read_of, used_values}
-use Rattle.morsel_text.specs.Results.{IsRefused}
+use Rattle.morsel_grammar.specs.Options.{Options}
+use Rattle.morsel_grammar.specs.Grammar.{CsvField, Comment, Fields}
+use Rattle.morsel_grammar.specs.Cells.{Cell, Held, Bad, cell_of}
+use Rattle.morsel_grammar.specs.Rows.{RowOf, NoRow, IsRow, Misfit}
+use Rattle.morsel_grammar.specs.Split.{with_field, ended, record_at}
+use Rattle.morsel_grammar.specs.Reading.{Reading, Read, row_then, read_of, used_values}
+use Rattle.morsel_grammar.specs.Results.{IsRefused}
 use Rattle.morsel_text.specs.Pushes.{column_kinds}
 use Rattle.morsel_text.specs.Steps.{left, row_first, AreHigh}
 use Rattle.morsel_text.specs.declared.plain.records.PlainFound.{PlainFound}
@@ -25,11 +25,6 @@ use Rattle.morsel_text.specs.declared.plain.records.PlainSplit.TheVariants as sp
 use Rattle.morsel_text.specs.declared.plain.rows.PlainRow.{PlainRow}
 use Rattle.morsel_text.specs.declared.plain.rows.PlainRow.TheVariants as rows
 use Rattle.morsel_text.specs.declared.plain.PlainStep.{PlainStep}
-
--- whether the text begins with this byte
-abbrev pub begins : ℕ → List ℕ → Bool
-begins byte [] = false
-begins byte (b ∷ bs) = b == byte
 
 -- the field that a text begins with, and what stands behind it
 abbrev pub IsFound : Option (CsvField × List ℕ) → PlainFound → Type 0

@@ -1,14 +1,13 @@
 -- What putting cells, and rows of them, into columns makes of the columns.
-use Rattle.std.specs.Prelude.{◌≡◌, ℕ, ◌+◌, Bool, true, false, Option, Some, None, List, [], ◌∷◌, ◌++◌, length, IsUtf8}
+use Rattle.std.specs.Prelude.{◌≡◌, Bool, true, false, Option, Some, None, List, [], ◌∷◌, ◌++◌, length, IsUtf8}
 use Rattle.morsel_meaning.specs.declared.ColType.{ColType}
 use Rattle.morsel_meaning.specs.Values.{Row}
-use Rattle.morsel_meaning.specs.declared.Value.TheVariants as values
 use Rattle.morsel_frame.specs.Columns.{Values}
-use Rattle.morsel_text.specs.Options.{Options}
-use Rattle.morsel_text.specs.Grammar.{CsvField, Fields}
-use Rattle.morsel_text.specs.Cells.{Cell, Held, Bad, cell_of}
-use Rattle.morsel_text.specs.Rows.{RowOf, NoRow, IsRow, Misfit, row_of}
-use Rattle.morsel_text.specs.Reading.{chosen, used_values}
+use Rattle.morsel_grammar.specs.Options.{Options}
+use Rattle.morsel_grammar.specs.Grammar.{CsvField}
+use Rattle.morsel_grammar.specs.Cells.{Cell, Held, Bad, cell_of}
+use Rattle.morsel_grammar.specs.Rows.{RowOf, NoRow, IsRow, Misfit}
+use Rattle.morsel_grammar.specs.Reading.{chosen, used_values}
 use Rattle.morsel_text.specs.declared.cells.Pushed.{Pushed}
 use Rattle.morsel_text.specs.declared.cells.Pushed.TheVariants as pushes
 use Rattle.morsel_text.specs.declared.rows.RowPushed.{RowPushed}

@@ -1,5 +1,5 @@
 -- Fields as they stand in a text, what they say, and what the steps of splitting find.
-use Rattle.std.specs.Prelude.{◌≡◌, ◌⊎◌, ℕ, ◌+◌, ◌<◌, ◌≤◌, ◌==◌, ◌||◌, get_or, Bool, true, false, Option, Some, None, List, [], ◌∷◌, ◌++◌, map, length}
+use Rattle.std.specs.Prelude.{◌≡◌, ℕ, ◌+◌, ◌<◌, ◌≤◌, ◌==◌, ◌||◌, get_or, true, false, Option, Some, None, List, [], ◌++◌, map, length}
 use Rattle.std.specs.Borrow.{Bor}
 use Rattle.morsel_text.specs.declared.split.RawField.{RawField}
 use Rattle.morsel_text.specs.declared.split.RawField.TheVariants as raws
@@ -7,9 +7,9 @@ use Rattle.morsel_text.specs.declared.split.Next.{Next}
 use Rattle.morsel_text.specs.declared.split.Next.TheVariants as nexts
 use Rattle.morsel_text.specs.declared.split.Split.{Split}
 use Rattle.morsel_text.specs.declared.split.Split.TheVariants as splits
-use Rattle.morsel_text.specs.Options.{Options}
-use Rattle.morsel_text.specs.Grammar.{CsvField, CsvRecord, Comment, Fields}
-use Rattle.morsel_text.specs.Split.{stops, quoted_at, with_field, ended, fields_then, fields_up_to, record_at}
+use Rattle.morsel_grammar.specs.Options.{Options}
+use Rattle.morsel_grammar.specs.Grammar.{CsvField, Comment, Fields}
+use Rattle.morsel_grammar.specs.Split.{stops, quoted_at, with_field, ended, fields_up_to, record_at}
 
 -- no byte before this place ends an unquoted field
 abbrev pub PassedTo : Options → List ℕ → ℕ → Type 0
@@ -20,11 +20,6 @@ pub record IsRun (a b : ℕ) (text : List ℕ) (at len : ℕ) : Type 0 where
   pub within : len ≤ 16
   pub passed : (k : ℕ) → at ≤ k → k < at + len → (get_or text k 0 == a || get_or text k 0 == b) ≡ false
   pub stopped : len < 16 → (get_or text (at + len) 0 == a || get_or text (at + len) 0 == b) ≡ true
-
--- whether the text begins with this byte
-abbrev pub begins : ℕ → List ℕ → Bool
-begins byte [] = false
-begins byte (b ∷ bs) = b == byte
 
 -- the content of a quoted field
 abbrev pub content_of : Option (List ℕ × List ℕ) → List ℕ

@@ -1,20 +1,14 @@
 -- The places of rows' records, and what passing one record finds.
-use Rattle.std.specs.Prelude.{◌≡◌, ℕ, zero, suc, ◌+◌, ◌-◌, Bool, false, Option, Some, None, List, [], ◌∷◌, length}
+use Rattle.std.specs.Prelude.{◌≡◌, ℕ, suc, ◌+◌, ◌-◌, Bool, false, List, [], length}
 use Rattle.morsel_meaning.specs.declared.value.ColType.{ColType}
-use Rattle.morsel_text.specs.Options.{Options}
-use Rattle.morsel_text.specs.Cells.{Cell}
-use Rattle.morsel_text.specs.Rows.{RowOf, NoRow, IsRow, Misfit}
-use Rattle.morsel_text.specs.Reading.{Reading, with_cells, reading_up_to}
+use Rattle.morsel_grammar.specs.Options.{Options}
+use Rattle.morsel_grammar.specs.Cells.{Cell}
+use Rattle.morsel_grammar.specs.Rows.{RowOf, NoRow, IsRow, Misfit}
+use Rattle.morsel_grammar.specs.Reading.{with_cells, reading_up_to}
 use Rattle.morsel_text.specs.declared.place.RowKind.{RowKind}
 use Rattle.morsel_text.specs.declared.place.RowKind.TheVariants as kinds
 use Rattle.morsel_text.specs.declared.place.Skip.{Skip}
 use Rattle.morsel_text.specs.declared.place.Skip.TheVariants as skips
-
--- the place of the row of this number, counted from 0
-abbrev pub row_place : List (ℕ × List Cell) → ℕ → Option ℕ
-row_place [] row = None
-row_place (r ∷ rows) zero = Some r.0
-row_place (r ∷ rows) (suc row) = row_place rows row
 
 abbrev pub IsKind : RowOf → RowKind → Type 0
 IsKind found kinds.Row = (cells : List Cell) × (found ≡ IsRow cells)

@@ -6,11 +6,10 @@ use Rattle.morsel_meaning.specs.declared.Field.{Field}
 use Rattle.morsel_meaning.specs.Values.{Row}
 use Rattle.morsel_frame.specs.Columns.{Values}
 use Rattle.morsel_frame.specs.Frames.{rows_of, Fit}
-use Rattle.morsel_text.specs.Options.{Options}
-use Rattle.morsel_text.specs.Rows.{RowOf, NoRow, IsRow, Misfit}
-use Rattle.morsel_text.specs.Cells.{Cell}
-use Rattle.morsel_text.specs.Reading.{Reading, Read, Refusal, Flaw, Malformed, NotUtf8, IllTyped, reading_up_to, row_then, read_of, used_values, chosen}
-use Rattle.morsel_text.specs.Results.{IsRefused}
+use Rattle.morsel_grammar.specs.Options.{Options}
+use Rattle.morsel_grammar.specs.Rows.{RowOf}
+use Rattle.morsel_grammar.specs.Reading.{Reading, Read, reading_up_to, row_then, read_of, chosen}
+use Rattle.morsel_grammar.specs.Results.{IsRefused}
 use Rattle.morsel_text.specs.Pushes.{column_kinds, with_row}
 use Rattle.morsel_text.specs.declared.read.Step.{Step}
 use Rattle.morsel_text.specs.declared.read.ColumnsRead.{ColumnsRead}

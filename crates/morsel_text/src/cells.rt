@@ -1,7 +1,7 @@
 //! What texts say under a column's type.
 ghost use Rattle.std.specs.Prelude.{◌≡◌, None, false, IsUtf8};
 ghost use Rattle.morsel_meaning.specs.declared.ColType.TheVariants as types;
-ghost use Rattle.morsel_text.specs.Cells.{short_number, int_of, bool_of, value_of, cell_or_bad, cell_of};
+ghost use Rattle.morsel_grammar.specs.Cells.{short_number, int_of, bool_of, value_of, cell_or_bad, cell_of};
 ghost use Rattle.morsel_text.specs.RawFields.{shown};
 ghost use Rattle.morsel_text.specs.Pushes.{PushesCell};
 

@@ -1,6 +1,6 @@
 //! The columns that are read, and those of them that are used.
 ghost use Rattle.std.specs.Prelude.{◌≡◌, length, IfOk, IsOkUnless};
-ghost use Rattle.morsel_text.specs.Reading.{chosen};
+ghost use Rattle.morsel_grammar.specs.Reading.{chosen};
 ghost use Rattle.morsel_text.specs.Steps.{empty_columns};
 
 use morsel_frame::{ColType, Column, Fault, Field, Schema};

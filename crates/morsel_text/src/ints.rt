@@ -1,7 +1,7 @@
 //! Columns of numbers, made from fields.
 ghost use Rattle.std.specs.Prelude.{◌≡◌, map, IsUtf8};
 ghost use Rattle.morsel_meaning.specs.declared.ColType.TheVariants as types;
-ghost use Rattle.morsel_text.specs.Cells.{value_of, cell_or_bad, cell_of};
+ghost use Rattle.morsel_grammar.specs.Cells.{value_of, cell_or_bad, cell_of};
 ghost use Rattle.morsel_text.specs.RawFields.{shown};
 ghost use Rattle.morsel_text.specs.Pushes.{AreTexts};
 ghost use Rattle.morsel_text.specs.Batches.{IsIntCell, MakesColumn};

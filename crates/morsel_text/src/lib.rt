@@ -1,35 +1,19 @@
-//! Texts: CSV read into frames, and frames written as NDJSON.
+//! Texts: CSV read into frames. The grammar of CSV and the text of NDJSON are given on.
 #![tactic(auto)]
 
 mod batch;
 mod cells;
 mod choice;
 mod ints;
-mod laws;
-mod ndjson;
-mod options;
 mod place;
 mod plain;
 mod read;
 mod rows;
 mod split;
-#[cfg(test)]
-mod tests;
 mod text;
 
-pub use laws::{
-    a_file_of_the_grammar_is_one_that_is_read, a_record_ends_with_an_eol_byte_or_the_text,
-    a_record_takes_bytes, a_row_has_the_place_of_its_record, a_text_begins_with_at_most_one_record,
-    a_text_ends_at_one_place, a_text_is_at_most_one_list_of_records, a_text_is_read_piece_by_piece,
-    a_text_is_split_behind_whole_records, a_text_with_cells_is_read_whole,
-    a_text_with_rows_is_read_whole, open_quotes_are_refused, readers_answer_all_rows,
-    readers_answer_by_the_grammar, reading_gives_the_grammars_cells,
-    reading_gives_the_grammars_rows, so_many_rows_end_at_one_place,
-    used_columns_are_read_piece_by_piece, what_follows_changes_no_record,
-    what_is_not_read_is_no_record, what_is_read_is_what_is_written,
-};
-pub use ndjson::write_ndjson;
-pub use options::CsvOptions;
+pub use morsel_grammar::CsvOptions;
+pub use morsel_ndjson::write_ndjson;
 pub use place::place_of_row;
 pub use plain::read_records_plainly;
 pub use read::read_records;

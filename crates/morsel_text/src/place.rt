@@ -2,12 +2,12 @@
 ghost use Rattle.std.specs.Prelude.{◌≡◌, ◌+◌, ◌<◌, ◌≤◌, ◌^◌, List, length, map, IfOk, IsOkUnless};
 ghost use Rattle.morsel_meaning.specs.declared.value.ColType.{ColType};
 ghost use Rattle.morsel_meaning.specs.Values.{kinds_of};
-ghost use Rattle.morsel_text.specs.Options.{Options};
-ghost use Rattle.morsel_text.specs.Grammar.{Fields};
-ghost use Rattle.morsel_text.specs.Rows.{row_of};
-ghost use Rattle.morsel_text.specs.Reading.{reading};
+ghost use Rattle.morsel_grammar.specs.Options.{Options};
+ghost use Rattle.morsel_grammar.specs.Grammar.{Fields};
+ghost use Rattle.morsel_grammar.specs.Rows.{row_of};
+ghost use Rattle.morsel_grammar.specs.Reading.{reading, row_place};
 ghost use Rattle.morsel_text.specs.RawFields.{shown};
-ghost use Rattle.morsel_text.specs.RowPlaces.{row_place, IsKind, SkipsTo, skip_len};
+ghost use Rattle.morsel_text.specs.RowPlaces.{IsKind, SkipsTo, skip_len};
 
 use crate::CsvOptions;
 use crate::rows::is_empty;

@@ -3,11 +3,11 @@
 //! `records` finds the record that a text begins with, `rows` says which values it gives, and `columns` keeps them.
 ghost use Rattle.std.specs.Prelude.{◌≡◌, ◌+◌, ◌<◌, ◌≤◌, ◌^◌, length, IfOk};
 ghost use Rattle.morsel_meaning.specs.Values.{kinds_of};
-ghost use Rattle.morsel_text.specs.Grammar.{Fields};
-ghost use Rattle.morsel_text.specs.Rows.{row_of};
-ghost use Rattle.morsel_text.specs.Reading.{reading, read_of, chosen};
-ghost use Rattle.morsel_text.specs.Results.{ReadsRecords};
-ghost use Rattle.morsel_text.specs.GrammarResults.{ReadsOfGrammar};
+ghost use Rattle.morsel_grammar.specs.Grammar.{Fields};
+ghost use Rattle.morsel_grammar.specs.Rows.{row_of};
+ghost use Rattle.morsel_grammar.specs.Reading.{reading, read_of, chosen};
+ghost use Rattle.morsel_grammar.specs.Results.{ReadsRecords};
+ghost use Rattle.morsel_grammar.specs.GrammarResults.{ReadsOfGrammar};
 ghost use Rattle.morsel_text.specs.Pushes.{column_kinds, AreTexts};
 ghost use Rattle.morsel_text.specs.Steps.{AreHigh};
 ghost use Rattle.morsel_text.specs.Plain.{RowStepsTo, StepsTo, ReadsAll};

@@ -1,12 +1,12 @@
 //! Reading whole records into a frame.
 ghost use Rattle.std.specs.Prelude.{◌≡◌, ◌+◌, ◌<◌, ◌≤◌, ◌^◌, length, map, IfOk, IsTrue, IsUtf8};
 ghost use Rattle.morsel_meaning.specs.Values.{kinds_of};
-ghost use Rattle.morsel_text.specs.Options.{AreOptions};
-ghost use Rattle.morsel_text.specs.Grammar.{Fields};
-ghost use Rattle.morsel_text.specs.Rows.{row_of};
-ghost use Rattle.morsel_text.specs.Reading.{reading, read_of, chosen};
-ghost use Rattle.morsel_text.specs.Results.{ReadsRecords};
-ghost use Rattle.morsel_text.specs.GrammarResults.{ReadsOfGrammar};
+ghost use Rattle.morsel_grammar.specs.Options.{AreOptions};
+ghost use Rattle.morsel_grammar.specs.Grammar.{Fields};
+ghost use Rattle.morsel_grammar.specs.Rows.{row_of};
+ghost use Rattle.morsel_grammar.specs.Reading.{reading, read_of, chosen};
+ghost use Rattle.morsel_grammar.specs.Results.{ReadsRecords};
+ghost use Rattle.morsel_grammar.specs.GrammarResults.{ReadsOfGrammar};
 ghost use Rattle.morsel_text.specs.RawFields.{shown};
 ghost use Rattle.morsel_text.specs.Pushes.{column_kinds, AreTexts};
 ghost use Rattle.morsel_text.specs.Steps.{RowStepsTo, StepsTo, AreHigh, ReadsAll, ReadsColumns};

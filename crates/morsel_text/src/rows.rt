@@ -1,8 +1,8 @@
 //! Records into rows of columns.
 ghost use Rattle.std.specs.Prelude.{◌≡◌, length, map};
 ghost use Rattle.morsel_text.specs.RawFields.{shown};
-ghost use Rattle.morsel_text.specs.Grammar.{Fields};
-ghost use Rattle.morsel_text.specs.Rows.{is_empty, row_of, row_of_nothing};
+ghost use Rattle.morsel_grammar.specs.Grammar.{Fields};
+ghost use Rattle.morsel_grammar.specs.Rows.{is_empty, row_of, row_of_nothing};
 ghost use Rattle.morsel_text.specs.Pushes.{with_fields, PushesFields, AreTexts, column_kinds, PushesRow};
 
 use crate::CsvOptions;

@@ -1,10 +1,10 @@
 //! Records of a CSV text, split into fields that lend the text.
 ghost use Rattle.std.specs.Prelude.{◌≡◌, ◌==◌, ◌||◌, ◌+◌, not, ◌∷◌, ℕ, ◌<◌, ◌≤◌, false, MatchOption, Option, Some, List, length, take, drop, IfSome, option_copied, OnOk};
 ghost use Rattle.std.specs.List.{prefix_len};
-ghost use Rattle.morsel_text.specs.Options.{AreOptions};
-ghost use Rattle.morsel_text.specs.Grammar.{CsvField};
-ghost use Rattle.morsel_text.specs.Split.{plain_at, quoted_at, in_quotes, field_at, fields_then, returned, last_field, behind_front, line_at};
-ghost use Rattle.morsel_text.specs.RawFields.{IsRun, PassedTo, begins, content_of, shown, shown_found, rest_of, next_of, next_len, FieldsAre, SplitsInto, split_len};
+ghost use Rattle.morsel_grammar.specs.Options.{AreOptions};
+ghost use Rattle.morsel_grammar.specs.Grammar.{CsvField};
+ghost use Rattle.morsel_grammar.specs.Split.{plain_at, quoted_at, in_quotes, field_at, fields_then, returned, last_field, behind_front, line_at, begins};
+ghost use Rattle.morsel_text.specs.RawFields.{IsRun, PassedTo, content_of, shown, shown_found, rest_of, next_of, next_len, FieldsAre, SplitsInto, split_len};
 
 mod line;
 

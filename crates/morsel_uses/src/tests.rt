@@ -5,8 +5,10 @@ use morsel_frame::{ColType, Column, Fault};
 use std::alloc::Global;
 
 mod columns;
+mod csv;
 mod frames;
 mod mem_io;
+mod ndjson;
 mod open_gate;
 mod schemas;
 mod sure_mem_io;

@@ -1,10 +1,10 @@
 //! The record that a text begins with, found byte by byte.
 ghost use Rattle.std.specs.Prelude.{◌≡◌, ◌<◌, ◌≤◌, ◌+◌, ◌∷◌, false, length, take, drop, IfSome, MatchOption, Option, Some, List, ℕ, option_copied};
-ghost use Rattle.morsel_text.specs.Options.{AreOptions};
-ghost use Rattle.morsel_text.specs.Grammar.{CsvField};
-ghost use Rattle.morsel_text.specs.Rows.{is_empty};
-ghost use Rattle.morsel_text.specs.Split.{stops, plain_at, quoted_at, in_quotes, field_at, fields_then, returned, without_return, last_field, fields_up_to, behind_front, line_at};
-ghost use Rattle.morsel_text.specs.Plain.{begins, IsFound, found_len, next_of, next_len, AreFound, SplitsInto, split_len};
+ghost use Rattle.morsel_grammar.specs.Options.{AreOptions};
+ghost use Rattle.morsel_grammar.specs.Grammar.{CsvField};
+ghost use Rattle.morsel_grammar.specs.Rows.{is_empty};
+ghost use Rattle.morsel_grammar.specs.Split.{stops, plain_at, quoted_at, in_quotes, field_at, fields_then, returned, without_return, last_field, fields_up_to, behind_front, line_at, begins};
+ghost use Rattle.morsel_text.specs.Plain.{IsFound, found_len, next_of, next_len, AreFound, SplitsInto, split_len};
 
 use crate::CsvOptions;
 use std::alloc::Global;
@@ -18,7 +18,7 @@ pub struct PlainField {
 }
 
 impl Model for PlainField {
-    ghost use Rattle.morsel_text.specs.Grammar.{CsvField};
+    ghost use Rattle.morsel_grammar.specs.Grammar.{CsvField};
 
     ghost Value = { CsvField };
 

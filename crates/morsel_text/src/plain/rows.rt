@@ -2,10 +2,10 @@
 ghost use Rattle.std.specs.Prelude.{◌≡◌, length, IfOk, IsOkUnless, None, List, IsUtf8};
 ghost use Rattle.morsel_meaning.specs.declared.ColType.{ColType};
 ghost use Rattle.morsel_meaning.specs.Values.{kinds_of};
-ghost use Rattle.morsel_text.specs.Grammar.{Fields};
-ghost use Rattle.morsel_text.specs.Cells.{int_of, bool_of, int_value, bool_value, value_of, cell_or_bad, cell_of};
-ghost use Rattle.morsel_text.specs.Rows.{row_of, row_of_nothing};
-ghost use Rattle.morsel_text.specs.Reading.{used_values};
+ghost use Rattle.morsel_grammar.specs.Grammar.{Fields};
+ghost use Rattle.morsel_grammar.specs.Cells.{int_of, bool_of, int_value, bool_value, value_of, cell_or_bad, cell_of};
+ghost use Rattle.morsel_grammar.specs.Rows.{row_of, row_of_nothing};
+ghost use Rattle.morsel_grammar.specs.Reading.{used_values};
 ghost use Rattle.morsel_text.specs.Pushes.{AreTexts};
 ghost use Rattle.morsel_text.specs.Plain.{cell_in, cells_with, values_in, GivesRow};
 

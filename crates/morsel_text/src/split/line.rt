@@ -1,7 +1,7 @@
 //! A record without quotes that ends within 64 bytes, split by one look at them.
 ghost use Rattle.std.specs.Prelude.{◌≡◌, ◌==◌, ◌<◌, ◌≤◌, ◌+◌, IfSome, length, drop};
-ghost use Rattle.morsel_text.specs.Options.{AreOptions};
-ghost use Rattle.morsel_text.specs.Split.{is_quote};
+ghost use Rattle.morsel_grammar.specs.Options.{AreOptions};
+ghost use Rattle.morsel_grammar.specs.Split.{is_quote};
 ghost use Rattle.morsel_text.specs.RawFields.{FieldsAre};
 ghost use Rattle.morsel_text.specs.Lines.{IsPlainLine, Marks};
 ghost use Rattle.morsel_text.specs.declared.split.Split.TheVariants as splits;

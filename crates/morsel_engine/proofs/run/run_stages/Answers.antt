@@ -1,4 +1,3 @@
-use Rattle.std.proofs.Common.{ap}
 use Rattle.morsel_engine.proofs.RunLemmas.{runs-not_made, is_sunk, runs-not_read, is_fetched, runs-refused, runs-written}
 use Rattle.morsel_engine.proofs.run.run_stages.Goals as goal
 

@@ -1,6 +1,6 @@
-use Rattle.std.proofs.Common.{◌≤◌, ◌-◌, ◌≡◌, length, take}
+use Rattle.std.proofs.Common.{◌≤◌, ◌-◌, take}
 use Rattle.morsel_meaning.specs.Values.{names_of}
-use Rattle.morsel_text.specs.Ndjson.{ndjson}
+use Rattle.morsel_ndjson.specs.Ndjson.{ndjson}
 use Rattle.morsel_engine.specs.Stages.{Gained}
 use Rattle.morsel_engine.proofs.write.write_rows.Given as goal
 

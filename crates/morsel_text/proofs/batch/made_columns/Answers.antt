@@ -1,4 +1,4 @@
-use Rattle.std.proofs.Common.{◌≡◌, ◌+◌, ◌++◌, ◌∷◌, ◌∙◌, sym, ap, refl, arith, rules, subst, List, [], map, take}
+use Rattle.std.proofs.Common.{◌+◌, ◌∙◌, sym, ap, arith, rules, subst, List, [], map, take}
 use Rattle.morsel_frame.specs.Columns.{Values}
 use Rattle.morsel_text.specs.RawFields.{shown}
 use Rattle.morsel_text.specs.Pushes.{AreTexts, column_kinds}

@@ -1,4 +1,3 @@
-use Rattle.std.proofs.Common.{sym, ap, refl, arith}
 use Rattle.morsel_text.proofs.RowLemmas.{raw_text}
 use Rattle.morsel_text.proofs.BatchStepLemmas.{column_more}
 use Rattle.morsel_text.proofs.batch.pushed_column.Goals as goal

@@ -1,4 +1,4 @@
-use Rattle.std.proofs.Common.{◌≡◌, ◌∙◌, sym, ap, refl, arith, rules, subst, length, replicate, []}
+use Rattle.std.proofs.Common.{◌∙◌, sym, ap, subst, length, []}
 use Rattle.std.proofs.lemmas.List.{length-replicate}
 use Rattle.morsel_text.specs.Pushes.{column_kinds}
 use Rattle.morsel_text.specs.Batches.{AreTextColumns}

@@ -1,7 +1,7 @@
 use Rattle.std.proofs.Common.{◌≡◌, ◌<◌, ◌∙◌, sym, ap, refl, arith, rules, length, map}
 use Rattle.std.proofs.lemmas.Str.{IsUtf8-from_is_utf8}
-use Rattle.morsel_text.specs.Grammar.{Fields}
-use Rattle.morsel_text.specs.Rows.{is_empty}
+use Rattle.morsel_grammar.specs.Grammar.{Fields}
+use Rattle.morsel_grammar.specs.Rows.{is_empty}
 use Rattle.morsel_text.specs.RawFields.{shown}
 use Rattle.morsel_text.proofs.StepLemmas.{shown_record}
 use Rattle.morsel_text.proofs.TextLemmas.{record_texts}

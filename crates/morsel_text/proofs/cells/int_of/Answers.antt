@@ -2,7 +2,7 @@ use Rattle.std.proofs.Common.{◌≡◌, ◌∙◌, sym, ap, arith}
 use Rattle.std.proofs.lemmas.Int.{to_z_pos}
 use Rattle.std.specs.Int.{w64}
 use Rattle.std.specs.Prelude.{Some}
-use Rattle.morsel_text.specs.Cells.{short_number}
+use Rattle.morsel_grammar.specs.Cells.{short_number}
 use Rattle.morsel_text.proofs.IntLemmas.{int_parsed, short_is_int}
 use Rattle.morsel_text.proofs.cells.int_of.Goals as goal
 

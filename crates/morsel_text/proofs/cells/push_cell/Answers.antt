@@ -1,8 +1,3 @@
-use Rattle.std.proofs.Common.{◌≡◌, ◌∙◌, ap, sym, subst, List, ℕ, Bool, rules}
-use Rattle.std.specs.Prelude.{IsUtf8}
-use Rattle.morsel_text.specs.Cells.{value_of, cell_or_bad}
-use Rattle.morsel_text.specs.Pushes.{PushesCell}
-use Rattle.morsel_text.specs.RawFields.{shown}
 use Rattle.morsel_text.proofs.cells.push_cell.Goals as goal
 
 pub from_utf8_unchecked-requires-in-Doubled : goal.from_utf8_unchecked-requires-in-Doubled

@@ -1,5 +1,5 @@
-use Rattle.std.proofs.Common.{sym, ◌∙◌, ap, rules, arith, get_or, ◌∷◌, [], ◌++◌}
-use Rattle.morsel_text.specs.Reading.{chosen}
+use Rattle.std.proofs.Common.{arith, []}
+use Rattle.morsel_grammar.specs.Reading.{chosen}
 use Rattle.morsel_frame.specs.Columns.{Values}
 use Rattle.morsel_meaning.specs.declared.ColType.TheVariants as types
 use Rattle.morsel_text.proofs.ChoiceLemmas.{kept_skip}

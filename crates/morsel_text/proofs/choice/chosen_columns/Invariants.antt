@@ -1,5 +1,5 @@
 use Rattle.std.proofs.Common.{◌≡◌, ◌++◌, length, drop}
-use Rattle.morsel_text.specs.Reading.{chosen}
+use Rattle.morsel_grammar.specs.Reading.{chosen}
 use Rattle.morsel_text.proofs.choice.chosen_columns.Given as goal
 
 abbrev pub invariant-loop-at : goal.invariant-loop-at

@@ -1,4 +1,4 @@
-use Rattle.std.proofs.Common.{sym, ◌∙◌, rules, arith}
+use Rattle.std.proofs.Common.{arith}
 use Rattle.morsel_text.specs.Steps.{empty_columns}
 use Rattle.morsel_text.proofs.ChoiceLemmas.{empty_more, empty_all}
 use Rattle.morsel_text.proofs.choice.columns_of.Goals as goal

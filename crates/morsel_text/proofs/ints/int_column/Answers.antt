@@ -1,5 +1,4 @@
-use Rattle.std.proofs.Common.{◌≡◌, ◌++◌, ◌∷◌, ◌∙◌, sym, ap, refl, arith, rules, true, false, pos}
-use Rattle.morsel_meaning.specs.declared.Value.TheVariants as values
+use Rattle.std.proofs.Common.{◌∙◌, ap, rules, true, false, pos}
 use Rattle.morsel_text.proofs.RowLemmas.{raw_text}
 use Rattle.morsel_text.proofs.IntColumnLemmas.{number_next}
 use Rattle.morsel_text.proofs.ints.int_column.Goals.{in-Number+in-Ok-push+in-Ok-push-2, in-Null+in-Ok-push-3+in-Ok-push-4}

@@ -1,8 +1,6 @@
-use Rattle.std.proofs.Common.{◌≡◌, ◌∙◌, sym, ap, length, ◌+◌, ◌-◌, arith, suc, ℕ, subst}
-use Rattle.std.specs.Prelude.{Option}
+use Rattle.std.proofs.Common.{◌≡◌, length, ◌+◌, ◌-◌, arith, suc, ℕ, subst}
 use Rattle.morsel_meaning.specs.Values.{kinds_of}
-use Rattle.morsel_text.specs.Reading.{reading, reading_up_to}
-use Rattle.morsel_text.specs.RowPlaces.{row_place}
+use Rattle.morsel_grammar.specs.Reading.{reading, reading_up_to, row_place}
 use Rattle.morsel_text.proofs.PlaceLemmas.{place_here, place_next, place_over, place_same, next_fuel}
 use Rattle.morsel_text.proofs.place.place_of_row.Goals as goal
 

@@ -1,7 +1,6 @@
 use Rattle.std.proofs.Common.{◌≡◌, ◌+◌, ◌-◌, length}
 use Rattle.morsel_meaning.specs.Values.{kinds_of}
-use Rattle.morsel_text.specs.Reading.{reading, reading_up_to}
-use Rattle.morsel_text.specs.RowPlaces.{row_place}
+use Rattle.morsel_grammar.specs.Reading.{reading, reading_up_to, row_place}
 use Rattle.morsel_text.proofs.place.place_of_row.Given as goal
 
 abbrev pub invariant-loop : goal.invariant-loop

@@ -1,4 +1,4 @@
-use Rattle.std.proofs.Common.{◌≡◌, ◌∙◌, sym, ap, map, length, refl}
+use Rattle.std.proofs.Common.{◌∙◌, sym, map, refl}
 use Rattle.morsel_text.specs.RawFields.{shown}
 use Rattle.morsel_text.proofs.RowLemmas.{shown_length}
 use Rattle.morsel_text.proofs.PlaceLemmas.{kind_null, kind_row, kind_misfit}

@@ -1,8 +1,8 @@
-use Rattle.std.proofs.Common.{◌≡◌, ◌∙◌, sym, ap, map, length, ◌+◌, ◌-◌}
+use Rattle.std.proofs.Common.{◌∙◌, sym, map}
 use Rattle.std.proofs.lemmas.List.{length-map}
 use Rattle.morsel_meaning.specs.Values.{kinds_of}
-use Rattle.morsel_text.specs.Grammar.{Fields}
-use Rattle.morsel_text.specs.Rows.{IsRow}
+use Rattle.morsel_grammar.specs.Grammar.{Fields}
+use Rattle.morsel_grammar.specs.Rows.{IsRow}
 use Rattle.morsel_text.specs.RawFields.{shown}
 use Rattle.morsel_text.proofs.StepLemmas.{shown_record}
 use Rattle.morsel_text.proofs.PlaceLemmas.{skip_row}

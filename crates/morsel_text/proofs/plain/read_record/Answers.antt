@@ -1,7 +1,7 @@
 use Rattle.std.proofs.Common.{◌∙◌, sym}
 use Rattle.std.proofs.lemmas.Str.{IsUtf8-from_is_utf8}
 use Rattle.morsel_meaning.specs.Values.{kinds_of}
-use Rattle.morsel_text.specs.Grammar.{Fields}
+use Rattle.morsel_grammar.specs.Grammar.{Fields}
 use Rattle.morsel_text.proofs.TextLemmas.{record_texts}
 use Rattle.morsel_text.proofs.StepLemmas.{row_steps, row_refused}
 use Rattle.morsel_text.proofs.PlainLemmas.{plain_record}

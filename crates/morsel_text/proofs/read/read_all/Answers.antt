@@ -1,4 +1,4 @@
-use Rattle.std.proofs.Common.{◌≡◌, ◌+◌, ◌-◌, ◌∙◌, sym, refl, arith, rules, length}
+use Rattle.std.proofs.Common.{◌-◌, ◌∙◌, sym, refl, arith, rules, length}
 use Rattle.std.proofs.lemmas.Str.{IsUtf8-from_is_utf8}
 use Rattle.morsel_text.specs.Pushes.{column_kinds}
 use Rattle.morsel_text.specs.Steps.{left}

@@ -1,13 +1,12 @@
-use Rattle.std.proofs.Common.{◌≡◌, ◌+◌, ◌-◌, ◌∙◌, ℕ, sym, ap, subst, refl, arith, rules, length, List, map}
-use Rattle.std.specs.Prelude.{Option, Some}
+use Rattle.std.proofs.Common.{◌≡◌, ◌∙◌, ℕ, sym, ap, subst, length, List, map}
 use Rattle.morsel_meaning.specs.declared.ColType.{ColType}
 use Rattle.morsel_meaning.specs.Values.{Row, kinds_of}
 use Rattle.morsel_frame.specs.Columns.{Values}
 use Rattle.morsel_frame.specs.Frames.{rows_of, Fit}
-use Rattle.morsel_text.specs.Reading.{Read, reading, read_of, chosen}
-use Rattle.morsel_text.specs.Results.{IsRefused}
+use Rattle.morsel_grammar.specs.Reading.{Read, reading, read_of, chosen}
+use Rattle.morsel_grammar.specs.Results.{IsRefused}
 use Rattle.morsel_text.specs.Pushes.{column_kinds}
-use Rattle.morsel_text.specs.Steps.{AreHigh, empty_columns}
+use Rattle.morsel_text.specs.Steps.{AreHigh}
 use Rattle.morsel_text.proofs.StepLemmas.{kinds-empty, length-empty, high-empty, same_width, fit-chosen}
 use Rattle.morsel_text.proofs.read.read_columns.Goals as goal
 

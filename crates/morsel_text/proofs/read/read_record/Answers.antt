@@ -1,11 +1,11 @@
-use Rattle.std.proofs.Common.{◌≡◌, ◌+◌, ◌-◌, ◌∙◌, sym, ap, arith, rules, length, map, true}
+use Rattle.std.proofs.Common.{◌∙◌, sym, map}
 use Rattle.std.proofs.lemmas.Str.{IsUtf8-from_is_utf8}
-use Rattle.morsel_text.specs.Grammar.{Fields}
+use Rattle.morsel_grammar.specs.Grammar.{Fields}
 use Rattle.morsel_text.specs.RawFields.{shown}
 use Rattle.morsel_text.specs.Pushes.{column_kinds}
 use Rattle.morsel_text.proofs.TextLemmas.{record_texts}
 use Rattle.morsel_text.proofs.StepLemmas.{shown_record, row_steps, row_refused}
-use Rattle.morsel_text.specs.Grammar.{Comment}
+use Rattle.morsel_grammar.specs.Grammar.{Comment}
 use Rattle.morsel_text.proofs.TurnLemmas.{behind_record}
 use Rattle.morsel_text.proofs.read.read_record.Goals as goal
 

@@ -1,4 +1,4 @@
-use Rattle.morsel_text.proofs.ResultLemmas.{answers_by_grammar}
+use Rattle.morsel_grammar.proofs.ResultLemmas.{answers_by_grammar}
 use Rattle.morsel_text.proofs.read.read_records.Goals as goal
 
 pub returns-clause-grammar : goal.returns-clause-grammar

@@ -1,4 +1,4 @@
-use Rattle.std.proofs.Common.{sym, ◌∙◌, ap, refl}
+use Rattle.std.proofs.Common.{refl}
 use Rattle.std.specs.Prelude.{Some}
 use Rattle.morsel_text.proofs.StepLemmas.{row_read}
 use Rattle.morsel_text.proofs.read.read_row.Goals as goal

@@ -1,4 +1,4 @@
-use Rattle.std.proofs.Common.{sym, subst, List}
+use Rattle.std.proofs.Common.{subst, List}
 use Rattle.morsel_frame.specs.Columns.{Values}
 use Rattle.morsel_text.specs.Batches.{TurnsTo}
 use Rattle.morsel_text.proofs.TurnLemmas.{puts_room, puts_text, turn_of_record}

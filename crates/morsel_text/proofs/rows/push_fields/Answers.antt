@@ -1,6 +1,5 @@
-use Rattle.std.proofs.Common.{◌≡◌, ◌+◌, ◌∙◌, length, map, sym, ap, refl, arith, rules, set, get_or, []}
+use Rattle.std.proofs.Common.{◌∙◌, sym, arith, rules, []}
 use Rattle.morsel_text.specs.declared.split.RawField.TheVariants as raws
-use Rattle.morsel_text.specs.RawFields.{shown}
 use Rattle.morsel_text.proofs.RowLemmas.{raw_put, raw_bad, raw_skip, raw_text}
 use Rattle.morsel_text.proofs.rows.push_fields.Goals as goal
 

@@ -1,4 +1,4 @@
-use Rattle.std.proofs.Common.{◌≡◌, ◌≤◌, ◌+◌, length, map}
+use Rattle.std.proofs.Common.{◌≡◌, length, map}
 use Rattle.morsel_text.specs.RawFields.{shown}
 use Rattle.morsel_text.specs.Pushes.{with_fields}
 use Rattle.morsel_text.proofs.RowLemmas.{fields_from}

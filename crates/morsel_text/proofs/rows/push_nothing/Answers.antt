@@ -1,4 +1,4 @@
-use Rattle.std.proofs.Common.{◌≡◌, ◌∙◌, ap, sym, refl, arith, rules, length}
+use Rattle.std.proofs.Common.{sym, refl, rules}
 use Rattle.morsel_text.proofs.RowLemmas.{no_row, null_put, null_unused}
 use Rattle.morsel_text.proofs.rows.push_nothing.Goals as goal
 

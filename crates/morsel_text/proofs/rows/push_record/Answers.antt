@@ -1,6 +1,6 @@
-use Rattle.std.proofs.Common.{◌≡◌, ◌∙◌, ap, sym, refl, arith, rules, length, map}
+use Rattle.std.proofs.Common.{◌∙◌, ap, sym, refl, rules, length, map}
 use Rattle.morsel_text.specs.RawFields.{shown}
-use Rattle.morsel_text.specs.Rows.{row_or_misfit}
+use Rattle.morsel_grammar.specs.Rows.{row_or_misfit}
 use Rattle.morsel_text.specs.declared.rows.RowPushed.TheVariants as rows
 use Rattle.morsel_text.proofs.RowLemmas.{row_put, row_bad, cells_of-misfit, filled_row, shown_length}
 use Rattle.morsel_text.proofs.rows.push_record.Goals as goal

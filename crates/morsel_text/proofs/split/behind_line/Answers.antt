@@ -1,4 +1,4 @@
-use Rattle.std.proofs.Common.{◌≡◌, ◌+◌, ◌-◌, ◌∙◌, length, take, drop, sym, ap, add-one, suc, arith, ◌≤◌}
+use Rattle.std.proofs.Common.{◌+◌, ◌∙◌, length, sym, add-one, arith}
 use Rattle.std.proofs.lemmas.List.{take_rest, drop_all}
 use Rattle.morsel_text.proofs.SplitLemmas.{line_never, line_lone}
 use Rattle.morsel_text.proofs.split.behind_line.Goals as goal

@@ -1,5 +1,5 @@
 use Rattle.std.proofs.Common.{◌≡◌, ◌≤◌, ◌+◌, length}
-use Rattle.morsel_text.specs.Split.{quoted_at}
+use Rattle.morsel_grammar.specs.Split.{quoted_at}
 use Rattle.morsel_text.specs.RawFields.{rest_of}
 use Rattle.morsel_text.proofs.split.behind_quotes.Given as goal
 

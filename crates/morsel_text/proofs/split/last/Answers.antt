@@ -1,5 +1,4 @@
-use Rattle.std.proofs.Common.{◌≡◌, ◌+◌, ◌-◌, ◌∙◌, length, take, drop, sym, ap, add-one, suc, arith, ◌≤◌}
-use Rattle.morsel_text.specs.RawFields.{shown}
+use Rattle.std.proofs.Common.{◌-◌, ◌∙◌, length, sym, arith}
 use Rattle.morsel_text.proofs.SplitLemmas.{last_field-keeps, last_field-drops}
 use Rattle.morsel_text.proofs.split.last.Goals as goal
 

@@ -1,4 +1,4 @@
-use Rattle.std.proofs.Common.{sym, ◌∙◌, ap, arith}
+use Rattle.std.proofs.Common.{arith}
 use Rattle.morsel_text.proofs.LaneLemmas.{run_ends}
 use Rattle.morsel_text.proofs.split.plain_len.Goals as goal
 

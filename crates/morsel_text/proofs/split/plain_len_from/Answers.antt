@@ -1,4 +1,4 @@
-use Rattle.std.proofs.Common.{sym, ◌∙◌, ap, arith, subst, ◌≡◌, ℕ, rules, length}
+use Rattle.std.proofs.Common.{sym, ◌∙◌, arith, subst, ◌≡◌, ℕ, length}
 use Rattle.morsel_text.specs.RawFields.{PassedTo}
 use Rattle.morsel_text.proofs.SplitLemmas.{plain_stop, plain_all}
 use Rattle.morsel_text.proofs.split.plain_len_from.Goals as goal

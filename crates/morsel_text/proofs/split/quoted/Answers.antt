@@ -1,6 +1,6 @@
-use Rattle.std.proofs.Common.{◌≡◌, ◌+◌, ◌-◌, length, take, drop, sym, ap, add-one, suc}
+use Rattle.std.proofs.Common.{◌+◌, sym, ap, add-one}
 use Rattle.std.proofs.lemmas.List.{take_rest}
-use Rattle.morsel_text.specs.Split.{in_quotes}
+use Rattle.morsel_grammar.specs.Split.{in_quotes}
 use Rattle.morsel_text.proofs.SplitLemmas.{quoted_never, quoted_lone}
 use Rattle.morsel_text.proofs.split.quoted.Goals as goal
 

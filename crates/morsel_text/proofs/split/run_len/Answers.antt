@@ -1,4 +1,3 @@
-use Rattle.std.proofs.Common.{sym, ◌∙◌, ap, arith}
 use Rattle.morsel_text.proofs.LaneLemmas.{first_nearer, second_nearer}
 use Rattle.morsel_text.proofs.split.run_len.Goals as goal
 

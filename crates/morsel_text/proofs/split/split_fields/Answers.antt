@@ -1,6 +1,6 @@
-use Rattle.std.proofs.Common.{◌≡◌, ◌+◌, ◌-◌, ◌∙◌, ◌++◌, List, [], ◌∷◌, Option, Some, ℕ, length, map, sym, ap, refl, arith, rules}
-use Rattle.morsel_text.specs.Grammar.{CsvField}
-use Rattle.morsel_text.specs.Split.{fields_up_to}
+use Rattle.std.proofs.Common.{◌+◌, ◌-◌, ◌∙◌, List, Option, Some, ℕ, length, map, sym, ap, refl, arith, rules}
+use Rattle.morsel_grammar.specs.Grammar.{CsvField}
+use Rattle.morsel_grammar.specs.Split.{fields_up_to}
 use Rattle.morsel_text.specs.RawFields.{shown, with_front}
 use Rattle.morsel_text.specs.declared.split.Next.TheVariants as nexts
 use Rattle.morsel_text.proofs.SplitLemmas.{fields_next, shown-push, with_front-field}

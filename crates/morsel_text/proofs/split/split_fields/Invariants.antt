@@ -1,5 +1,5 @@
 use Rattle.std.proofs.Common.{◌≡◌, ◌≤◌, ◌+◌, ◌-◌, length, map}
-use Rattle.morsel_text.specs.Split.{fields_up_to}
+use Rattle.morsel_grammar.specs.Split.{fields_up_to}
 use Rattle.morsel_text.specs.RawFields.{shown, with_front}
 use Rattle.morsel_text.proofs.split.split_fields.Given as goal
 

@@ -1,4 +1,3 @@
-use Rattle.std.proofs.Common.{◌≡◌, ◌+◌, ◌-◌, ◌∙◌, sym, ap}
 use Rattle.morsel_text.proofs.SplitLemmas.{comment_found}
 use Rattle.morsel_text.proofs.split.split_record.Goals as goal
 

@@ -1,5 +1,5 @@
 use Rattle.std.proofs.Common.{◌≡◌, ◌≤◌, ◌+◌, length}
-use Rattle.morsel_text.specs.Split.{quoted_at}
+use Rattle.morsel_grammar.specs.Split.{quoted_at}
 use Rattle.morsel_text.proofs.SplitLemmas.{with_content}
 use Rattle.morsel_text.proofs.split.unquote.Given as goal
 

@@ -1,5 +1,5 @@
 use Rattle.std.proofs.Common.{◌≡◌, ◌≤◌, ◌+◌, length}
-use Rattle.morsel_text.specs.Split.{line_at}
+use Rattle.morsel_grammar.specs.Split.{line_at}
 use Rattle.morsel_text.proofs.plain.records.behind_line.Given as goal
 
 abbrev pub invariant-loop : goal.invariant-loop

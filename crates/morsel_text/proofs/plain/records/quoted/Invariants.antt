@@ -1,5 +1,5 @@
 use Rattle.std.proofs.Common.{◌≡◌, ◌≤◌, ◌+◌, length}
-use Rattle.morsel_text.specs.Split.{quoted_at}
+use Rattle.morsel_grammar.specs.Split.{quoted_at}
 use Rattle.morsel_text.specs.Plain.{with_content}
 use Rattle.morsel_text.proofs.plain.records.quoted.Given as goal
 

@@ -1,6 +1,6 @@
 use Rattle.std.proofs.Common.{◌+◌, ◌-◌, ◌∙◌, ◌++◌, List, [], ◌∷◌, Option, Some, ℕ, length, sym, ap, arith, rules}
-use Rattle.morsel_text.specs.Grammar.{CsvField}
-use Rattle.morsel_text.specs.Split.{fields_up_to}
+use Rattle.morsel_grammar.specs.Grammar.{CsvField}
+use Rattle.morsel_grammar.specs.Split.{fields_up_to}
 use Rattle.morsel_text.specs.Plain.{with_front}
 use Rattle.morsel_text.specs.declared.plain.records.PlainNext.TheVariants as nexts
 use Rattle.morsel_text.proofs.PlainLemmas.{fields_next, with_front-field}

@@ -2,9 +2,9 @@ use Rattle.std.proofs.Common.{◌≡◌, ◌∙◌, length, sym, ap}
 use Rattle.std.proofs.lemmas.List.{length-map}
 use Rattle.morsel_meaning.specs.declared.Field.{Field}
 use Rattle.morsel_meaning.specs.Values.{kinds_of}
-use Rattle.morsel_text.specs.Grammar.{Fields}
+use Rattle.morsel_grammar.specs.Grammar.{Fields}
 use Rattle.morsel_text.specs.Plain.{cells_with, values_in}
-use Rattle.morsel_text.proofs.OneEndLemmas.{row_of-other}
+use Rattle.morsel_grammar.proofs.OneEndLemmas.{row_of-other}
 use Rattle.morsel_text.proofs.PlainLemmas.{row_of-filled, gives_nothing}
 use Rattle.morsel_text.proofs.plain.rows.row.Goals as goal
 

@@ -1,7 +1,7 @@
 use Rattle.std.proofs.Common.{◌+◌, ◌∙◌, sym, ap, subst, arith}
 use Rattle.std.specs.Prelude.{IsUtf8}
 use Rattle.morsel_meaning.specs.Values.{kinds_of}
-use Rattle.morsel_text.specs.Grammar.{CsvField}
+use Rattle.morsel_grammar.specs.Grammar.{CsvField}
 use Rattle.morsel_text.specs.Plain.{cells_with, cell_in}
 use Rattle.morsel_text.proofs.RowLemmas.{text_at}
 use Rattle.morsel_text.proofs.PlainLemmas.{cells_here, cells_passed, from_place, from_skip, from_value, from_bad}

@@ -1,6 +1,6 @@
 use Rattle.std.proofs.Common.{◌≡◌}
 use Rattle.morsel_meaning.specs.Values.{kinds_of}
-use Rattle.morsel_text.specs.Reading.{used_values}
+use Rattle.morsel_grammar.specs.Reading.{used_values}
 use Rattle.morsel_text.specs.Plain.{cells_with}
 use Rattle.morsel_text.proofs.PlainLemmas.{from_place}
 use Rattle.morsel_text.proofs.plain.rows.values.Given as goal

@@ -1,7 +1,7 @@
 use Rattle.std.proofs.Common.{◌≡◌, ◌==◌, ◌+◌, ◌-◌, ◌∙◌, List, Option, Some, ℕ, length, take, drop, map, sym, ap, refl, arith, length-append}
 use Rattle.std.proofs.lemmas.List.{length-drop}
-use Rattle.morsel_text.specs.Grammar.{CsvField}
-use Rattle.morsel_text.specs.Split.{fields_up_to}
+use Rattle.morsel_grammar.specs.Grammar.{CsvField}
+use Rattle.morsel_grammar.specs.Split.{fields_up_to}
 use Rattle.morsel_text.specs.RawFields.{shown, with_front}
 use Rattle.morsel_text.proofs.SplitLemmas.{shown-push}
 use Rattle.morsel_text.proofs.LineLemmas.{plain, line_behind, marks_behind, separated, line_ended}

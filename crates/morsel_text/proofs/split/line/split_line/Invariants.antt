@@ -1,6 +1,6 @@
 use Rattle.std.proofs.Common.{◌≡◌, ◌<◌, ◌≤◌, ◌==◌, ◌+◌, ◌-◌, length, map}
 use Rattle.std.specs.Int.{trailing_zeros, w64}
-use Rattle.morsel_text.specs.Split.{fields_up_to}
+use Rattle.morsel_grammar.specs.Split.{fields_up_to}
 use Rattle.morsel_text.specs.RawFields.{shown, with_front}
 use Rattle.morsel_text.specs.Lines.{IsPlainLine, Marks}
 use Rattle.morsel_text.proofs.split.line.split_line.Given as goal

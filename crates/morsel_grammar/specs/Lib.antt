@@ -1,0 +1,13 @@
+-- The grammar of CSV, the function on lists that reads it, and the laws between the two.
+pub mod Options
+pub mod Grammar
+pub mod Cells
+pub mod Rows
+pub mod Split
+pub mod Reading
+pub mod Results
+pub mod Laws
+pub mod GrammarRows
+pub mod GrammarResults
+pub mod Joined
+pub mod OneEnd

@@ -1,0 +1,132 @@
+//! How a CSV text is written.
+ghost use Rattle.std.specs.Prelude.{◌≡◌, IfOk, IsOkUnless, option_copied};
+ghost use Rattle.morsel_grammar.specs.Options.{standard};
+
+use morsel_meaning::{Fault, Name};
+use std::alloc::Global;
+use std::marker::Model;
+
+/// How a CSV text is written: its separator, quote, line end, comments, header and nulls.
+#[derive(Clone, Debug, Drop)]
+pub struct CsvOptions {
+    separator: u8,
+    quote: Option<u8>,
+    eol: u8,
+    comment: Option<Name>,
+    has_header: bool,
+    null: Name,
+    ignore_errors: bool,
+}
+
+impl Model for CsvOptions {
+    ghost use Rattle.morsel_grammar.specs.Options.{Options, AreOptions};
+
+    ghost Value = { Options };
+
+    ghost view = { λ o. record {
+      separator = o.separator;
+      quote = o.quote;
+      eol = o.eol;
+      comment = o.comment;
+      has_header = o.has_header;
+      null_text = o.null;
+      ignore_errors = o.ignore_errors;
+    } };
+
+    ghost invariant = { λ o. AreOptions (record {
+      separator = o.separator;
+      quote = o.quote;
+      eol = o.eol;
+      comment = o.comment;
+      has_header = o.has_header;
+      null_text = o.null;
+      ignore_errors = o.ignore_errors;
+    }) };
+}
+
+impl CsvOptions {
+    ghost use Rattle.morsel_grammar.specs.Options.{AreOptions};
+    ghost use Rattle.morsel_grammar.specs.Split.{is_quote};
+
+    /// Commas, double quotes, line feeds, a header, and nulls that are empty.
+    pub fn standard(alloc: Global) -> Result<CsvOptions, Fault>
+        ensures value { IfOk result (λ options. options ≡ standard) }
+        ensures out_of_memory { IsOkUnless result Fault.OutOfMemory }
+    {
+        Ok(CsvOptions {
+            separator: b',',
+            quote: Some(b'"'),
+            eol: b'\n',
+            comment: None,
+            has_header: true,
+            null: Name::new(alloc, "")?,
+            ignore_errors: false,
+        })
+    }
+
+    /// The byte between fields.
+    #[inline(always)]
+    pub fn separator(&self) -> u8
+        ensures { result ≡ self.now.separator }
+    {
+        self.separator
+    }
+
+    /// The byte round a quoted field, where there is one.
+    #[inline(always)]
+    pub fn quote(&self) -> Option<u8>
+        ensures { result ≡ self.now.quote }
+    {
+        self.quote
+    }
+
+    /// The byte behind a record.
+    #[inline(always)]
+    pub fn eol(&self) -> u8
+        ensures { result ≡ self.now.eol }
+    {
+        self.eol
+    }
+
+    /// Whether a field that begins with this byte is quoted.
+    #[inline(always)]
+    pub fn is_quote(&self, b: u8) -> bool
+        ensures { result ≡ is_quote self.now.quote b }
+    {
+        match self.quote {
+            Some(quote) => b == quote,
+            None => false,
+        }
+    }
+
+    /// What a comment begins with.
+    #[inline(always)]
+    pub fn comment(&self) -> Option<&Name>
+        ensures value { option_copied result ≡ self.now.comment }
+        ensures fit { AreOptions self.now }
+    {
+        self.comment.as_ref()
+    }
+
+    /// Whether a text has a header.
+    pub fn has_header(&self) -> bool
+        ensures { result ≡ self.now.has_header }
+    {
+        self.has_header
+    }
+
+    /// The text of a null.
+    #[inline(always)]
+    pub fn null_text(&self) -> &str
+        ensures { result.now ≡ self.now.null_text }
+    {
+        self.null.as_str()
+    }
+
+    /// Whether a field that does not fit its type is null.
+    pub fn ignores_errors(&self) -> bool
+        ensures { result ≡ self.now.ignore_errors }
+    {
+        self.ignore_errors
+    }
+}

@@ -1,0 +1,79 @@
+-- Bytes that need no escape: what a lane tells of them, and how they are written.
+use Rattle.std.proofs.Common.{◌≡◌, ◌⊎◌, inl, inr, refl, ℕ, zero, suc, ◌+◌, ◌%◌, ◌^◌, ◌<◌, ◌≤◌, ◌∙◌, sym, ap, arith, Bool, true, false, cond, ◌||◌, ◌==◌, List, [], ◌∷◌, ◌++◌, length, get_or, take, drop, map, replicate, bit_or, eqb, ltb}
+use Rattle.std.proofs.lemmas.Bool.{or_parts, eqb-true, ne_eqb, ltb-false, cases_lt, OnTrue_from}
+use Rattle.std.proofs.lemmas.List.{length-map}
+use Rattle.std.proofs.lemmas.Simd.{zip2_splat, zip2_of_maps, mask_l-mod, none_from_empty_mask}
+use Rattle.std.specs.Bool.{OnTrue}
+use Rattle.std.specs.List.{flat_map}
+use lib.Lanes.{chunk, mask_l, zip2, top}
+use Rattle.morsel_ndjson.specs.Ndjson.{escaped}
+use Rattle.morsel_ndjson.specs.Members.{needs_escape, ArePlain}
+
+-- how a comparison of lanes tells: all bits, or none
+abbrev all_bits : Bool → ℕ
+all_bits b = cond b 255 0
+
+abbrev compared : ℕ → ℕ
+compared b = bit_or (bit_or (all_bits (eqb b 34)) (all_bits (eqb b 92))) (all_bits (ltb b 32))
+
+any_of : (a b c : Bool) → top 7 (bit_or (bit_or (all_bits a) (all_bits b)) (all_bits c)) ≡ (a || b || c)
+any_of true true true = refl
+any_of true true false = refl
+any_of true false true = refl
+any_of true false false = refl
+any_of false true true = refl
+any_of false true false = refl
+any_of false false true = refl
+any_of false false false = refl
+
+each_compared : (lane : List ℕ) → map (top 7) (map compared lane) ≡ map needs_escape lane
+each_compared [] = refl
+each_compared (b ∷ lane) =
+    ap (λ x. x ∷ map (top 7) (map compared lane)) (any_of (eqb b 34) (eqb b 92) (ltb b 32))
+    ∙ ap (λ xs. needs_escape b ∷ xs) (each_compared lane)
+
+-- the three comparisons of a lane, as the code makes them
+pub escapes_of_lane : (lane : List ℕ) → length lane ≡ 8
+    → mask_l (map (top 7) (zip2 bit_or (zip2 bit_or (zip2 (λ a b. all_bits (eqb a b)) lane (replicate 8 34)) (zip2 (λ a b. all_bits (eqb a b)) lane (replicate 8 92)))
+    (zip2 (λ a b. all_bits (ltb a b)) lane (replicate 8 32)))) % 2 ^ 64 ≡ mask_l (map needs_escape lane)
+escapes_of_lane lane long =
+    let quotes = zip2_splat (λ (a b : ℕ). all_bits (eqb a b)) lane 8 34 long in
+    let backslashes = zip2_splat (λ (a b : ℕ). all_bits (eqb a b)) lane 8 92 long in
+    let controls = zip2_splat (λ (a b : ℕ). all_bits (ltb a b)) lane 8 32 long in
+    let marks = zip2_of_maps bit_or _ _ lane (zip2_of_maps bit_or _ _ lane quotes backslashes) controls in
+    ap (λ (l : List ℕ). mask_l (map (top 7) l) % 2 ^ 64) marks
+    ∙ (ap (λ (l : List Bool). mask_l l % 2 ^ 64) (each_compared lane)
+    ∙ mask_l-mod (map needs_escape lane) 64 (omega (arith, length-map lane needs_escape, long)))
+
+-- where no bit of a lane is set, none of its bytes needs an escape
+pub plain_lane : (text : List ℕ) (from mask : ℕ) → from + 8 ≤ length text → mask ≡ mask_l (map needs_escape (chunk from 8 text)) → OnTrue (mask == 0) (ArePlain from (from + 8) text)
+plain_lane text from mask within is =
+    OnTrue_from (mask == 0) (ArePlain from (from + 8) text) (λ none. none_from_empty_mask needs_escape text from 8 0 within (sym is ∙ eqb-true mask 0 none))
+
+-- bytes that need no escape, and more of them
+pub plain_more : (text : List ℕ) (from mid to : ℕ) (last : ℕ) → last ≤ mid → ArePlain from mid text → ArePlain last to text → ArePlain from to text
+plain_more text from mid to last meets front back = λ k low high. by k low high (cases_lt k mid)
+  where
+    by : (k : ℕ) → from ≤ k → k < to → (k < mid) ⊎ (mid ≤ k) → needs_escape (get_or text k 0) ≡ false
+    by k low high (inl before) = front k low before
+    by k low high (inr behind) = back k (omega arith) high
+
+plain_byte : (b : ℕ) → needs_escape b ≡ false → escaped b ≡ b ∷ []
+plain_byte b is =
+    let parts = or_parts (b == 34 || b == 92) (ltb b 32) is in
+    let marks = or_parts (b == 34) (b == 92) parts.0 in
+    let above : 32 ≤ b = ltb-false b 32 parts.1 in
+    let no_8 : (b == 8) ≡ false = ne_eqb b 8 (omega arith) in
+    let no_12 : (b == 12) ≡ false = ne_eqb b 12 (omega arith) in
+    let no_10 : (b == 10) ≡ false = ne_eqb b 10 (omega arith) in
+    let no_13 : (b == 13) ≡ false = ne_eqb b 13 (omega arith) in
+    let no_9 : (b == 9) ≡ false = ne_eqb b 9 (omega arith) in
+    rw (marks.0, marks.1, no_8, no_12, no_10, no_13, no_9, parts.1) refl
+
+-- bytes that need no escape stand as they are, and what stands behind them has its escapes
+pub plain_front : (text : List ℕ) (n : ℕ) → n ≤ length text → ArePlain 0 n text → flat_map escaped text ≡ take n text ++ flat_map escaped (drop n text)
+plain_front text zero within plain = refl
+plain_front [] (suc n) within plain = absurd (omega arith)
+plain_front (b ∷ text) (suc n) within plain =
+    ap (λ s. s ++ flat_map escaped text) (plain_byte b (plain zero (omega arith) (omega arith)))
+    ∙ ap (λ s. b ∷ s) (plain_front text n (omega arith) (λ k low high. plain (suc k) (omega arith) (omega arith)))

@@ -1,0 +1,5 @@
+-- Lemmas on what stands before a cursor, on members and on escapes.
+pub mod PutLemmas
+pub mod MemberLemmas
+pub mod PaddedLemmas
+pub mod EscapeLemmas

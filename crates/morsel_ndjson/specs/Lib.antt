@@ -1,0 +1,3 @@
+-- The text of NDJSON, and the members of rows in it.
+pub mod Ndjson
+pub mod Members

@@ -1,0 +1,189 @@
+//! Values as JSON.
+ghost use Rattle.std.specs.Prelude.{◌≡◌, ◌+◌, ◌*◌, ◌≤◌, ◌<◌, ◌++◌, ◌∷◌, [], length, take, drop, map, codes};
+ghost use Rattle.std.specs.Bool.{OnTrue};
+ghost use Rattle.std.specs.List.{flat_map};
+ghost use Rattle.std.specs.Simd.Lanes.{mask_l};
+ghost use Rattle.std.specs.Char.{digit_char};
+ghost use Rattle.morsel_frame.specs.Cells.{value_of};
+ghost use Rattle.morsel_ndjson.specs.Ndjson.{escaped, json_string, json_value};
+ghost use Rattle.morsel_ndjson.specs.Members.{needs_escape, ArePlain, text_room};
+
+use crate::cursor::{put_byte, put_bytes, put_int};
+use morsel_frame::Cell;
+use std::simd::prelude::*;
+
+/// How many bytes are looked at at once.
+const LANES: usize = 8;
+
+/// Puts a value.
+#[inline(always)]
+pub fn put_value(out: &mut [u8], at: usize, cell: Cell<'_>) -> usize
+    requires { at + (20 + text_room (value_of cell)) ≤ length out.old }
+    ensures rises { at ≤ result }
+    ensures within { result ≤ at + (20 + text_room (value_of cell.entry)) }
+    ensures written { take result out.new ≡ take at out.old ++ json_value (value_of cell.entry) }
+{
+    match cell {
+        Cell::Int(number) => put_int(out, at, number),
+        Cell::Text(text) => put_string(out, at, text.as_bytes()),
+        Cell::Null => put_bytes(out, at, b"null"),
+        Cell::Bool(true) => put_bytes(out, at, b"true"),
+        Cell::Bool(false) => put_bytes(out, at, b"false"),
+    }
+}
+
+/// Puts a text in quotes.
+#[inline]
+pub fn put_string(out: &mut [u8], at: usize, text: &[u8]) -> usize
+    requires { at + 6 * length text.now + 2 ≤ length out.old }
+    ensures rises { at ≤ result }
+    ensures within { result ≤ at + 6 * length text.now + 2 }
+    ensures written { take result out.new ≡ take at out.old ++ json_string text.now }
+{
+    let at = put_byte(out, at, b'"');
+    let at = put_escaped(out, at, text);
+    put_byte(out, at, b'"')
+}
+
+/// Puts a text with its escapes.
+#[inline(always)]
+fn put_escaped(out: &mut [u8], at: usize, text: &[u8]) -> usize
+    requires { at + 6 * length text.now ≤ length out.old }
+    ensures rises { at ≤ result }
+    ensures within { result ≤ at + 6 * length text.now }
+    ensures written { take result out.new ≡ take at out.old ++ flat_map escaped text.now }
+{
+    let plain = put_front(out, at, text);
+    put_chars(out, at + plain, &text[plain..])
+}
+
+/// Puts the bytes in front of the first lane that has an escape, and says how many; none of a text of less than a lane.
+#[inline(always)]
+fn put_front(out: &mut [u8], at: usize, text: &[u8]) -> usize
+    requires { at + length text.now ≤ length out.old }
+    ensures within { result ≤ length text.now }
+    ensures plain { ArePlain 0 result text.now }
+    ensures written { take (at + result) out.new ≡ take at out.old ++ take result text.now }
+{
+    let len = text.len();
+    if len < LANES {
+        return 0;
+    }
+    let mut from = 0;
+    while len - from >= LANES {
+        if !put_lane(out, at + from, text, from) {
+            return from;
+        }
+        from += LANES;
+    }
+    // The last lane ends with the text, and may begin within the one before.
+    let last = len - LANES;
+    if put_lane(out, at + last, text, last) {
+        len
+    } else {
+        from
+    }
+}
+
+/// Puts the 8 bytes of `text` from place `from` on, and says whether none of them needs an escape.
+#[inline(always)]
+fn put_lane(out: &mut [u8], at: usize, text: &[u8], from: usize) -> bool
+    requires text { from + LANES ≤ length text.now }
+    requires room { at + LANES ≤ length out.old }
+    ensures plain { OnTrue result (ArePlain from (from + LANES) text.now) }
+    ensures written { take (at + LANES) out.new ≡ take at out.old ++ take LANES (drop from text.now) }
+{
+    let lane = u8x8::from_slice(&text[from..]);
+    lane.copy_to_slice(&mut out[at..]);
+    escapes(lane) == 0
+}
+
+/// A bit for each of 8 bytes, set where it needs an escape.
+#[inline(always)]
+fn escapes(lane: u8x8) -> u64
+    ensures { result ≡ mask_l (map needs_escape lane) }
+{
+    let quotes = lane.simd_eq(u8x8::splat(b'"'));
+    let backslashes = lane.simd_eq(u8x8::splat(b'\\'));
+    (quotes | backslashes | lane.simd_lt(u8x8::splat(32))).to_bitmask()
+}
+
+/// Puts bytes one by one, each with its escape.
+#[inline(always)]
+fn put_chars(out: &mut [u8], at: usize, text: &[u8]) -> usize
+    requires { at + 6 * length text.now ≤ length out.old }
+    ensures rises { at ≤ result }
+    ensures within { result ≤ at + 6 * length text.now }
+    ensures written { take result out.new ≡ take at out.old ++ flat_map escaped text.now }
+{
+    let mut to = at;
+    for byte in text {
+        to = put_char(out, to, *byte);
+    }
+    to
+}
+
+/// Puts a byte as it stands within a string.
+#[inline(always)]
+fn put_char(out: &mut [u8], at: usize, byte: u8) -> usize
+    requires { at + 6 ≤ length out.old }
+    ensures rises { at ≤ result }
+    ensures within { result ≤ at + 6 }
+    ensures written { take result out.new ≡ take at out.old ++ escaped byte }
+{
+    if needs_escape(byte) {
+        return put_escape(out, at, byte);
+    }
+    put_byte(out, at, byte)
+}
+
+#[inline(always)]
+fn needs_escape(byte: u8) -> bool
+    ensures { result ≡ needs_escape byte }
+{
+    byte == b'"' || byte == b'\\' || byte < 32
+}
+
+/// Puts a byte, with its escape if it needs one.
+#[inline(never)]
+fn put_escape(out: &mut [u8], at: usize, byte: u8) -> usize
+    requires { at + 6 ≤ length out.old }
+    ensures rises { at ≤ result }
+    ensures within { result ≤ at + 6 }
+    ensures written { take result out.new ≡ take at out.old ++ escaped byte }
+{
+    match byte {
+        b'"' => put_bytes(out, at, b"\\\""),
+        b'\\' => put_bytes(out, at, b"\\\\"),
+        8 => put_bytes(out, at, b"\\b"),
+        12 => put_bytes(out, at, b"\\f"),
+        b'\n' => put_bytes(out, at, b"\\n"),
+        b'\r' => put_bytes(out, at, b"\\r"),
+        b'\t' => put_bytes(out, at, b"\\t"),
+        0..32 => put_bytes(
+            out,
+            at,
+            &[
+                b'\\',
+                b'u',
+                b'0',
+                b'0',
+                hex_digit(byte / 16),
+                hex_digit(byte % 16),
+            ],
+        ),
+        _ => put_byte(out, at, byte),
+    }
+}
+
+/// The digit of base 16, in lower case.
+fn hex_digit(digit: u8) -> u8
+    requires { digit < 16 }
+    ensures { result ≡ digit_char digit }
+{
+    if digit < 10 {
+        b'0' + digit
+    } else {
+        b'a' + digit - 10
+    }
+}
