@@ -1,12 +1,11 @@
 -- Answers of marked items, one more at a time.
-use Rattle.std.proofs.Common.{◌≡◌, ℕ, zero, suc, ◌+◌, ◌<◌, ◌≤◌, min, Bool, false, if◌then◌else◌, List, [], ◌∷◌, ◌++◌, length, map, take, get_or, refl, ap, ◌∙◌, arith}
+use Rattle.std.proofs.Common.{◌≡◌, ℕ, zero, suc, ◌+◌, ◌<◌, ◌≤◌, Bool, false, if◌then◌else◌, List, [], ◌∷◌, ◌++◌, length, map, take, get_or, refl, ap, ◌∙◌, arith}
 use Rattle.std.specs.List.{zip}
 use Rattle.std.proofs.lemmas.List.{take_more, take_all, length-map}
 use Rattle.std.proofs.lemmas.Slice.Zip.{length-zip, get_or-zip}
 use Rattle.morsel_meaning.specs.declared.Value.{Value}
 use Rattle.morsel_meaning.specs.declared.Value.TheVariants as values
 use Rattle.morsel_meaning.specs.Order.{value_cmp}
-use Rattle.morsel_expr.specs.declared.truth.Truth.{Truth}
 use Rattle.morsel_expr.specs.declared.truth.Truth.TheVariants.{Unknown}
 use Rattle.morsel_expr.specs.declared.answers.Answers.{Answers}
 use Rattle.morsel_expr.specs.Answers.{answer, answered, answer_of_pair, answered_pairs}

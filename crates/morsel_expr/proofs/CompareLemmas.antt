@@ -1,5 +1,5 @@
 -- Packed values compared: a mark and an item at a time.
-use Rattle.std.proofs.Common.{◌≡◌, ℕ, zero, suc, ◌+◌, ◌<◌, Bool, true, false, not, if◌then◌else◌, replicate, List, [], ◌∷◌, ◌++◌, length, map, take, get_or, refl, ap, sym, ◌∙◌, arith}
+use Rattle.std.proofs.Common.{◌≡◌, Bool, true, false, not, if◌then◌else◌, replicate, List, [], ◌∷◌, length, map, refl, ap, sym, ◌∙◌, arith}
 use Rattle.std.specs.List.{zip}
 use Rattle.std.specs.declared.cmp.Ordering.{Ordering}
 use Rattle.std.specs.declared.cmp.Ordering.TheVariants as orders
@@ -8,9 +8,8 @@ use Rattle.morsel_meaning.specs.declared.ColType.TheVariants as types
 use Rattle.morsel_meaning.specs.declared.Value.{Value}
 use Rattle.morsel_meaning.specs.declared.Value.TheVariants as values
 use Rattle.morsel_meaning.specs.Order.{value_cmp}
-use Rattle.morsel_frame.specs.Columns.{masked, value_at}
+use Rattle.morsel_frame.specs.Columns.{masked}
 use Rattle.morsel_frame.specs.Tables.{same_kind}
-use Rattle.morsel_expr.specs.declared.truth.Truth.{Truth}
 use Rattle.morsel_expr.specs.declared.truth.Truth.TheVariants.{Unknown}
 use Rattle.morsel_expr.specs.declared.node.CmpOp.{CmpOp}
 use Rattle.morsel_expr.specs.Truths.{certain}

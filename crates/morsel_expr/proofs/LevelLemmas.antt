@@ -1,5 +1,5 @@
 -- The levels of a predicate.
-use Rattle.std.proofs.Common.{ℕ, ◌<◌, arith}
+use Rattle.std.proofs.Common.{◌<◌, arith}
 use Rattle.morsel_expr.specs.declared.node.PredNode.{PredNode}
 use Rattle.morsel_expr.specs.declared.node.PredNode.TheVariants as nodes
 use Rattle.morsel_expr.specs.Flaws.{levels}

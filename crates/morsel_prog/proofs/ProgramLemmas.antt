@@ -1,19 +1,18 @@
 -- What a run and its report say together.
-use Rattle.std.specs.Prelude.{◌≡◌, ◌≢◌, ◌⊎◌, ℕ, ◌+◌, ◌-◌, ◌^◌, ◌<◌, ◌≤◌, Option, Some, None, Result, Ok, Err, List, [], ◌∷◌, ◌++◌, length, take, decimal, get_or, refl}
+use Rattle.std.specs.Prelude.{◌≡◌, ◌⊎◌, ℕ, ◌-◌, ◌^◌, ◌<◌, ◌≤◌, Option, Some, None, Result, Ok, Err, List, length, decimal}
 use Rattle.std.proofs.Common.{sym, ap, subst, ◌∙◌, arith, inl, inr}
 use Rattle.std.proofs.lemmas.List.{take_all}
 use Rattle.morsel_meaning.specs.declared.Fault.{Fault}
 use Rattle.morsel_meaning.specs.declared.Fault.TheVariants as faults
 use Rattle.morsel_meaning.specs.declared.Field.{Field}
-use Rattle.morsel_meaning.specs.Faults.{fault_line, fault_status, fault_number}
+use Rattle.morsel_meaning.specs.Faults.{fault_line}
 use Rattle.morsel_meaning.specs.Values.{Row, names_of}
 use Rattle.morsel_meaning.specs.Outside.{Outside, with_last}
 use Rattle.morsel_meaning.specs.Calls.{Rises}
 use Rattle.morsel_ndjson.specs.Ndjson.{ndjson}
-use Rattle.morsel_engine.specs.Scan.{Scan, scan_of}
-use Rattle.morsel_engine.specs.Run.{Query, OpensOne, Runs, Answers, HasCause, MadeSome, AsksSome, Reads, Keeps, HasRows, IsFrontOfText}
+use Rattle.morsel_engine.specs.Run.{Query, OpensOne, Runs, Answers, HasCause, MadeSome, Reads, Keeps, HasRows, IsFrontOfText}
 use Rattle.morsel_prog.specs.Words.{Command, Scan as Scans}
-use Rattle.morsel_prog.specs.Program.{query_of, RunsWords, ReportsFault, ReportsCount, Reports, RunsAndReports, AnswersWords, HasCauseIn, TellsFault, CausesWords, LeavesAfterFault, AsksNames, ReadsOnce, KeepsRest}
+use Rattle.morsel_prog.specs.Program.{query_of, ReportsFault, Reports, RunsAndReports, AnswersWords, TellsFault, CausesWords, LeavesAfterFault, AsksNames, ReadsOnce, KeepsRest}
 
 -- a report changes what was printed and the count of write faults alone
 pub record IsReported (ran new : Outside) : Type 0 where

@@ -30,4 +30,4 @@ Behind 12 and 13, standard error tells the file and the reason. With any status 
 ";
 
 /// The name, the version, and the toolchain that proved and built it.
-pub const VERSION: &str = "morsel 0.1.0, rattle-kit-13b logic dac8208d650f15bf\n";
+pub const VERSION: &str = "morsel 0.1.0, rattle-kit-13f logic dac8208d650f15bf\n";

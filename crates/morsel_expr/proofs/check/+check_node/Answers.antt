@@ -1,4 +1,3 @@
-use Rattle.std.proofs.Common.{refl}
 use Rattle.morsel_expr.proofs.check.+check_node.Goals as goal
 
 pub returns-in-Cmp : goal.returns-in-Cmp

@@ -1,4 +1,4 @@
-use Rattle.std.proofs.Common.{◌≡◌, rules, ◌∙◌}
+use Rattle.std.proofs.Common.{rules}
 use Rattle.morsel_expr.proofs.CompareLemmas.{nulls-compared}
 use Rattle.morsel_expr.proofs.compare.compare_with.Goals as goal
 

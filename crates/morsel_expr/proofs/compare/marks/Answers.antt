@@ -1,4 +1,4 @@
-use Rattle.std.proofs.Common.{refl, sym, ◌∙◌, arith}
+use Rattle.std.proofs.Common.{refl, sym, ◌∙◌}
 use Rattle.morsel_meaning.specs.declared.Value.TheVariants as values
 use Rattle.morsel_expr.proofs.CompareLemmas.{marks-masked}
 use Rattle.morsel_expr.proofs.compare.marks.Goals as goal

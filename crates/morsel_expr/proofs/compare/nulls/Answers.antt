@@ -1,6 +1,3 @@
-use Rattle.std.proofs.Common.{◌≡◌, not, map, ap, sym, ◌∙◌}
-use Rattle.std.proofs.lemmas.Result.{IfOk-equal}
-use Rattle.morsel_expr.specs.Truths.{certain}
 use Rattle.morsel_expr.proofs.CompareLemmas.{nulls-marks}
 use Rattle.morsel_expr.proofs.compare.nulls.Goals as goal
 

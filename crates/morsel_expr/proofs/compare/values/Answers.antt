@@ -1,4 +1,3 @@
-use Rattle.std.proofs.Common.{◌≡◌, map, ap, sym, ◌∙◌}
 use Rattle.morsel_expr.proofs.CompareLemmas.{values-marks}
 use Rattle.morsel_expr.proofs.compare.values.Goals as goal
 

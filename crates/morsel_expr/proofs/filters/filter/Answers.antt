@@ -1,4 +1,3 @@
-use Rattle.std.proofs.Common.{◌≡◌, ap}
 use Rattle.morsel_expr.proofs.KeptLemmas.{rows_at-true, true_rows-within}
 use Rattle.morsel_expr.proofs.filters.filter.Goals as goal
 

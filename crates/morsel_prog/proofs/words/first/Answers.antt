@@ -1,4 +1,3 @@
-use Rattle.std.proofs.Common.{sym}
 use Rattle.morsel_prog.proofs.CutLemmas.{cut_at-first}
 use Rattle.morsel_prog.proofs.words.first.Goals as goal
 
