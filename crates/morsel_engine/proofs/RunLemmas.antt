@@ -63,7 +63,7 @@ runs-not_opened old now q faults.OutOfMemory h = record {
   answers = tt;
   caused = tt;
   after_fault = inl (ap (λ (o : Outside). o.made) h);
-  asks = (0, ap (λ (o : Outside). o.asked) h ∙ sym (append-nil old.asked));
+  asks = inl (ap (λ (o : Outside). o.asked) h);
   reads = reads_none old now (ap (λ (o : Outside). o.events) h);
   keeps = record {
     files = inl (ap (λ (o : Outside). o.sizes) h, ap (λ (o : Outside). o.held) h);
@@ -77,7 +77,7 @@ runs-not_opened old now q (faults.ReadFault file) (zeroth, count, rises, after) 
   answers = tt;
   caused = (zeroth, rises, refl);
   after_fault = inl refl;
-  asks = (1, refl);
+  asks = inr (inl refl);
   reads = reads_none old _ refl;
   keeps = record { files = inl (refl, refl); sinks = inl refl; reads = inr (rises, refl) };
   printed = refl;
@@ -94,7 +94,7 @@ runs-not_made old mid now q file bytes faults.OutOfMemory o h = subst (Runs old 
   answers = tt;
   caused = tt;
   after_fault = inl refl;
-  asks = (1, refl);
+  asks = inr (inl refl);
   reads = reads_none old _ refl;
   keeps = record { files = inr (record { bytes = bytes; sizes = refl; held = refl }); sinks = inl refl; reads = inl (refl, refl) };
   printed = refl;
@@ -112,7 +112,7 @@ runs-not_made old mid now q file bytes faults.WriteFault o (count, rises, after)
       answers = tt;
       caused = rose;
       after_fault = inl refl;
-      asks = (2, asked_both old.asked (Open q.file) (Make q.out));
+      asks = inr (inr (record { bytes = bytes; sizes = refl; held = refl }, asked_both old.asked (Open q.file) (Make q.out)));
       reads = reads_none old _ refl;
       keeps = record { files = inr (record { bytes = bytes; sizes = refl; held = refl }); sinks = inl refl; reads = inl (refl, refl) };
       printed = refl;
@@ -147,7 +147,7 @@ runs-not_read old mid now q bytes faults.OutOfMemory s h = subst (Runs old q (Er
   answers = tt;
   caused = tt;
   after_fault = inr (refl, [], is_front-nil (with_last old.held bytes) (length old.sizes) q.schema, refl);
-  asks = (2, refl);
+  asks = inr (inr (record { bytes = bytes; sizes = refl; held = refl }, refl));
   reads = reads_none old _ refl;
   keeps = record { files = inr (record { bytes = bytes; sizes = refl; held = refl }); sinks = inr refl; reads = inl (refl, refl) };
   printed = refl;
@@ -164,7 +164,7 @@ runs-not_read old mid now q bytes (faults.ReadFault file) s (zeroth, count, rise
       answers = tt;
       caused = (zeroth, rose, refl);
       after_fault = inr (refl, [], is_front-nil (with_last old.held bytes) (length old.sizes) q.schema, refl);
-      asks = (2, refl);
+      asks = inr (inr (record { bytes = bytes; sizes = refl; held = refl }, refl));
       reads = record { events = r.0; gained = r.1; once = r.2 };
       keeps = record { files = inr (record { bytes = bytes; sizes = refl; held = refl }); sinks = inr refl; reads = inr (rose, refl) };
       printed = refl;
@@ -190,7 +190,7 @@ runs-refused old now q bytes text fault f h = subst (Runs old q (Err fault)) (sy
   answers = tt;
   caused = cause fault h;
   after_fault = inr (refl, [], is_front-nil (with_last old.held bytes) (length old.sizes) q.schema, refl);
-  asks = (2, refl);
+  asks = inr (inr (record { bytes = bytes; sizes = refl; held = refl }, refl));
   reads = record { events = r.0; gained = r.1; once = r.2 };
   keeps = record { files = inr (record { bytes = bytes; sizes = refl; held = refl }); sinks = inr refl; reads = inl (refl, refl) };
   printed = refl;
@@ -236,7 +236,7 @@ runs-stopped old mid now q bytes text table n fault f s w cause =
       answers = tt;
       caused = cause _ is;
       after_fault = inr (refl, take n (ndjson (names_of q.schema) (scan_of q.schema text).rows), is_front-text (with_last old.held bytes) (length old.sizes) q.schema text n f.is, ap (with_sink old.made q.out) (sym front));
-      asks = (2, refl);
+      asks = inr (inr (record { bytes = bytes; sizes = refl; held = refl }, refl));
       reads = record { events = r.0; gained = r.1; once = r.2 };
       keeps = record { files = inr (record { bytes = bytes; sizes = refl; held = refl }); sinks = inr refl; reads = inl (refl, refl) };
       printed = refl;
@@ -275,7 +275,7 @@ runs-whole old mid now q bytes text table f s w =
       };
       caused = tt;
       after_fault = tt;
-      asks = (2, refl);
+      asks = inr (inr (record { bytes = bytes; sizes = refl; held = refl }, refl));
       reads = record { events = r.0; gained = r.1; once = r.2 };
       keeps = record { files = inr (record { bytes = bytes; sizes = refl; held = refl }); sinks = inr refl; reads = inl (refl, refl) };
       printed = refl;

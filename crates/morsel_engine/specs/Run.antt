@@ -81,9 +81,11 @@ MadeSome old q new = (new.made ≡ old.made)
     ⊎ ((new.asked ≡ old.asked ++ names_asked q) × (text : List ℕ)
     × IsFrontOfText new.held (length old.sizes) q.schema text × (new.made ≡ with_sink old.made q.out text))
 
--- some of the names were asked for, the first ones
+-- no name was asked for; or the file's; or the file was opened, and the sink's was asked for too
 abbrev pub AsksSome : Outside → Query → Outside → Type 0
-AsksSome old q new = (n : ℕ) × (new.asked ≡ old.asked ++ take n (names_asked q))
+AsksSome old q new = (new.asked ≡ old.asked)
+    ⊎ (new.asked ≡ old.asked ++ Open q.file ∷ [])
+    ⊎ (OpensOne old new × (new.asked ≡ old.asked ++ names_asked q))
 
 -- the reads of a run, whatever it answers
 pub record Reads (old : Outside) (new : Outside) : Type 0 where

@@ -1,7 +1,8 @@
 //! An outside in memory that tells everything and never fails.
-ghost use Rattle.std.specs.Prelude.{◌≡◌, ◌<◌, ◌≤◌, ◌+◌, length, slice_index, OnOk, IsOkUnless};
+ghost use Rattle.std.specs.Prelude.{◌≡◌, ◌<◌, ◌≤◌, ◌+◌, length, slice_index, OnOk, OnErr, IsOkUnless};
 ghost use Rattle.morsel_meaning.specs.Calls.{Rises, Opens, Reads, Makes, Writes, Prints};
-ghost use Rattle.morsel_frame.specs.Memory.{Contents, untouched, sure, with_opened};
+ghost use Rattle.morsel_meaning.specs.Outside.{ReadAt};
+ghost use Rattle.morsel_frame.specs.Memory.{Contents, untouched, sure, with_opened, with_made, with_event, with_written, with_printed};
 ghost use Rattle.morsel_frame.specs.MemoryParts.{stored_files};
 
 use crate::memory::{IoEvent, Memory};
@@ -47,6 +48,7 @@ impl Io for SureMemIo {
     fn open_source(&mut self, name: &str) -> Result<FileNo, IoErr>
         ensures opens { Opens (sure self.old) name.now result (sure self.new) }
         ensures stored { OnOk result (self.new ≡ with_opened self.old name.now) }
+        ensures err { OnErr result (self.new ≡ self.old) }
         ensures out_of_memory { IsOkUnless result IoErr.OutOfMemory }
     {
         let Ok(file) = self.memory.open(name) else {
@@ -63,6 +65,8 @@ impl Io for SureMemIo {
         requires opened { file.0 < length (sure self.old).sizes }
         requires within { at + length into.old ≤ slice_index (sure self.old).sizes file.0 }
         ensures reads { Reads (sure self.old) file.0 at into.new result (sure self.new) }
+        ensures noted { OnOk result (self.new ≡ with_event self.old (ReadAt file.0 at (length into.new))) }
+        ensures err { OnErr result (self.new ≡ self.old) }
         ensures out_of_memory { IsOkUnless result IoErr.OutOfMemory }
     {
         let event = IoEvent::Read {
@@ -79,6 +83,8 @@ impl Io for SureMemIo {
 
     fn make_sink(&mut self, name: &str) -> Result<(), IoErr>
         ensures makes { Makes (sure self.old) name.now result (sure self.new) }
+        ensures kept { OnOk result (self.new ≡ with_made self.old name.now) }
+        ensures err { OnErr result (self.new ≡ self.old) }
         ensures out_of_memory { IsOkUnless result IoErr.OutOfMemory }
     {
         let Ok(()) = self.memory.make(name) else {
@@ -90,6 +96,8 @@ impl Io for SureMemIo {
     fn write(&mut self, piece: &[u8]) -> Result<(), IoErr>
         requires { 0 < (sure self.old).sinks }
         ensures writes { Writes (sure self.old) piece.now result (sure self.new) }
+        ensures kept { OnOk result (self.new ≡ with_written self.old piece.now) }
+        ensures err { OnErr result (self.new ≡ self.old) }
         ensures out_of_memory { IsOkUnless result IoErr.OutOfMemory }
     {
         let Ok(()) = self.memory.append(piece) else {
@@ -100,6 +108,8 @@ impl Io for SureMemIo {
 
     fn print(&mut self, line: &str) -> Result<(), IoErr>
         ensures prints { Prints (sure self.old) line.now result (sure self.new) }
+        ensures kept { OnOk result (self.new ≡ with_printed self.old line.now) }
+        ensures err { OnErr result (self.new ≡ self.old) }
         ensures out_of_memory { IsOkUnless result IoErr.OutOfMemory }
     {
         let Ok(()) = self.memory.print(line) else {
