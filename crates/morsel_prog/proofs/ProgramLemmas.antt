@@ -10,7 +10,7 @@ use Rattle.morsel_meaning.specs.Values.{Row, names_of}
 use Rattle.morsel_meaning.specs.Outside.{Outside, with_last}
 use Rattle.morsel_meaning.specs.Calls.{Rises}
 use Rattle.morsel_ndjson.specs.Ndjson.{ndjson}
-use Rattle.morsel_engine.specs.Run.{Query, OpensOne, Runs, Answers, HasCause, MadeSome, Reads, Keeps, HasRows, IsFrontOfText}
+use Rattle.morsel_engine.specs.Run.{Query, OpensOne, Runs, Answers, HasCause, MadeSome, AsksSome, Reads, Keeps, HasRows, IsFrontOfText}
 use Rattle.morsel_prog.specs.Words.{Command, Scan as Scans}
 use Rattle.morsel_prog.specs.Program.{query_of, ReportsFault, Reports, RunsAndReports, AnswersWords, TellsFault, CausesWords, LeavesAfterFault, AsksNames, ReadsOnce, KeepsRest}
 
@@ -66,10 +66,16 @@ answers_words old new (Some (Scans file schema out)) status (ran, Ok count, runs
 answers_words old new (Some (Scans file schema out)) status (ran, Ok count, runs, inr (inl h)) z = absurd (not_zero _ new faults.WriteFault status h.2 z)
 answers_words old new (Some (Scans file schema out)) status (ran, Ok count, runs, inr (inr h)) z = absurd (not_zero ran new faults.OutOfMemory status h z)
 
+asks_kept : (old ran : Outside) (q : Query) (printed : Option (List (List ℕ))) (count : ℕ) → AsksSome old q ran → AsksSome old q (record ran { printed = printed; write_faults = count })
+asks_kept old ran q printed count (inl none) = inl none
+asks_kept old ran q printed count (inr (inl first)) = inr (inl first)
+asks_kept old ran q printed count (inr (inr both)) = inr (inr (record { bytes = both.0.bytes; sizes = both.0.sizes; held = both.0.held }, both.1))
+
 -- whatever the status: the names that were asked for
 pub asks_names : (old new : Outside) (command : Option Command) (status : ℕ) → RunsAndReports old command status new → AsksNames old command new
 asks_names old new (Some (Scans file schema out)) status (ran, answer, runs, reports) =
-    let r = reported ran new answer status reports in (runs.asks.0, ap (λ (o : Outside). o.asked) r.after ∙ runs.asks.1)
+    let r = reported ran new answer status reports in
+    subst (AsksSome old (query_of file schema out)) (sym r.after) (asks_kept old ran (query_of file schema out) r.printed r.count runs.asks)
 asks_names old new None status (ran, Ok count, runs, reports) = absurd runs
 asks_names old new None status (ran, Err fault, runs, reports) =
     let r = reported ran new (Err fault) status reports in ap (λ (o : Outside). o.asked) r.after ∙ ap (λ (o : Outside). o.asked) runs.0

@@ -73,7 +73,7 @@ abbrev pub LeavesAfterFault : Outside → Option Command → Outside → Type 0
 LeavesAfterFault old (Some (Scan file schema out)) new = MadeSome old (query_of file schema out) new
 LeavesAfterFault old None new = new.made ≡ old.made
 
--- whatever the status, the names asked for are the command's, from the first on
+-- whatever the status, the names asked for are the command's, from the first on, and the sink's only where the file was opened
 abbrev pub AsksNames : Outside → Option Command → Outside → Type 0
 AsksNames old (Some (Scan file schema out)) new = AsksSome old (query_of file schema out) new
 AsksNames old None new = new.asked ≡ old.asked

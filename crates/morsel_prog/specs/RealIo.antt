@@ -1,6 +1,7 @@
 -- What an outside of real files tells: sizes, counts and names, and nothing of any content.
-use Rattle.std.specs.Prelude.{ℕ, ◌+◌, ◌-◌, ◌^◌, None, List, [], ◌∷◌, ◌++◌, min}
+use Rattle.std.specs.Prelude.{ℕ, ◌+◌, None, List, [], ◌∷◌, ◌++◌}
 use Rattle.morsel_meaning.specs.Outside.{Outside, Asked, Open}
+use Rattle.morsel_frame.specs.MemIo.{raised}
 
 -- files of these sizes are open, and so many sinks were made
 abbrev pub untold : List ℕ → ℕ → ℕ → ℕ → ℕ → List Asked → Outside
@@ -16,10 +17,6 @@ untold sizes sinks read_faults write_faults failed asked = record {
   failed = failed;
   asked = asked;
 }
-
--- a count that stands still at the end of its type
-abbrev pub raised : ℕ → ℕ
-raised count = min (count + 1) (2 ^ 64 - 1)
 
 -- a file of this size is open, under this name
 abbrev pub with_source : Outside → ℕ → List ℕ → Outside

@@ -1,16 +1,12 @@
 -- The words of a command.
 use Rattle.std.specs.Prelude.{ℕ, Bool, not, ◌&&◌, is_none, ◌==◌, nat_le, nat_eq, if◌then◌else◌, Option, Some, None, List, [], ◌∷◌, length, codes}
 use Rattle.std.proofs.Common.{Bor}
-use Rattle.std.specs.Cmp.Lexicographic.{pointwise}
 use Rattle.morsel_meaning.specs.declared.value.ColType.{ColType}
 use Rattle.morsel_meaning.specs.declared.value.ColType.TheVariants as types
 use Rattle.morsel_meaning.specs.declared.value.Field.{Field}
 use Rattle.morsel_meaning.specs.Values.{names_of}
 use Rattle.morsel_frame.specs.Names.{first_repeated}
-
--- whether two texts are the same
-abbrev pub same_text : List ℕ → List ℕ → Bool
-same_text a b = pointwise nat_eq a b
+use Rattle.morsel_grammar.specs.Cells.{same_text}
 
 -- the text up to the first such byte, and what follows it, if there is one
 abbrev pub cut_at : ℕ → List ℕ → List ℕ × Option (List ℕ)

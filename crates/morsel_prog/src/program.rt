@@ -49,7 +49,7 @@ pub fn local_main<H: Io>(alloc: Global, words: &[String], io: &mut H) -> u8
     // No sink was made, or one whose text is a front of the text of the rows before the first refused record.
     ensures after_fault { (result ≡ 0 → ⊥) → LeavesAfterFault (H.seen io.old) (command_of (map string_bytes words.now)) (H.seen io.new) }
 
-    // The names asked for are the command's, from the first on.
+    // The names asked for are the command's, from the first on, and the sink's only where the file was opened.
     ensures asks { AsksNames (H.seen io.old) (command_of (map string_bytes words.now)) (H.seen io.new) }
 
     // No byte of the file is asked twice, and none past its size.

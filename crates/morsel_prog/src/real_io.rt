@@ -5,7 +5,8 @@
 ghost use Rattle.std.specs.Prelude.{◌≡◌, ◌+◌, ◌<◌, ◌≤◌, [], length, slice_index, IfOk, OnOk, OnErr, None};
 ghost use Rattle.morsel_frame.specs.MemoryParts.{asked_as};
 ghost use Rattle.morsel_meaning.specs.Calls.{Rises};
-ghost use Rattle.morsel_prog.specs.RealIo.{untold, raised, with_source, with_asked, with_sink_made, with_read_fault, with_write_fault};
+ghost use Rattle.morsel_frame.specs.MemIo.{raised};
+ghost use Rattle.morsel_prog.specs.RealIo.{untold, with_source, with_asked, with_sink_made, with_read_fault, with_write_fault};
 
 use morsel_frame::AskedFor;
 use morsel_meaning::{Fault, FileNo, Io, IoErr, Name};
