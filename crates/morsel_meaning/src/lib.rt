@@ -2,7 +2,7 @@
 //! files are read, sinks are written and lines are printed; and the gate that a scheduler passes.
 //!
 //! Definitions that several crates cite stand in `specs/`: `Values` and `Order` for the data, `Faults` for the texts,
-//! `Outside`, `Calls` and `Reads` for what the outside may do and what a caller asked of it.
+//! `Outside`, `Calls` and `Asks` for what the outside may do and what a caller asked of it.
 #![tactic(auto)]
 
 mod fault;
