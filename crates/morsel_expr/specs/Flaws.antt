@@ -59,13 +59,26 @@ absence_of_side fields (sides.Lit value) = None
 abbrev pub misfit : List Field → List ℕ → Option ColType → Option Fault
 misfit fields name wanted = if kinds_fit (kind_under fields name) wanted then None else Some (SchemaMismatch name)
 
--- the first flaw of a predicate over these fields, from left to right: an absent name, and then types that differ
+-- the first name from left to right that no column has
+abbrev pub first_absence : List Field → PredNode → Option Fault
+first_absence fields (nodes.And' p a q b) = first_fault (first_absence fields a) (first_absence fields b)
+first_absence fields (nodes.Or' p a q b) = first_fault (first_absence fields a) (first_absence fields b)
+first_absence fields (nodes.Not' p a) = first_absence fields a
+first_absence fields (nodes.IsNull name) = absence fields name
+first_absence fields (nodes.NotNull name) = absence fields name
+first_absence fields (nodes.Is name) = absence fields name
+first_absence fields (nodes.Cmp op name rhs) = first_fault (absence fields name) (absence_of_side fields rhs)
+
+-- the first column from left to right of another type than is wanted
+abbrev pub first_misfit : List Field → PredNode → Option Fault
+first_misfit fields (nodes.And' p a q b) = first_fault (first_misfit fields a) (first_misfit fields b)
+first_misfit fields (nodes.Or' p a q b) = first_fault (first_misfit fields a) (first_misfit fields b)
+first_misfit fields (nodes.Not' p a) = first_misfit fields a
+first_misfit fields (nodes.IsNull name) = None
+first_misfit fields (nodes.NotNull name) = None
+first_misfit fields (nodes.Is name) = misfit fields name (Some types.Bool)
+first_misfit fields (nodes.Cmp op name rhs) = misfit fields name (kind_of_side fields rhs)
+
+-- the first flaw of a predicate over these fields: an absent name anywhere, and then types that differ
 abbrev pub flaw : List Field → PredNode → Option Fault
-flaw fields (nodes.And' p a q b) = first_fault (flaw fields a) (flaw fields b)
-flaw fields (nodes.Or' p a q b) = first_fault (flaw fields a) (flaw fields b)
-flaw fields (nodes.Not' p a) = flaw fields a
-flaw fields (nodes.IsNull name) = absence fields name
-flaw fields (nodes.NotNull name) = absence fields name
-flaw fields (nodes.Is name) = first_fault (absence fields name) (misfit fields name (Some types.Bool))
-flaw fields (nodes.Cmp op name rhs) =
-    first_fault (absence fields name) (first_fault (absence_of_side fields rhs) (misfit fields name (kind_of_side fields rhs)))
+flaw fields node = first_fault (first_absence fields node) (first_misfit fields node)

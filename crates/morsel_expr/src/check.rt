@@ -2,58 +2,81 @@
 ghost use Rattle.std.specs.Prelude.{◌≡◌, Some, IfOk};
 ghost use Rattle.morsel_frame.specs.Refusals.{Refuses, first_fault};
 ghost use Rattle.morsel_frame.specs.Tables.{same_kind};
-ghost use Rattle.morsel_expr.specs.Flaws.{flaw, absence, absence_of_side, misfit, kind_under, kind_of_value, kind_of_side, kinds_fit};
+ghost use Rattle.morsel_expr.specs.Flaws.{flaw, first_absence, first_misfit, absence, absence_of_side, misfit, kind_under, kind_of_value, kind_of_side, kinds_fit};
 
 use crate::{PredNode, Rhs};
 use morsel_frame::{ColType, Fault, Name, Schema, Value};
 use std::alloc::Global;
 
-/// The first flaw of a tree over a schema, as a fault.
+/// Refuses a tree by its first flaw over a schema: an absent name anywhere, and then types that differ.
 pub fn check_node(alloc: Global, node: &PredNode, schema: &Schema) -> Result<(), Fault>
     ensures { Refuses (flaw schema.now node.now) result }
 {
+    check_names(alloc, node, schema)?;
+    check_types(alloc, node, schema)
+}
+
+/// Refuses the first name of a tree that no column has.
+fn check_names(alloc: Global, node: &PredNode, schema: &Schema) -> Result<(), Fault>
+    ensures { Refuses (first_absence schema.now node.now) result }
+{
     match node {
         PredNode::And(a, b) => {
-            check_node(alloc, a, schema)?;
-            check_node(alloc, b, schema)
+            check_names(alloc, a, schema)?;
+            check_names(alloc, b, schema)
         }
         PredNode::Or(a, b) => {
-            check_node(alloc, a, schema)?;
-            check_node(alloc, b, schema)
+            check_names(alloc, a, schema)?;
+            check_names(alloc, b, schema)
         }
-        PredNode::Not(a) => check_node(alloc, a, schema),
+        PredNode::Not(a) => check_names(alloc, a, schema),
         PredNode::IsNull(name) => check_name(alloc, name, schema),
         PredNode::NotNull(name) => check_name(alloc, name, schema),
-        PredNode::Is(name) => check_typed(alloc, name, Some(ColType::Bool), schema),
+        PredNode::Is(name) => check_name(alloc, name, schema),
+        PredNode::Cmp(_, name, rhs) => check_both_names(alloc, name, rhs, schema),
+    }
+}
+
+/// Refuses the first column of a tree that is of another type than is wanted. An absent name is of every type.
+fn check_types(alloc: Global, node: &PredNode, schema: &Schema) -> Result<(), Fault>
+    ensures { Refuses (first_misfit schema.now node.now) result }
+{
+    match node {
+        PredNode::And(a, b) => {
+            check_types(alloc, a, schema)?;
+            check_types(alloc, b, schema)
+        }
+        PredNode::Or(a, b) => {
+            check_types(alloc, a, schema)?;
+            check_types(alloc, b, schema)
+        }
+        PredNode::Not(a) => check_types(alloc, a, schema),
+        PredNode::IsNull(_) => Ok(()),
+        PredNode::NotNull(_) => Ok(()),
+        PredNode::Is(name) => check_kind(alloc, name, Some(ColType::Bool), schema),
         PredNode::Cmp(_, name, rhs) => check_sides(alloc, name, rhs, schema),
     }
 }
 
-/// Refuses a comparison of an absent name, or of two types.
-fn check_sides(alloc: Global, name: &Name, rhs: &Rhs, schema: &Schema) -> Result<(), Fault>
-    ensures { Refuses (first_fault (absence schema.now name.now) (first_fault (absence_of_side schema.now rhs.now) (misfit schema.now name.now (kind_of_side schema.now rhs.now)))) result }
+/// Refuses a comparison of an absent name, the column's before the other side's.
+fn check_both_names(alloc: Global, name: &Name, rhs: &Rhs, schema: &Schema) -> Result<(), Fault>
+    ensures { Refuses (first_fault (absence schema.now name.now) (absence_of_side schema.now rhs.now)) result }
 {
     check_name(alloc, name, schema)?;
     match rhs {
-        Rhs::Col(other) => {
-            check_name(alloc, other, schema)?;
-            check_kind(alloc, name, kind_of(other, schema), schema)
-        }
-        Rhs::Lit(value) => check_kind(alloc, name, kind_of_literal(value), schema),
+        Rhs::Col(other) => check_name(alloc, other, schema),
+        Rhs::Lit(_) => Ok(()),
     }
 }
 
-/// Refuses an absent name, or one of another type than is wanted.
-fn check_typed(
-    alloc: Global,
-    name: &Name,
-    wanted: Option<ColType>,
-    schema: &Schema,
-) -> Result<(), Fault>
-    ensures { Refuses (first_fault (absence schema.now name.now) (misfit schema.now name.now wanted)) result }
+/// Refuses a comparison of two types, by the first column's name.
+fn check_sides(alloc: Global, name: &Name, rhs: &Rhs, schema: &Schema) -> Result<(), Fault>
+    ensures { Refuses (misfit schema.now name.now (kind_of_side schema.now rhs.now)) result }
 {
-    check_name(alloc, name, schema)?;
-    check_kind(alloc, name, wanted, schema)
+    match rhs {
+        Rhs::Col(other) => check_kind(alloc, name, kind_of(other, schema), schema),
+        Rhs::Lit(value) => check_kind(alloc, name, kind_of_literal(value), schema),
+    }
 }
 
 /// Refuses a name that no column has.

@@ -1,10 +1,9 @@
 //! What a predicate says of each row of a frame, one node after another over whole columns.
 ghost use Rattle.std.specs.Prelude.{◌≡◌, true, None, Some, length, map, is_some, IfOk, IsOkUnless};
 ghost use Rattle.std.specs.List.{zip};
-ghost use Rattle.morsel_frame.specs.Refusals.{first_fault};
 ghost use Rattle.morsel_expr.specs.Truths.{least, greatest, mirror};
 ghost use Rattle.morsel_expr.specs.Predicates.{place_of, value_under, side, compared, truth};
-ghost use Rattle.morsel_expr.specs.Flaws.{flaw, absence, absence_of_side, misfit, kind_under, kind_of_side};
+ghost use Rattle.morsel_expr.specs.Flaws.{first_absence, first_misfit, absence, absence_of_side, misfit, kind_under, kind_of_side};
 
 use crate::compare::{asserted_flags, compare_columns, compare_with, nulls, values};
 use crate::{CmpOp, PredNode, Rhs, Truth};
@@ -13,7 +12,8 @@ use std::alloc::Global;
 
 /// What a tree says of each row.
 pub fn eval_node(alloc: Global, node: &PredNode, frame: &Frame) -> Result<Vec<Truth>, Fault>
-    requires { flaw frame.now.schema node.now ≡ None }
+    requires names { first_absence frame.now.schema node.now ≡ None }
+    requires types { first_misfit frame.now.schema node.now ≡ None }
     ensures ok { IfOk result (λ truths. truths.items ≡ map (truth frame.now.schema node.now) frame.now.rows) }
     ensures out_of_memory { IsOkUnless result Fault.OutOfMemory }
 {
@@ -47,7 +47,9 @@ fn eval_sides(
     name: &Name,
     rhs: &Rhs,
 ) -> Result<Vec<Truth>, Fault>
-    requires { first_fault (absence frame.now.schema name.now) (first_fault (absence_of_side frame.now.schema rhs.now) (misfit frame.now.schema name.now (kind_of_side frame.now.schema rhs.now))) ≡ None }
+    requires name { absence frame.now.schema name.now ≡ None }
+    requires other { absence_of_side frame.now.schema rhs.now ≡ None }
+    requires types { misfit frame.now.schema name.now (kind_of_side frame.now.schema rhs.now) ≡ None }
     ensures ok { IfOk result (λ truths. truths.items ≡ map (λ row. compared op (value_under frame.now.schema name.now row) (side frame.now.schema rhs.now row)) frame.now.rows) }
     ensures out_of_memory { IsOkUnless result Fault.OutOfMemory }
 {

@@ -54,6 +54,8 @@ impl Pred {
 
     /// Whether the predicate fits a schema. A name that no column has is not found. Where the two sides of a comparison
     /// differ in type, or `Is` names another type than truth values, it is a mismatch of the first column.
+    ///
+    /// An absent name anywhere comes before types that differ, and of each kind the first from left to right.
     pub fn check(&self, alloc: Global, schema: &Schema) -> Result<(), Fault>
         ensures { Refuses (flaw schema.now self.now) result }
     {

@@ -209,3 +209,44 @@ fn a_column_of_numbers_is_no_truth(rt: HostRuntime) -> Result<(), Fail> {
     assert_eq!(rt; of_numbers(rt.alloc())?, 8);
     Ok(())
 }
+
+/// A comparison of a with a truth value, and then a null test of the column of this name.
+fn mismatch_and_test(alloc: Global, name: &str) -> Result<PredNode, Fault> {
+    let mismatch = compared(alloc, CmpOp::Eq, "a", Value::Bool(true))?;
+    let test = PredNode::IsNull(Name::new(alloc, name)?);
+    Ok(PredNode::And(Box::new(alloc, mismatch)?, Box::new(alloc, test)?))
+}
+
+/// Whether the fault of a tree over a = 1, null, 5 is this one.
+fn has_fault(alloc: Global, node: PredNode, wanted: &Fault) -> Result<bool, Fault> {
+    let frame = worked(alloc)?;
+    let pred = Pred::new(node)?;
+    match pred.check(alloc, frame.schema()) {
+        Ok(()) => Ok(false),
+        Err(fault) => Ok(fault == *wanted),
+    }
+}
+
+fn absent_after_mismatch(alloc: Global) -> Result<bool, Fault> {
+    let node = mismatch_and_test(alloc, "z")?;
+    let name = Name::new(alloc, "z")?;
+    has_fault(alloc, node, &Fault::ColumnNotFound { name })
+}
+
+#[test]
+fn an_absent_name_comes_before_an_earlier_mismatch(rt: HostRuntime) -> Result<(), Fail> {
+    assert!(rt; absent_after_mismatch(rt.alloc())?);
+    Ok(())
+}
+
+fn mismatch_with_all_names(alloc: Global) -> Result<bool, Fault> {
+    let node = mismatch_and_test(alloc, "a")?;
+    let name = Name::new(alloc, "a")?;
+    has_fault(alloc, node, &Fault::SchemaMismatch { name })
+}
+
+#[test]
+fn a_mismatch_is_told_where_all_names_are_there(rt: HostRuntime) -> Result<(), Fail> {
+    assert!(rt; mismatch_with_all_names(rt.alloc())?);
+    Ok(())
+}

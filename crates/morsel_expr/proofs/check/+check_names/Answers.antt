@@ -1,0 +1,4 @@
+use Rattle.morsel_expr.proofs.check.+check_names.Goals as goal
+
+pub returns-in-Cmp : goal.returns-in-Cmp
+returns-in-Cmp t c = rw c.in-Cmp.is c.check_both_names.ensures
