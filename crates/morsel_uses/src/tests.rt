@@ -10,8 +10,10 @@ mod frames;
 mod mem_io;
 mod ndjson;
 mod open_gate;
+mod scans;
 mod schemas;
 mod sure_mem_io;
+mod texts;
 mod told;
 
 /// A column of numbers.

@@ -1,7 +1,8 @@
-//! Columns and buffers of texts: each public call once with ample memory.
+//! Columns, and the texts that they lend: each public call once with ample memory.
 use super::column_of;
 use morsel_frame::{Cell, ColType, Column, Fault, Name, Texts, Value};
 use std::alloc::Global;
+use std::process::Abort;
 use std::test::Fail;
 
 /// How many nulls a column has.
@@ -15,14 +16,16 @@ fn nulls_of(column: &Column) -> usize {
     count
 }
 
-fn made_of_nulls(alloc: Global) -> Result<bool, Fault> {
-    let column = Column::full_null(alloc, ColType::Int, 2)?;
-    Ok(column.len() == 2 && nulls_of(&column) == 2)
+fn made_of_nulls(alloc: Global, kind: ColType) -> Result<bool, Fault> {
+    let column = Column::full_null(alloc, kind, 2)?;
+    Ok(column.kind() == kind && column.len() == 2 && nulls_of(&column) == 2)
 }
 
 #[test]
 fn a_column_of_nulls_has_nulls_alone(rt: HostRuntime) -> Result<(), Fail> {
-    assert!(rt; made_of_nulls(rt.alloc())?);
+    assert!(rt; made_of_nulls(rt.alloc(), ColType::Int)?);
+    assert!(rt; made_of_nulls(rt.alloc(), ColType::Text)?);
+    assert!(rt; made_of_nulls(rt.alloc(), ColType::Bool)?);
     Ok(())
 }
 
@@ -131,12 +134,56 @@ fn the_greatest_row_number_gathers_a_null(rt: HostRuntime) -> Result<(), Fail> {
     Ok(())
 }
 
+/// The column's values are these.
+fn are(rt: &impl Abort, column: &Column, wanted: &[Cell<'_>]) {
+    assert_eq!(rt; column.len(), wanted.len());
+    for row in 0..wanted.len() {
+        if row < column.len() {
+            assert_eq!(rt; column.get(row), wanted[row], "at {row}");
+        }
+    }
+}
+
+/// The values of these rows of a column.
+fn picked(alloc: Global, column: &Column, rows: &[usize]) -> Result<Column, Fault> {
+    let mut picked = Column::new(alloc, column.kind());
+    picked.append_picks(column, rows)?;
+    Ok(picked)
+}
+
+#[test]
+fn numbers_are_picked_by_their_rows(rt: HostRuntime) -> Result<(), Fail> {
+    let column = column_of(rt.alloc(), &[5, 6, 7])?;
+    let picked = picked(rt.alloc(), &column, &[2, 0, 3, 2])?;
+    let wanted = [Cell::Int(7), Cell::Int(5), Cell::Null, Cell::Int(7)];
+    are(&rt, &picked, &wanted);
+    Ok(())
+}
+
+#[test]
+fn texts_are_picked_by_their_rows(rt: HostRuntime) -> Result<(), Fail> {
+    let column = all_texts(rt.alloc())?;
+    let picked = picked(rt.alloc(), &column, &[2, 1, 0, 4, 2])?;
+    let (x, yz) = (Cell::Text("x"), Cell::Text("yz"));
+    are(&rt, &picked, &[yz, Cell::Null, x, Cell::Null, yz]);
+    Ok(())
+}
+
 fn flag_of(alloc: Global) -> Result<Column, Fault> {
     let mut flags = Column::new(alloc, ColType::Bool);
     if flags.kind() == ColType::Bool {
         flags.push_bool(true)?;
     }
     Ok(flags)
+}
+
+#[test]
+fn truth_values_are_picked_by_their_rows(rt: HostRuntime) -> Result<(), Fail> {
+    let column = flag_of(rt.alloc())?;
+    let picked = picked(rt.alloc(), &column, &[0, usize::MAX, 0])?;
+    let wanted = [Cell::Bool(true), Cell::Null, Cell::Bool(true)];
+    are(&rt, &picked, &wanted);
+    Ok(())
 }
 
 fn lent_whole(alloc: Global) -> Result<bool, Fault> {

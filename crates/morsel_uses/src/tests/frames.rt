@@ -282,3 +282,51 @@ fn no_columns_leave_the_height(rt: HostRuntime) -> Result<(), Fail> {
     assert!(rt; selected_nothing(rt.alloc())?);
     Ok(())
 }
+
+fn beside(alloc: Global, frame: Frame, other: Frame) -> Result<Frame, Fault> {
+    if frame.height() != other.height() {
+        return Err(Fault::Usage);
+    }
+    frame.hstack(alloc, other)
+}
+
+/// A frame of a = 1, 2, 3, of b = 4, 5, 6 and of c = 7, 8, 9.
+fn three_columns(alloc: Global) -> Result<Frame, Fault> {
+    let first = worked(alloc)?;
+    let second = beside(alloc, first, frame_of(alloc, "b", &[4, 5, 6])?)?;
+    beside(alloc, second, frame_of(alloc, "c", &[7, 8, 9])?)
+}
+
+/// The third column, and then the first.
+fn selects_two(alloc: Global, frame: Frame) -> Result<Frame, Fault> {
+    if frame.width() != 3 {
+        return Err(Fault::Usage);
+    }
+    frame.select(alloc, &[2, 0])
+}
+
+fn selected_two(alloc: Global) -> Result<Frame, Fault> {
+    let frame = three_columns(alloc)?;
+    selects_two(alloc, frame)
+}
+
+/// Whether there are two columns, of these names.
+fn has_names(frame: &Frame, first: &str, second: &str) -> bool {
+    let schema = frame.schema();
+    schema.len() == 2 && schema.find(first) == Some(0) && schema.find(second) == Some(1)
+}
+
+/// Whether the two columns have these numbers.
+fn has_both(alloc: Global, frame: &Frame, first: &[i64], second: &[i64]) -> Result<bool, Fault> {
+    let front = numbers_at(alloc, frame, 0)?;
+    let back = numbers_at(alloc, frame, 1)?;
+    Ok(front.as_slice() == first && back.as_slice() == second)
+}
+
+#[test]
+fn selected_columns_come_in_the_order_asked(rt: HostRuntime) -> Result<(), Fail> {
+    let frame = selected_two(rt.alloc())?;
+    assert!(rt; has_names(&frame, "c", "a"));
+    assert!(rt; has_both(rt.alloc(), &frame, &[7, 8, 9], &[1, 2, 3])?);
+    Ok(())
+}
