@@ -1,4 +1,4 @@
-//! Uses of the crates as a caller has them: tests that take the public calls alone.
+//! Uses of frames and of the outside in memory as a caller has them: tests that take the public calls alone.
 #![tactic(auto)]
 
 #[cfg(test)]

@@ -5,12 +5,9 @@ use morsel_frame::{ColType, Column, Fault};
 use std::alloc::Global;
 
 mod columns;
-mod csv;
 mod frames;
 mod mem_io;
-mod ndjson;
 mod open_gate;
-mod scans;
 mod schemas;
 mod sure_mem_io;
 mod texts;

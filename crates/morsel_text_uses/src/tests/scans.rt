@@ -1,5 +1,4 @@
 //! A scan called by itself over each outside in memory.
-use super::told::{has_asked, has_sink};
 use morsel_engine::run_scan;
 use morsel_frame::{AskedFor, ColType, Fault, Field, Io, MemIo, Memory, Name, Schema, SureMemIo};
 use std::alloc::Global;
@@ -49,6 +48,16 @@ fn schema(alloc: Global) -> Result<Schema, Fault> {
 fn scans<H: Io>(alloc: Global, io: &mut H, file: &str) -> Result<u64, Fault> {
     let schema = schema(alloc)?;
     run_scan(alloc, io, file, &schema, "o")
+}
+
+/// Whether one sink was made, with this name and text.
+fn has_sink(memory: &Memory, name: &str, text: &[u8]) -> bool {
+    memory.sinks() == 1 && memory.sink_name(0) == name && memory.text(0) == text
+}
+
+/// Whether this was the name of this number, and what it was asked for.
+fn has_asked(memory: &Memory, at: usize, what: AskedFor, name: &str) -> bool {
+    at < memory.names() && memory.name(at) == (what, name)
 }
 
 /// Whether the file and then the sink were asked for, and nothing was printed.
