@@ -2,7 +2,8 @@
 use crate::table::{bare_frame, number_frame, text_frame};
 use crate::timing::{Best, Timing, now, tell};
 use morsel_expr::{CmpOp, Pred, PredNode, Rhs, Truth, filter};
-use morsel_frame::{Fault, Frame, Name, Value};
+use morsel_frame::Frame;
+use morsel_meaning::{Fault, Name, Value};
 use std::alloc::Global;
 use std::rt::Clock;
 

@@ -6,7 +6,7 @@ mod expr;
 mod table;
 mod timing;
 
-use morsel_frame::Fault;
+use morsel_meaning::Fault;
 use std::io::ErrorKind;
 use std::rt::Env;
 use std::{env, io};

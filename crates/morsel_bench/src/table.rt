@@ -1,7 +1,8 @@
 //! The tables that are timed: numbers below a thousand in no order, and short texts, a few of them null.
 ghost use Rattle.std.specs.Prelude.{◌≡◌, IfOk};
 
-use morsel_frame::{ColType, Column, Fault, Field, Frame, Name, Schema};
+use morsel_frame::{Column, Frame, Schema};
+use morsel_meaning::{ColType, Fault, Field, Name};
 use std::alloc::Global;
 
 /// Numbers in no order, the same at each run.

@@ -1,5 +1,5 @@
 //! How long a part takes, and one line for each.
-use morsel_frame::Fault;
+use morsel_meaning::Fault;
 use std::rt::Clock;
 use std::time::Instant;
 

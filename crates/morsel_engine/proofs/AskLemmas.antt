@@ -2,8 +2,8 @@
 use Rattle.std.specs.Prelude.{◌≡◌, ℕ, ◌<◌, ◌≤◌, true, ◌&&◌, ◌==◌, nat_lt, if◌then◌else◌, List, [], ◌∷◌, refl}
 use Rattle.std.proofs.Common.{arith, add-zero}
 use Rattle.std.proofs.lemmas.Bool.Decides.{nat_tests}
-use Rattle.morsel_meaning.specs.Outside.{Event, ReadAt, Wrote}
-use Rattle.morsel_meaning.specs.Asks.{times_asked, asks}
+use Rattle.morsel_outside.specs.Outside.{Event, ReadAt, Wrote}
+use Rattle.morsel_outside.specs.Asks.{times_asked, asks}
 use Rattle.morsel_engine.specs.Stages.{AreWrites}
 use Rattle.morsel_engine.specs.Run.{AsksAtMostOnce, AsksEachByte}
 

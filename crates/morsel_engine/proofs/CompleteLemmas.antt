@@ -3,12 +3,12 @@ use Rattle.std.specs.Prelude.{ℕ, Option, Some, None, Result, Ok, Err, List, le
 use Rattle.morsel_meaning.specs.declared.fault.Fault.{Fault}
 use Rattle.morsel_meaning.specs.declared.fault.Fault.TheVariants as faults
 use Rattle.morsel_meaning.specs.declared.value.Field.{Field}
-use Rattle.morsel_meaning.specs.Outside.{Outside}
-use Rattle.morsel_engine.specs.Run.{Query, IsRefusedAt, Caused}
+use Rattle.morsel_outside.specs.Outside.{Outside}
+use Rattle.morsel_engine.specs.Run.{Query, IsFirstRefused, Caused}
 use Rattle.morsel_engine.specs.Complete.{IsValid, NoneRises}
 use Rattle.morsel_engine.proofs.EndLemmas.{rows_or_place}
 
-valid_not_refused : (held : Option (List (List ℕ))) (file : ℕ) (schema : List Field) (at : ℕ) → IsValid held file schema → IsRefusedAt held file schema at → ⊥
+valid_not_refused : (held : Option (List (List ℕ))) (file : ℕ) (schema : List Field) (at : ℕ) → IsValid held file schema → IsFirstRefused held file schema at → ⊥
 valid_not_refused None file schema at valid refused = valid
 valid_not_refused (Some files) file schema at valid refused = rows_or_place schema _ valid.0 refused.0 at valid.1 refused.1
 

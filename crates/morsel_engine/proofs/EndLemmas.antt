@@ -5,7 +5,7 @@ use Rattle.morsel_meaning.specs.declared.value.ColType.{ColType}
 use Rattle.morsel_meaning.specs.declared.value.Field.{Field}
 use Rattle.morsel_meaning.specs.Values.{Row, kinds_of}
 use Rattle.morsel_grammar.specs.Options.{standard}
-use Rattle.morsel_grammar.specs.Cells.{Cell}
+use Rattle.morsel_grammar.specs.Cells.{CsvCell}
 use Rattle.morsel_grammar.specs.Rows.{mark_len, unmarked}
 use Rattle.morsel_grammar.specs.Reading.{Refusal}
 use Rattle.morsel_grammar.specs.GrammarRows.{HasRowsBefore, HasRowAt}
@@ -20,7 +20,7 @@ use Rattle.morsel_engine.proofs.GrammarLemmas.{standard_fits}
 
 -- as many rows as the limit, and then the record of one more
 abbrev IsBehindLimit : ℕ → List Field → List ℕ → Option ℕ → Type 0
-IsBehindLimit limit fields bytes refused = (at : ℕ) × (before : List (List Cell)) × (cells : List Cell) × (refused ≡ Some at) × (length before ≡ limit)
+IsBehindLimit limit fields bytes refused = (at : ℕ) × (before : List (List CsvCell)) × (cells : List CsvCell) × (refused ≡ Some at) × (length before ≡ limit)
     × HasRowAt standard (kinds_of fields) true (mark_len bytes) (unmarked bytes) before at cells
 
 -- the rows by the grammar, and where the limit ends them
@@ -91,7 +91,7 @@ some_bytes [] some = absurd (some refl)
 some_bytes (b ∷ bytes) some = omega arith
 
 -- a place behind whole records, and before something
-within : (kinds : List ColType) (bytes : List ℕ) (at : ℕ) (cells : List (List Cell)) (still : Bool) (rest : List ℕ)
+within : (kinds : List ColType) (bytes : List ℕ) (at : ℕ) (cells : List (List CsvCell)) (still : Bool) (rest : List ℕ)
     → HasRowsBefore standard kinds true (mark_len bytes) (unmarked bytes) at cells still rest → at < length bytes
 within kinds bytes at cells still rest before =
     let all = mark_and_rest bytes in

@@ -6,12 +6,12 @@ use Rattle.std.proofs.lemmas.List.{length-map}
 use Rattle.std.proofs.lemmas.Grind.{common_steps}
 use Rattle.morsel_meaning.specs.declared.value.Field.{Field}
 use Rattle.morsel_meaning.specs.Values.{Row, names_of}
-use Rattle.morsel_meaning.specs.Outside.{with_last, IsSized}
-use Rattle.morsel_meaning.specs.Calls.{Holds}
+use Rattle.morsel_outside.specs.Outside.{with_last, IsSized}
+use Rattle.morsel_outside.specs.Calls.{Holds}
 use Rattle.morsel_ndjson.specs.Ndjson.{ndjson}
-use Rattle.morsel_engine.specs.Scan.{Scan, scan_of}
+use Rattle.morsel_engine.specs.Scan.{Scanned, scan_of}
 use Rattle.morsel_engine.specs.FileRows.{ScansFile}
-use Rattle.morsel_engine.specs.Run.{HasRows, IsRefusedAt, IsFrontOfText}
+use Rattle.morsel_engine.specs.Run.{HasAllRows, IsFirstRefused, IsFrontOfText}
 use Rattle.morsel_engine.proofs.GrammarLemmas.{scans_file}
 
 -- the file holds this text, where its bytes are told
@@ -41,12 +41,12 @@ pub file_is-read : (held : Option (List (List ℕ))) (file : ℕ) (bytes text : 
 file_is-read None file bytes text is same h = tt
 file_is-read (Some files) file bytes text is same h = is ∙ whole_range bytes text same (rw is at h)
 
-pub has_rows-text : (held : Option (List (List ℕ))) (file : ℕ) (schema : List Field) (text : List ℕ) (rows : List Row) → FileIs held file text → scan_of schema text ≡ record { rows = rows; refused = None } → HasRows held file schema rows
+pub has_rows-text : (held : Option (List (List ℕ))) (file : ℕ) (schema : List Field) (text : List ℕ) (rows : List Row) → FileIs held file text → scan_of schema text ≡ record { rows = rows; refused = None } → HasAllRows held file schema rows
 has_rows-text None file schema text rows is h = tt
 has_rows-text (Some files) file schema text rows is h =
-    subst (λ (t : List ℕ). ScansFile schema t rows None) (sym is) (subst (λ (s : Scan). ScansFile schema text s.rows s.refused) h (scans_file schema text))
+    subst (λ (t : List ℕ). ScansFile schema t rows None) (sym is) (subst (λ (s : Scanned). ScansFile schema text s.rows s.refused) h (scans_file schema text))
 
-pub is_refused_at-text : (held : Option (List (List ℕ))) (file : ℕ) (schema : List Field) (text : List ℕ) (at : ℕ) → FileIs held file text → (scan_of schema text).refused ≡ Some at → IsRefusedAt held file schema at
+pub is_refused_at-text : (held : Option (List (List ℕ))) (file : ℕ) (schema : List Field) (text : List ℕ) (at : ℕ) → FileIs held file text → (scan_of schema text).refused ≡ Some at → IsFirstRefused held file schema at
 is_refused_at-text None file schema text at is h = tt
 is_refused_at-text (Some files) file schema text at is h =
     let rows = (scan_of schema text).rows in

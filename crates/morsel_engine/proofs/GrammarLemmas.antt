@@ -6,12 +6,12 @@ use Rattle.std.proofs.lemmas.Bool.Decides.{nat_tests}
 use Rattle.morsel_meaning.specs.declared.value.Field.{Field}
 use Rattle.morsel_meaning.specs.Values.{Row, kinds_of}
 use Rattle.morsel_grammar.specs.Options.{AreOptions, standard}
-use Rattle.morsel_grammar.specs.Cells.{Cell}
+use Rattle.morsel_grammar.specs.Cells.{CsvCell}
 use Rattle.morsel_grammar.specs.Rows.{mark_len, unmarked}
 use Rattle.morsel_grammar.specs.Reading.{Read, Refusal, used_values, used_rows, value_then, reading}
 use Rattle.morsel_grammar.proofs.FileLemmas.{places_rows}
 use Rattle.morsel_grammar.proofs.UsedRowLemmas.{read_of-rows}
-use Rattle.morsel_engine.specs.Scan.{Scan, place_of, row_places, limited, row_limit, is_compressed, read_file, scan_of}
+use Rattle.morsel_engine.specs.Scan.{Scanned, refused_place, row_places, limited, row_limit, is_compressed, read_file, scan_of}
 use Rattle.morsel_engine.specs.FileRows.{RowsOfFile, EndAtLimit, Ends, ScansFile}
 use Rattle.morsel_engine.proofs.LimitLemmas.{limited-within, scan_of-plain}
 
@@ -28,11 +28,11 @@ standard_fits = record {
 }
 
 -- a row of cells stands at the place of the row of values with this number
-abbrev StandsAt : List (ℕ × List Cell) → Read → ℕ → Type 0
-StandsAt rows read k = (before : List (ℕ × List Cell)) × (cells : List Cell) × (after : List (ℕ × List Cell))
+abbrev StandsAt : List (ℕ × List CsvCell) → Read → ℕ → Type 0
+StandsAt rows read k = (before : List (ℕ × List CsvCell)) × (cells : List CsvCell) × (after : List (ℕ × List CsvCell))
     × (rows ≡ before ++ (get_or (row_places read) k 0, cells) ∷ after) × (length before ≡ k)
 
-stands-behind : (head : Bool) (place : ℕ) (cells : List Cell) (rows : List (ℕ × List Cell)) (row : Option Row) (later : Read) (k : ℕ)
+stands-behind : (head : Bool) (place : ℕ) (cells : List CsvCell) (rows : List (ℕ × List CsvCell)) (row : Option Row) (later : Read) (k : ℕ)
     → k < length (value_then head place row later).rows → ((j : ℕ) → j < length later.rows → StandsAt rows later j)
     → StandsAt ((place, cells) ∷ rows) (value_then head place row later) k
 stands-behind head place cells rows None later k h next = absurd (omega arith)
@@ -40,7 +40,7 @@ stands-behind head place cells rows (Some row) later zero h next = ([], cells, r
 stands-behind head place cells rows (Some row) later (suc k) h next =
     let n = next k (omega arith) in ((place, cells) ∷ n.0, n.1, n.2, ap (λ rs. (place, cells) ∷ rs) n.3, ap suc n.4)
 
-stands_at : (used : List Bool) (head : Bool) (rows : List (ℕ × List Cell)) (refusal : Option Refusal) (k : ℕ)
+stands_at : (used : List Bool) (head : Bool) (rows : List (ℕ × List CsvCell)) (refusal : Option Refusal) (k : ℕ)
     → k < length (used_rows used head rows refusal).rows → StandsAt rows (used_rows used head rows refusal) k
 stands_at used head [] refusal k h = absurd (omega arith)
 stands_at used head ((place, cells) ∷ rows) refusal k h =
@@ -52,7 +52,7 @@ rows_of_file fields bytes = read_of-rows standard (kinds_of fields) (replicate (
 
 -- few rows end at the end of the file, or at the record that is refused
 ends_within : (limit : ℕ) (fields : List Field) (bytes : List ℕ) (rows : List Row) (still : Bool) (refusal : Option Refusal)
-    → is_compressed bytes ≡ false → length rows ≤ limit → RowsOfFile fields bytes rows still refusal → Ends limit fields bytes rows (place_of refusal)
+    → is_compressed bytes ≡ false → length rows ≤ limit → RowsOfFile fields bytes rows still refusal → Ends limit fields bytes rows (refused_place refusal)
 ends_within limit fields bytes rows still None plain few is = record { plain = plain; still = still; of_file = is; few = few }
 ends_within limit fields bytes rows still (Some refusal) plain few is =
     inr (inl (record { plain = plain; still = still; refusal = refusal; of_file = is; place = refl; few = few }))
@@ -65,7 +65,7 @@ ends_beyond limit fields bytes plain many =
     let read = read_file fields bytes in
     let s = stands_at (replicate (length fields) true) all.head all.rows all.refusal limit many in
     let n = length-map read.rows (λ (r : ℕ × Row). r.1) in
-    let m = length-map s.0 (λ (r : ℕ × List Cell). r.1) in
+    let m = length-map s.0 (λ (r : ℕ × List CsvCell). r.1) in
     record {
       plain = plain;
       more = map (λ (r : ℕ × Row). r.1) read.rows;
@@ -74,7 +74,7 @@ ends_beyond limit fields bytes plain many =
       of_file = rows_of_file fields bytes;
       many = omega arith;
       first = sym (take-map (λ (r : ℕ × Row). r.1) limit read.rows);
-      before = map (λ (r : ℕ × List Cell). r.1) s.0;
+      before = map (λ (r : ℕ × List CsvCell). r.1) s.0;
       cells = s.1;
       counted = m ∙ s.4;
       behind = places_rows standard standard_fits (kinds_of fields) true (mark_len bytes) (unmarked bytes) s.0 (get_or (row_places read) limit 0) s.1 s.2 s.3;
@@ -88,7 +88,7 @@ ends-limited limit fields bytes plain = either (nat_le (length (read_file fields
     read : Read
     read = read_file fields bytes
 
-    P : Scan → Type 0
+    P : Scanned → Type 0
     P s = Ends limit fields bytes s.rows s.refused
 
     either : (t : Bool) → nat_le (length read.rows) limit ≡ t → P (limited limit read)
@@ -104,7 +104,7 @@ ends-limited limit fields bytes plain = either (nat_le (length (read_file fields
 pub scans_file : (fields : List Field) (bytes : List ℕ) → ScansFile fields bytes (scan_of fields bytes).rows (scan_of fields bytes).refused
 scans_file fields bytes = either (is_compressed bytes) refl
   where
-    P : Scan → Type 0
+    P : Scanned → Type 0
     P s = ScansFile fields bytes s.rows s.refused
 
     either : (t : Bool) → is_compressed bytes ≡ t → P (scan_of fields bytes)

@@ -5,13 +5,13 @@ use Rattle.std.proofs.Common.{arith}
 use Rattle.morsel_meaning.specs.declared.value.ColType.{ColType}
 use Rattle.morsel_grammar.specs.Options.{Options}
 use Rattle.morsel_grammar.specs.Grammar.{CsvRecord}
-use Rattle.morsel_grammar.specs.Cells.{Cell}
+use Rattle.morsel_grammar.specs.Cells.{CsvCell}
 use Rattle.morsel_grammar.specs.Rows.{RowOf, NoRow, IsRow, Misfit, row_of, is_header}
 use Rattle.morsel_grammar.specs.Split.{record_at}
 use Rattle.morsel_grammar.specs.Reading.{Reading, Refusal, row_then, record_then, split_then, reading_up_to}
 
 -- from a place on, each record stands no earlier than the one before it
-abbrev pub Rising : ℕ → List (ℕ × List Cell) → Option Refusal → Type 0
+abbrev pub Rising : ℕ → List (ℕ × List CsvCell) → Option Refusal → Type 0
 Rising lo [] None = Unit {0}
 Rising lo [] (Some refusal) = lo ≤ refusal.at
 Rising lo (row ∷ rows) refusal = (lo ≤ row.0) × Rising row.0 rows refusal
@@ -22,7 +22,7 @@ record IsLaid (lo n : ℕ) (r : Reading) : Type 0 where
   pub count : length r.rows ≤ n
 
 -- what rises from a place rises from each earlier one
-rising-from : (lo hi : ℕ) (rows : List (ℕ × List Cell)) (refusal : Option Refusal) → lo ≤ hi → Rising hi rows refusal → Rising lo rows refusal
+rising-from : (lo hi : ℕ) (rows : List (ℕ × List CsvCell)) (refusal : Option Refusal) → lo ≤ hi → Rising hi rows refusal → Rising lo rows refusal
 rising-from lo hi [] None le h = tt
 rising-from lo hi [] (Some refusal) le h = omega arith
 rising-from lo hi (row ∷ rows) refusal le (first, later) = (omega arith, later)

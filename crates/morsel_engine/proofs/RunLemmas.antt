@@ -5,14 +5,14 @@ use Rattle.std.proofs.Math.Seq.{get_or-append_seam}
 use Rattle.morsel_meaning.specs.declared.fault.Fault.{Fault}
 use Rattle.morsel_meaning.specs.declared.fault.Fault.TheVariants as faults
 use Rattle.morsel_meaning.specs.Values.{names_of}
-use Rattle.morsel_meaning.specs.Outside.{Outside, Event, ReadAt, Asked, Open, Make, with_last, with_piece, with_sink, IsSized}
-use Rattle.morsel_meaning.specs.Calls.{Rises, Holds, Opened}
-use Rattle.morsel_meaning.specs.Asks.{Gains}
+use Rattle.morsel_outside.specs.Outside.{Outside, Event, ReadAt, Asked, Open, Make, with_last, with_piece, with_sink, IsSized}
+use Rattle.morsel_outside.specs.Calls.{Rises, Holds, Opened}
+use Rattle.morsel_outside.specs.Asks.{Gains}
 use Rattle.morsel_ndjson.specs.Ndjson.{ndjson}
 use Rattle.morsel_meaning.specs.Values.{Table}
-use Rattle.morsel_engine.specs.Scan.{Scan, scan_of, IsRefusal, IsScan}
+use Rattle.morsel_engine.specs.Scan.{Scanned, scan_of, IsRefusal, IsScan}
 use Rattle.morsel_engine.specs.Stages.{OpensSource, MakesSink, ReadsWhole, ReadFails, WritesText, WritesTable, Gained, AreWrites}
-use Rattle.morsel_engine.specs.Run.{Query, Runs, Reads, HasCause, AsksAtMostOnce, names_asked}
+use Rattle.morsel_engine.specs.Run.{Query, Runs, ReadsAtMostOnce, HasCause, AsksAtMostOnce, names_asked}
 use Rattle.morsel_engine.proofs.StageLemmas.{gains-nothing, gains-last, gains-append, with_piece-with_sink}
 use Rattle.morsel_engine.proofs.AskLemmas.{asks_each_byte-whole, asks_at_most_once-whole, asks_at_most_once-writes}
 use Rattle.morsel_engine.proofs.FileLemmas.{FileIs, file_is-opened, file_is-read, has_rows-text, is_refused_at-text, is_front-nil, is_front-text}
@@ -50,7 +50,7 @@ pub record IsFetched (old : Outside) (q : Query) (bytes text : List ℕ) (now : 
   pub same : length text ≡ length bytes
   pub after : now ≡ fetched old q bytes
 
-reads_none : (old now : Outside) → now.events ≡ old.events → Reads old now
+reads_none : (old now : Outside) → now.events ≡ old.events → ReadsAtMostOnce old now
 reads_none old now same = record {
   events = [];
   gained = subst (λ events. Gains old.events [] events) (sym same) (gains-nothing old.events);
@@ -231,7 +231,7 @@ runs-stopped old mid now q bytes text table n fault f s w cause =
     let is = is_written old mid now q bytes text _ f w in
     let r = reads_written old mid now q bytes text _ f w in
     let front : take n (ndjson (names_of q.schema) (scan_of q.schema text).rows) ≡ take n (ndjson (names_of table.schema) table.rows) =
-    ap (λ rows. take n (ndjson (names_of q.schema) rows)) (ap (λ (x : Scan). x.rows) s.rows) ∙ ap (λ fields. take n (ndjson (names_of fields) table.rows)) (sym s.schema) in
+    ap (λ rows. take n (ndjson (names_of q.schema) rows)) (ap (λ (x : Scanned). x.rows) s.rows) ∙ ap (λ fields. take n (ndjson (names_of fields) table.rows)) (sym s.schema) in
     subst (Runs old q (Err fault)) (sym is) (record {
       answers = tt;
       caused = cause _ is;

@@ -1,11 +1,11 @@
 -- What a run of writes leaves: pieces one behind the other are one piece.
 use Rattle.std.specs.Prelude.{◌≡◌, ℕ, ◌≤◌, Option, Some, None, List, [], ◌∷◌, ◌++◌, take, refl}
 use Rattle.std.proofs.Common.{sym, ap, subst, ◌∙◌, append_assoc, append-nil, arith}
-use Rattle.morsel_meaning.specs.Outside.{Outside, Event, ReadAt, Wrote, Sink, with_last, with_piece, with_sink, append_last}
+use Rattle.morsel_outside.specs.Outside.{Outside, Event, ReadAt, Wrote, Sink, with_last, with_piece, with_sink, append_last}
 use Rattle.std.specs.Prelude.{Err}
-use Rattle.morsel_meaning.specs.declared.io.IoErr.TheVariants.{OutOfMemory, Failed}
-use Rattle.morsel_meaning.specs.Calls.{Rises, Writes}
-use Rattle.morsel_meaning.specs.Asks.{Gains}
+use Rattle.morsel_outside.specs.declared.io.IoErr.TheVariants.{OutOfMemory, Failed}
+use Rattle.morsel_outside.specs.Calls.{Rises, Writes}
+use Rattle.morsel_outside.specs.Asks.{Gains}
 use Rattle.morsel_engine.specs.Stages.{AreWrites, Gained}
 
 append_last-append_last : (sinks : List Sink) (a b : List ℕ) → append_last (append_last sinks a) b ≡ append_last sinks (a ++ b)

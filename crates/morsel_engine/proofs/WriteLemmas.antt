@@ -3,11 +3,11 @@ use Rattle.std.specs.Prelude.{◌≡◌, ◌⊎◌, ℕ, zero, suc, ◌+◌, ◌
 use Rattle.std.proofs.Common.{sym, ap, subst, ◌∙◌, append_assoc, arith, inl, inr}
 use Rattle.std.proofs.lemmas.List.{take-append-drop}
 use Rattle.std.proofs.lemmas.List.Concat.{flat_map-append}
-use Rattle.morsel_meaning.specs.declared.Fault.{Fault}
-use Rattle.morsel_meaning.specs.declared.Fault.TheVariants as faults
+use Rattle.morsel_meaning.specs.declared.fault.Fault.{Fault}
+use Rattle.morsel_meaning.specs.declared.fault.Fault.TheVariants as faults
 use Rattle.morsel_meaning.specs.Values.{Row}
-use Rattle.morsel_meaning.specs.Outside.{Outside}
-use Rattle.morsel_meaning.specs.Calls.{Rises}
+use Rattle.morsel_outside.specs.Outside.{Outside}
+use Rattle.morsel_outside.specs.Calls.{Rises}
 use Rattle.morsel_ndjson.specs.Ndjson.{ndjson, json_line}
 use Rattle.morsel_frame.specs.Tables.{rows_between}
 use Rattle.morsel_engine.specs.Stages.{Gained, WritesText}

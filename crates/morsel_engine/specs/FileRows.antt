@@ -3,7 +3,7 @@ use Rattle.std.specs.Prelude.{◌≡◌, ◌⊎◌, ℕ, ◌<◌, ◌≤◌, Boo
 use Rattle.morsel_meaning.specs.declared.value.Field.{Field}
 use Rattle.morsel_meaning.specs.Values.{Row, kinds_of}
 use Rattle.morsel_grammar.specs.Options.{standard}
-use Rattle.morsel_grammar.specs.Cells.{Cell}
+use Rattle.morsel_grammar.specs.Cells.{CsvCell}
 use Rattle.morsel_grammar.specs.Rows.{mark_len, unmarked}
 use Rattle.morsel_grammar.specs.Reading.{Refusal}
 use Rattle.morsel_grammar.specs.GrammarRows.{RowsOfGrammar, HasRowAt}
@@ -39,8 +39,8 @@ pub record EndAtLimit (limit : ℕ) (fields : List Field) (bytes : List ℕ) (ro
   pub of_file : RowsOfFile fields bytes more still refusal
   pub many : limit < length more
   pub first : rows ≡ take limit more
-  pub before : List (List Cell)
-  pub cells : List Cell
+  pub before : List (List CsvCell)
+  pub cells : List CsvCell
   pub counted : length before ≡ limit
   pub behind : HasRowAt standard (kinds_of fields) true (mark_len bytes) (unmarked bytes) before at cells
 

@@ -4,9 +4,9 @@ use Rattle.morsel_meaning.specs.declared.fault.Fault.{Fault}
 use Rattle.morsel_meaning.specs.declared.fault.Fault.TheVariants.{OutOfMemory, ReadFault, WriteFault, Malformed}
 use Rattle.morsel_meaning.specs.declared.value.Field.{Field}
 use Rattle.morsel_meaning.specs.Values.{Row, names_of}
-use Rattle.morsel_meaning.specs.Outside.{Outside, Event, Asked, Open, Make, with_last, with_sink}
-use Rattle.morsel_meaning.specs.Calls.{Rises}
-use Rattle.morsel_meaning.specs.Asks.{Gains, times_asked}
+use Rattle.morsel_outside.specs.Outside.{Outside, Event, Asked, Open, Make, with_last, with_sink}
+use Rattle.morsel_outside.specs.Calls.{Rises}
+use Rattle.morsel_outside.specs.Asks.{Gains, times_asked}
 use Rattle.morsel_ndjson.specs.Ndjson.{ndjson}
 use Rattle.morsel_engine.specs.FileRows.{ScansFile}
 
@@ -21,14 +21,14 @@ abbrev pub names_asked : Query → List Asked
 names_asked q = Open q.file ∷ Make q.out ∷ []
 
 -- the file has these rows, all of them, where its bytes are told
-abbrev pub HasRows : Option (List (List ℕ)) → ℕ → List Field → List Row → Type 0
-HasRows None file schema rows = Unit {0}
-HasRows (Some files) file schema rows = ScansFile schema (get_or files file []) rows None
+abbrev pub HasAllRows : Option (List (List ℕ)) → ℕ → List Field → List Row → Type 0
+HasAllRows None file schema rows = Unit {0}
+HasAllRows (Some files) file schema rows = ScansFile schema (get_or files file []) rows None
 
 -- the record at this place of the file is the first that is refused, where its bytes are told
-abbrev pub IsRefusedAt : Option (List (List ℕ)) → ℕ → List Field → ℕ → Type 0
-IsRefusedAt None file schema at = Unit {0}
-IsRefusedAt (Some files) file schema at = (rows : List Row) × ScansFile schema (get_or files file []) rows (Some at)
+abbrev pub IsFirstRefused : Option (List (List ℕ)) → ℕ → List Field → ℕ → Type 0
+IsFirstRefused None file schema at = Unit {0}
+IsFirstRefused (Some files) file schema at = (rows : List Row) × ScansFile schema (get_or files file []) rows (Some at)
 
 -- a front of the text of the rows before the first refused record, where the file's bytes are told
 abbrev pub IsFrontOfText : Option (List (List ℕ)) → ℕ → List Field → List ℕ → Type 0
@@ -56,7 +56,7 @@ ReadsWell old new = (new.read_faults ≡ old.read_faults) × (new.failed ≡ old
 -- the file was opened, the sink has the text of its rows, and nothing else was made or printed
 pub record Answers (old : Outside) (q : Query) (count : ℕ) (new : Outside) : Type 0 where
   pub rows : List Row
-  pub of_file : HasRows new.held (length old.sizes) q.schema rows
+  pub of_file : HasAllRows new.held (length old.sizes) q.schema rows
   pub counted : count ≡ length rows
   pub opened : OpensOne old new
   pub one_sink : new.sinks ≡ old.sinks + 1
@@ -72,7 +72,7 @@ abbrev pub HasCause : Outside → Query → Fault → Outside → Type 0
 HasCause old q OutOfMemory new = Unit {0}
 HasCause old q (ReadFault file) new = (file ≡ 0) × Rises old.read_faults new.read_faults × (new.failed ≡ length old.sizes)
 HasCause old q WriteFault new = Rises old.write_faults new.write_faults
-HasCause old q (Malformed file at) new = (file ≡ 0) × IsRefusedAt new.held (length old.sizes) q.schema at
+HasCause old q (Malformed file at) new = (file ≡ 0) × IsFirstRefused new.held (length old.sizes) q.schema at
 HasCause old q fault new = ⊥
 
 -- no sink was made, or one whose text is a front of the rows' text
@@ -88,7 +88,7 @@ AsksSome old q new = (new.asked ≡ old.asked)
     ⊎ (OpensOne old new × (new.asked ≡ old.asked ++ names_asked q))
 
 -- the reads of a run, whatever it answers
-pub record Reads (old : Outside) (new : Outside) : Type 0 where
+pub record ReadsAtMostOnce (old : Outside) (new : Outside) : Type 0 where
   pub events : List Event
   pub gained : Gains old.events events new.events
   pub once : AsksAtMostOnce (length old.sizes) (get_or new.sizes (length old.sizes) 0) events
@@ -117,7 +117,7 @@ pub record Runs (old : Outside) (q : Query) (result : Result ℕ Fault) (new : O
   pub caused : Caused old q result new
   pub after_fault : AfterFault old q result new
   pub asks : AsksSome old q new
-  pub reads : Reads old new
+  pub reads : ReadsAtMostOnce old new
   pub keeps : Keeps old new
   pub printed : new.printed ≡ old.printed
   pub no_lower : old.write_faults ≤ new.write_faults

@@ -9,7 +9,7 @@ use Rattle.morsel_grammar.specs.Rows.{mark_len, unmarked}
 use Rattle.morsel_grammar.specs.Reading.{Read, Refusal, reading, read_of}
 
 -- rows, up to a refused record
-pub record Scan : Type 0 where
+pub record Scanned : Type 0 where
   pub rows : List Row
   pub refused : Option ℕ
 
@@ -23,17 +23,17 @@ is_compressed bytes = false
 abbrev pub row_limit : ℕ
 row_limit = 4294967295
 
-abbrev pub place_of : Option Refusal → Option ℕ
-place_of None = None
-place_of (Some refusal) = Some refusal.at
+abbrev pub refused_place : Option Refusal → Option ℕ
+refused_place None = None
+refused_place (Some refusal) = Some refusal.at
 
 abbrev pub row_places : Read → List ℕ
 row_places read = map (λ r. r.0) read.rows
 
 -- the record of the row behind the greatest number of rows is refused too
-abbrev pub limited : ℕ → Read → Scan
+abbrev pub limited : ℕ → Read → Scanned
 limited limit read = if nat_le (length read.rows) limit
-    then record { rows = map (λ r. r.1) read.rows; refused = place_of read.refusal }
+    then record { rows = map (λ r. r.1) read.rows; refused = refused_place read.refusal }
     else record { rows = map (λ r. r.1) (take limit read.rows); refused = Some (get_or (row_places read) limit 0) }
 
 -- every column is used, and the header is still to come
@@ -41,7 +41,7 @@ abbrev pub read_file : List Field → List ℕ → Read
 read_file fields bytes = read_of (replicate (length fields) true)
     (reading standard (kinds_of fields) true (mark_len bytes) (unmarked bytes))
 
-abbrev pub scan_of : List Field → List ℕ → Scan
+abbrev pub scan_of : List Field → List ℕ → Scanned
 scan_of fields bytes = if is_compressed bytes then record { rows = []; refused = Some 0 } else limited row_limit (read_file fields bytes)
 
 -- why a text is not scanned

@@ -2,10 +2,10 @@
 use Rattle.std.specs.Prelude.{◌≡◌, ℕ, ◌+◌, ◌≤◌, Option, Result, Ok, Err, List, [], ◌∷◌, ◌++◌, length, take, get_or}
 use Rattle.morsel_meaning.specs.declared.fault.Fault.{Fault}
 use Rattle.morsel_meaning.specs.declared.fault.Fault.TheVariants.{OutOfMemory, ReadFault, WriteFault}
-use Rattle.morsel_meaning.specs.declared.io.FileNo.{FileNo}
-use Rattle.morsel_meaning.specs.Outside.{Outside, Event, ReadAt, Wrote, Open, Make, with_last, with_piece, with_sink}
-use Rattle.morsel_meaning.specs.Calls.{Rises, Holds, Opened}
-use Rattle.morsel_meaning.specs.Asks.{Gains}
+use Rattle.morsel_outside.specs.declared.io.FileNo.{FileNo}
+use Rattle.morsel_outside.specs.Outside.{Outside, Event, ReadAt, Wrote, Open, Make, with_last, with_piece, with_sink}
+use Rattle.morsel_outside.specs.Calls.{Rises, Holds, Opened}
+use Rattle.morsel_outside.specs.Asks.{Gains}
 use Rattle.morsel_meaning.specs.Values.{Table, names_of}
 use Rattle.morsel_ndjson.specs.Ndjson.{ndjson}
 

@@ -2,7 +2,8 @@
 ghost use Rattle.std.specs.Prelude.{◌≡◌, ◌<◌, length, MatchResult};
 ghost use Rattle.morsel_engine.specs.Stages.{OpensSource, MakesSink, ReadsWhole, ReadFails, WritesText};
 
-use morsel_frame::{Fault, FileNo, Io, IoErr};
+use morsel_meaning::Fault;
+use morsel_outside::{FileNo, Io, IoErr};
 use std::alloc::Global;
 
 /// Opens the query's one source.

@@ -6,7 +6,9 @@ ghost use Rattle.morsel_engine.specs.Complete.{IsValid, NoneRises};
 use crate::outside::{make_sink, open_source, read_whole};
 use crate::scan::scan_text;
 use crate::write::write_frame;
-use morsel_frame::{Fault, Io, Schema};
+use morsel_frame::Schema;
+use morsel_meaning::Fault;
+use morsel_outside::Io;
 use std::alloc::Global;
 
 /// Writes the rows of the CSV file as NDJSON into the sink, and answers how many there are.

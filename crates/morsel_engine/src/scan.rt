@@ -4,11 +4,13 @@ ghost use Rattle.morsel_meaning.specs.Values.{kinds_of};
 ghost use Rattle.morsel_grammar.specs.Options.{standard};
 ghost use Rattle.morsel_grammar.specs.Reading.{reading, places_of};
 ghost use Rattle.morsel_grammar.specs.Rows.{mark_len};
-ghost use Rattle.morsel_engine.specs.Limit.{read_text, unlimited, Scans, as_malformed, not_after, cut_at};
+ghost use Rattle.morsel_engine.specs.Limit.{read_text, unlimited, Scans, as_malformed, not_after, ended_at};
 ghost use Rattle.morsel_engine.specs.Scan.{is_compressed, limited, IsScan, IsRefusal};
 
-use morsel_frame::{Fault, Frame, Schema};
-use morsel_text::{CsvOptions, place_of_row, read_records};
+use morsel_frame::{Frame, Schema};
+use morsel_grammar::CsvOptions;
+use morsel_meaning::Fault;
+use morsel_text::{place_of_row, read_records};
 use std::alloc::Global;
 
 /// The greatest number of rows of a scan.
@@ -62,7 +64,7 @@ fn scan_rows(
         Ok(end) => end,
         Err(fault) => return Err(fault),
     };
-    cut_at(end, read_all(alloc, text, at, schema))
+    ended_at(end, read_all(alloc, text, at, schema))
 }
 
 /// The place of the record that gives the row behind the limit, if there is one.
@@ -123,8 +125,8 @@ fn as_malformed(fault: Fault) -> Fault
 }
 
 /// What a scan answers, where the rows that were read end at a place.
-fn cut_at(end: Option<u64>, answer: Result<Frame, Fault>) -> Result<Frame, Fault>
-    ensures { result ≡ cut_at end answer }
+fn ended_at(end: Option<u64>, answer: Result<Frame, Fault>) -> Result<Frame, Fault>
+    ensures { result ≡ ended_at end answer }
 {
     let Some(end) = end else {
         return answer;

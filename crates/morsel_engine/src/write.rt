@@ -6,8 +6,10 @@ ghost use Rattle.morsel_ndjson.specs.Ndjson.{ndjson};
 ghost use Rattle.morsel_engine.specs.Stages.{WritesText, WritesTable};
 
 use crate::outside::write_part;
-use morsel_frame::{Fault, Frame, Io};
-use morsel_text::write_ndjson;
+use morsel_frame::Frame;
+use morsel_meaning::Fault;
+use morsel_ndjson::write_ndjson;
+use morsel_outside::Io;
 use std::alloc::Global;
 
 /// How many rows are written at once.

@@ -3,13 +3,13 @@ use Rattle.std.proofs.Common.{◌≡◌, ℕ, zero, suc, ◌+◌, ◌<◌, ◌�
 use Rattle.std.proofs.lemmas.List.{length-replicate}
 use Rattle.std.specs.List.{list_any}
 use Rattle.std.proofs.lemmas.Bool.{false≢true, or_cases, or_left, or_right, and_parts, cases_eq, not-true, eqb-true, eq-eqb, cases_lt, cond_both}
-use Rattle.morsel_meaning.specs.declared.gate.TaskNo.{TaskNo}
+use Rattle.morsel_meaning.specs.declared.task.TaskNo.{TaskNo}
 use Rattle.morsel_exec.specs.declared.machine.TaskAt.{TaskAt}
 use Rattle.morsel_exec.specs.declared.machine.TaskAt.TheVariants.{Idle, Queued, Polling, PolledPending, Notified, Finished, Cancelled}
 use Rattle.morsel_exec.specs.declared.machine.End.{End}
 use Rattle.morsel_exec.specs.declared.machine.Event.{Event}
 use Rattle.morsel_exec.specs.declared.machine.Event.TheVariants.{Spawn, Take, Register, Pend, EndTurn, Finish, Cancel, MakeReady, Spend, Wake, DeliverWake}
-use Rattle.morsel_exec.specs.Machine.{State, task_at, end_at, quiet, is_woken, is_end, is_idle, is_polling, is_pending, is_notified, is_live, names, holds, is_registered, is_waiting, is_free, is_open, allowed, pended, turned, delivered, moved, with_wake, after, stepped, opening, is_active, Held, Sound, run}
+use Rattle.morsel_exec.specs.Machine.{State, task_at, end_at, quiet, is_woken, is_end, is_idle, is_polling, is_pending, is_notified, is_live, names, is_awaited_by, is_registered, is_waiting, is_free, is_open, allowed, pended, turned, delivered, with_task_at, with_wake, after, stepped, opening, is_active, Held, Sound, run}
 
 -- ---- lists
 
@@ -131,8 +131,8 @@ held_from s at_rest ready_alone = record {
 -- ---- each event
 
 -- a task may go to where it waits if it rests there
-moved_held : (s : State) (t : ℕ) (at : Option TaskAt) → (rests at ≡ true → is_waiting s t ≡ true) → Held s → Held (moved s t at)
-moved_held s t at waits held = held_from (moved s t at)
+moved_held : (s : State) (t : ℕ) (at : Option TaskAt) → (rests at ≡ true → is_waiting s t ≡ true) → Held s → Held (with_task_at s t at)
+moved_held s t at waits held = held_from (with_task_at s t at)
     (λ u resting. elim (written_at s.tasks t at None u) [
       | inl same ↦ held.at_rest u (subst (λ x. rests x ≡ true) same resting)
       | inr here ↦ subst (λ n. is_waiting s n ≡ true) (sym here.0) (waits (subst (λ x. rests x ≡ true) here.1 resting))
@@ -167,7 +167,7 @@ free_for tasks (Some w) t u free name live =
 registered_held : (s : State) (t : TaskNo) (e : ℕ) → is_open s e t.0 ≡ true → Held s → Held (after (Register t e) s)
 registered_held s t e may held = held_from (after (Register t e) s)
     (λ u resting. elim (or_cases (is_registered s u) (is_woken s u) (held.at_rest u resting)) [
-      | inl reg ↦ or_left _ _ (any-set (λ end. holds end u) s.ends e (record { ready = false; waiting = Some t }) quiet (keeps u resting) reg)
+      | inl reg ↦ or_left _ _ (any-set (λ end. is_awaited_by end u) s.ends e (record { ready = false; waiting = Some t }) quiet (keeps u resting) reg)
       | inr woken ↦ or_right _ _ woken
     ])
     (alone-set s.ends e (record { ready = false; waiting = Some t }) (λ ready. absurd (false≢true ready)) held.ready_alone)
@@ -175,7 +175,7 @@ registered_held s t e may held = held_from (after (Register t e) s)
     free : is_free s.tasks (end_at s e).waiting t.0 ≡ true
     free = (and_parts (not (end_at s e).ready) (is_free s.tasks (end_at s e).waiting t.0) (and_parts (is_end s e) (not (end_at s e).ready && is_free s.tasks (end_at s e).waiting t.0) may).1).1
 
-    keeps : (u : ℕ) → rests (task_at s u) ≡ true → holds (end_at s e) u ≡ true → eqb t.0 u ≡ true
+    keeps : (u : ℕ) → rests (task_at s u) ≡ true → is_awaited_by (end_at s e) u ≡ true → eqb t.0 u ≡ true
     keeps u resting held_there =
         eq-eqb t.0 u (free_for s.tasks (end_at s e).waiting t.0 u free (and_parts (not (end_at s e).ready) (names (end_at s e).waiting u) held_there).1 (rests_live (task_at s u) resting))
 
@@ -196,7 +196,7 @@ length-with_wake wakes (Some w) = length-set wakes w.0 true
 made_ready_held : (s : State) (e : ℕ) → Sound s → Held (after (MakeReady e) s)
 made_ready_held s e sound = held_from (after (MakeReady e) s)
     (λ u resting. elim (or_cases (is_registered s u) (is_woken s u) (sound.held.at_rest u resting)) [
-      | inl reg ↦ elim (any-set_or (λ end. holds end u) s.ends e (record { ready = true; waiting = None }) quiet reg) [
+      | inl reg ↦ elim (any-set_or (λ end. is_awaited_by end u) s.ends e (record { ready = true; waiting = None }) quiet reg) [
         | inl there ↦ or_right _ _ (woken_named s.wakes (end_at s e).waiting u (within u resting) (and_parts _ _ there).1)
         | inr other ↦ or_left _ _ other
       ]
@@ -210,7 +210,7 @@ made_ready_held s e sound = held_from (after (MakeReady e) s)
 spent_held : (s : State) (e : ℕ) → (end_at s e).ready ≡ true → Held s → Held (after (Spend e) s)
 spent_held s e ready held = held_from (after (Spend e) s)
     (λ u resting. elim (or_cases (is_registered s u) (is_woken s u) (held.at_rest u resting)) [
-      | inl reg ↦ or_left _ _ (any-set (λ end. holds end u) s.ends e (record { ready = false; waiting = (end_at s e).waiting }) quiet (λ there. (and_parts _ _ there).1) reg)
+      | inl reg ↦ or_left _ _ (any-set (λ end. is_awaited_by end u) s.ends e (record { ready = false; waiting = (end_at s e).waiting }) quiet (λ there. (and_parts _ _ there).1) reg)
       | inr woken ↦ or_right _ _ woken
     ])
     (alone-set s.ends e (record { ready = false; waiting = (end_at s e).waiting }) (λ is_ready. absurd (false≢true is_ready)) held.ready_alone)

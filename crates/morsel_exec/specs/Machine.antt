@@ -1,7 +1,7 @@
 -- The scheduling machine: its state, the events that it allows, the state after each, and that no task is lost.
 use Rattle.std.specs.Prelude.{◌≡◌, ℕ, ◌+◌, ◌≤◌, Bool, true, false, ◌&&◌, ◌||◌, not, ◌==◌, nat_lt, if◌then◌else◌, IsTrue, Option, None, Some, is_none, is_some, List, [], ◌∷◌, length, slice_index_or, slice_set, replicate, count_by}
 use Rattle.std.specs.List.{list_any}
-use Rattle.morsel_meaning.specs.declared.gate.TaskNo.{TaskNo}
+use Rattle.morsel_meaning.specs.declared.task.TaskNo.{TaskNo}
 use Rattle.morsel_exec.specs.declared.machine.TaskAt.{TaskAt}
 use Rattle.morsel_exec.specs.declared.machine.TaskAt.TheVariants.{Idle, Queued, Polling, PolledPending, Notified, Finished, Cancelled}
 use Rattle.morsel_exec.specs.declared.machine.End.{End}
@@ -78,12 +78,12 @@ names None t = false
 names (Some u) t = u.0 == t
 
 -- whether the end is not ready, and the task is registered there
-abbrev pub holds : End → ℕ → Bool
-holds end t = not end.ready && names end.waiting t
+abbrev pub is_awaited_by : End → ℕ → Bool
+is_awaited_by end t = not end.ready && names end.waiting t
 
 -- whether the task is registered at an end that is not ready
 abbrev pub is_registered : State → ℕ → Bool
-is_registered s t = list_any (λ end. holds end t) s.ends
+is_registered s t = list_any (λ end. is_awaited_by end t) s.ends
 
 -- whether the task is registered at an end that is not ready, or a wake of it is under way
 abbrev pub is_waiting : State → ℕ → Bool
@@ -133,8 +133,8 @@ delivered (Some PolledPending) = Some Notified
 delivered at = at
 
 -- the task stands there
-abbrev pub moved : State → ℕ → Option TaskAt → State
-moved s t at = record { tasks = slice_set s.tasks t at; ends = s.ends; wakes = s.wakes }
+abbrev pub with_task_at : State → ℕ → Option TaskAt → State
+with_task_at s t at = record { tasks = slice_set s.tasks t at; ends = s.ends; wakes = s.wakes }
 
 -- the flags of wakes under way, with one of the registered task
 abbrev pub with_wake : List Bool → Option TaskNo → List Bool
@@ -143,13 +143,13 @@ with_wake wakes (Some u) = slice_set wakes u.0 true
 
 -- the state after an event that is allowed
 abbrev pub after : Event → State → State
-after (Spawn t) s = moved s t.0 (Some Queued)
-after (Take t) s = moved s t.0 (Some Polling)
+after (Spawn t) s = with_task_at s t.0 (Some Queued)
+after (Take t) s = with_task_at s t.0 (Some Polling)
 after (Register t e) s = record { tasks = s.tasks; ends = slice_set s.ends e (record { ready = false; waiting = Some t }); wakes = s.wakes }
-after (Pend t) s = moved s t.0 (pended (task_at s t.0))
-after (EndTurn t) s = moved s t.0 (turned (task_at s t.0))
-after (Finish t) s = moved s t.0 (Some Finished)
-after (Cancel t) s = moved s t.0 (Some Cancelled)
+after (Pend t) s = with_task_at s t.0 (pended (task_at s t.0))
+after (EndTurn t) s = with_task_at s t.0 (turned (task_at s t.0))
+after (Finish t) s = with_task_at s t.0 (Some Finished)
+after (Cancel t) s = with_task_at s t.0 (Some Cancelled)
 after (MakeReady e) s = record { tasks = s.tasks; ends = slice_set s.ends e (record { ready = true; waiting = None }); wakes = with_wake s.wakes (end_at s e).waiting }
 after (Spend e) s = record { tasks = s.tasks; ends = slice_set s.ends e (record { ready = false; waiting = (end_at s e).waiting }); wakes = s.wakes }
 after (Wake t) s = record { tasks = s.tasks; ends = s.ends; wakes = slice_set s.wakes t.0 true }

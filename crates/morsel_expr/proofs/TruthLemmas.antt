@@ -1,7 +1,7 @@
 -- Truths row by row: what functions of rows give, and two lists of truths joined.
 use Rattle.std.proofs.Common.{◌≡◌, List, [], ◌∷◌, map, refl, ap}
 use Rattle.std.specs.List.{zip}
-use Rattle.morsel_meaning.specs.declared.Value.{Value}
+use Rattle.morsel_meaning.specs.declared.value.Value.{Value}
 use Rattle.morsel_expr.specs.declared.node.CmpOp.{CmpOp}
 use Rattle.morsel_expr.specs.Predicates.{compared, compared_pairs}
 

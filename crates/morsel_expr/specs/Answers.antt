@@ -3,7 +3,7 @@ use Rattle.std.specs.Prelude.{Bool, if◌then◌else◌, List, map}
 use Rattle.std.specs.List.{zip}
 use Rattle.std.specs.declared.cmp.Ordering.{Ordering}
 use Rattle.std.specs.declared.cmp.Ordering.TheVariants as orders
-use Rattle.morsel_meaning.specs.declared.Value.{Value}
+use Rattle.morsel_meaning.specs.declared.value.Value.{Value}
 use Rattle.morsel_meaning.specs.Order.{value_cmp}
 use Rattle.morsel_expr.specs.declared.truth.Truth.{Truth}
 use Rattle.morsel_expr.specs.declared.truth.Truth.TheVariants.{Unknown}

@@ -1,12 +1,12 @@
 -- What a predicate has to be: of few levels, and of names and types that a schema has.
 use Rattle.std.specs.Prelude.{ℕ, suc, max, Bool, true, if◌then◌else◌, is_some, Option, Some, None, option_and_then, List, slice_get}
-use Rattle.morsel_meaning.specs.declared.ColType.{ColType}
-use Rattle.morsel_meaning.specs.declared.ColType.TheVariants as types
-use Rattle.morsel_meaning.specs.declared.Value.{Value}
-use Rattle.morsel_meaning.specs.declared.Value.TheVariants as values
-use Rattle.morsel_meaning.specs.declared.Field.{Field}
-use Rattle.morsel_meaning.specs.declared.Fault.{Fault}
-use Rattle.morsel_meaning.specs.declared.Fault.TheVariants.{ColumnNotFound, SchemaMismatch}
+use Rattle.morsel_meaning.specs.declared.value.ColType.{ColType}
+use Rattle.morsel_meaning.specs.declared.value.ColType.TheVariants as types
+use Rattle.morsel_meaning.specs.declared.value.Value.{Value}
+use Rattle.morsel_meaning.specs.declared.value.Value.TheVariants as values
+use Rattle.morsel_meaning.specs.declared.value.Field.{Field}
+use Rattle.morsel_meaning.specs.declared.fault.Fault.{Fault}
+use Rattle.morsel_meaning.specs.declared.fault.Fault.TheVariants.{ColumnNotFound, SchemaMismatch}
 use Rattle.morsel_meaning.specs.Values.{kinds_of}
 use Rattle.morsel_frame.specs.Tables.{same_kind}
 use Rattle.morsel_frame.specs.Refusals.{first_fault}

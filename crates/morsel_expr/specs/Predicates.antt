@@ -4,9 +4,9 @@ use Rattle.std.specs.List.{position}
 use Rattle.std.specs.Str.{bytes_eq}
 use Rattle.std.specs.Ordering.{is_eq, is_lt, is_le, is_gt, is_ge}
 use Rattle.std.specs.declared.cmp.Ordering.{Ordering}
-use Rattle.morsel_meaning.specs.declared.Value.{Value}
-use Rattle.morsel_meaning.specs.declared.Value.TheVariants as values
-use Rattle.morsel_meaning.specs.declared.Field.{Field}
+use Rattle.morsel_meaning.specs.declared.value.Value.{Value}
+use Rattle.morsel_meaning.specs.declared.value.Value.TheVariants as values
+use Rattle.morsel_meaning.specs.declared.value.Field.{Field}
 use Rattle.morsel_meaning.specs.Values.{Row}
 use Rattle.morsel_meaning.specs.Order.{value_cmp}
 use Rattle.morsel_frame.specs.Tables.{cell_at}

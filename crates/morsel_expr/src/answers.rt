@@ -3,7 +3,8 @@ ghost use Rattle.std.specs.Prelude.{◌≡◌, false, length, IfOk, IsOkUnless};
 ghost use Rattle.morsel_expr.specs.Answers.{answer, answers_of, answered, answered_pairs};
 
 use crate::{CmpOp, Truth};
-use morsel_frame::{Fault, Texts, Value};
+use morsel_frame::Texts;
+use morsel_meaning::{Fault, Value};
 use std::alloc::Global;
 use std::cmp::Ordering;
 
@@ -50,7 +51,7 @@ impl Answers {
 /// An item that a column keeps as it is: a number or a truth value.
 pub trait Item: Copy + Drop {
     ghost use Rattle.std.specs.Prelude.{◌≡◌, false};
-    ghost use Rattle.morsel_meaning.specs.declared.Value.{Value};
+    ghost use Rattle.morsel_meaning.specs.declared.value.Value.{Value};
     ghost use Rattle.morsel_meaning.specs.Order.{value_cmp};
     ghost use Rattle.morsel_expr.specs.Predicates.{is_null};
     ghost use Rattle.morsel_expr.specs.Answers.{answer};
@@ -68,7 +69,7 @@ pub trait Item: Copy + Drop {
 
 impl Item for i64 {
     ghost use Rattle.std.specs.Prelude.{refl};
-    ghost use Rattle.morsel_meaning.specs.declared.Value.TheVariants as values;
+    ghost use Rattle.morsel_meaning.specs.declared.value.Value.TheVariants as values;
 
     ghost value = { values.Int };
 
@@ -88,7 +89,7 @@ impl Item for i64 {
 
 impl Item for bool {
     ghost use Rattle.std.specs.Prelude.{refl};
-    ghost use Rattle.morsel_meaning.specs.declared.Value.TheVariants as values;
+    ghost use Rattle.morsel_meaning.specs.declared.value.Value.TheVariants as values;
 
     ghost value = { values.Bool };
 

@@ -5,7 +5,8 @@ ghost use Rattle.morsel_frame.specs.Tables.{same_kind};
 ghost use Rattle.morsel_expr.specs.Flaws.{flaw, first_absence, first_misfit, absence, absence_of_side, misfit, kind_under, kind_of_value, kind_of_side, kinds_fit};
 
 use crate::{PredNode, Rhs};
-use morsel_frame::{ColType, Fault, Name, Schema, Value};
+use morsel_frame::Schema;
+use morsel_meaning::{ColType, Fault, Name, Value};
 use std::alloc::Global;
 
 /// Refuses a tree by its first flaw over a schema: an absent name anywhere, and then types that differ.

@@ -10,7 +10,8 @@ use crate::answers::{
     Answers, Item, answer_item_pairs, answer_items, answer_text_pairs, answer_texts,
 };
 use crate::{CmpOp, Truth};
-use morsel_frame::{ColType, Column, Fault, Texts, Value};
+use morsel_frame::{Column, Texts};
+use morsel_meaning::{ColType, Fault, Value};
 use std::alloc::Global;
 
 /// A column compared with a value.

@@ -7,7 +7,8 @@ ghost use Rattle.morsel_expr.specs.Flaws.{first_absence, first_misfit, absence, 
 
 use crate::compare::{asserted_flags, compare_columns, compare_with, nulls, values};
 use crate::{CmpOp, PredNode, Rhs, Truth};
-use morsel_frame::{Column, Fault, Frame, Name};
+use morsel_frame::{Column, Frame};
+use morsel_meaning::{Fault, Name};
 use std::alloc::Global;
 
 /// What a tree says of each row.

@@ -5,7 +5,8 @@ ghost use Rattle.morsel_expr.specs.Truths.{is_true};
 ghost use Rattle.morsel_expr.specs.Kept.{kept_rows, true_rows};
 
 use crate::Truth;
-use morsel_frame::{Fault, Frame};
+use morsel_frame::Frame;
+use morsel_meaning::Fault;
 use std::alloc::Global;
 
 /// The rows that are true, in their order. Those that are false or unknown are left out.

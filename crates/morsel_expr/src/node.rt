@@ -1,5 +1,5 @@
 //! The parts of which a predicate is made.
-use morsel_frame::{Name, Value};
+use morsel_meaning::{Name, Value};
 
 /// How two values are compared: by their one order, in which numbers go by size, false stands before true, and texts
 /// go by their bytes.

@@ -2,7 +2,8 @@
 ghost use Rattle.std.specs.Prelude.{◌≡◌, IfOk};
 
 use super::*;
-use morsel_frame::{Cell, ColType, Column, Fault, Field, Frame, Name, Schema, Value};
+use morsel_frame::{Cell, Column, Frame, Schema};
+use morsel_meaning::{ColType, Fault, Field, Name, Value};
 use std::alloc::Global;
 use std::cmp::Ordering;
 use std::test::Fail;

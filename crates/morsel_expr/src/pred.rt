@@ -7,7 +7,8 @@ ghost use Rattle.morsel_expr.specs.Flaws.{levels, flaw};
 use crate::check::check_node;
 use crate::eval::eval_node;
 use crate::{PredNode, Truth};
-use morsel_frame::{Fault, Frame, Schema, Why};
+use morsel_frame::{Frame, Schema};
+use morsel_meaning::{Fault, Why};
 use std::alloc::Global;
 use std::marker::Model;
 

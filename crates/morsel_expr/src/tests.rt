@@ -2,7 +2,8 @@
 ghost use Rattle.std.specs.Prelude.{◌≡◌, IfOk};
 
 use super::*;
-use morsel_frame::{Cell, ColType, Column, Fault, Field, Frame, Name, Schema, Value, Why};
+use morsel_frame::{Cell, Column, Frame, Schema};
+use morsel_meaning::{ColType, Fault, Field, Name, Value, Why};
 use std::alloc::Global;
 use std::test::Fail;
 

@@ -4,14 +4,14 @@ use Rattle.std.specs.Prelude.{ℤ, pos}
 use Rattle.std.specs.List.{All}
 use Rattle.std.proofs.lemmas.Bool.{le-ltb, lt-ltb}
 use Rattle.std.proofs.lemmas.List.{length-map, length-replicate, nil_from_length}
-use Rattle.morsel_meaning.specs.declared.ColType.{ColType}
-use Rattle.morsel_meaning.specs.declared.ColType.TheVariants as types
-use Rattle.morsel_meaning.specs.declared.Value.{Value}
-use Rattle.morsel_meaning.specs.declared.Value.TheVariants as values
-use Rattle.morsel_meaning.specs.declared.Field.{Field}
+use Rattle.morsel_meaning.specs.declared.value.ColType.{ColType}
+use Rattle.morsel_meaning.specs.declared.value.ColType.TheVariants as types
+use Rattle.morsel_meaning.specs.declared.value.Value.{Value}
+use Rattle.morsel_meaning.specs.declared.value.Value.TheVariants as values
+use Rattle.morsel_meaning.specs.declared.value.Field.{Field}
 use Rattle.morsel_meaning.specs.Values.{Row}
-use Rattle.morsel_meaning.specs.declared.Fault.TheVariants.{ComputeError}
-use Rattle.morsel_meaning.specs.declared.ComputeKind.TheVariants.{IndexTooLarge}
+use Rattle.morsel_meaning.specs.declared.fault.Fault.TheVariants.{ComputeError}
+use Rattle.morsel_meaning.specs.declared.fault.ComputeKind.TheVariants.{IndexTooLarge}
 use Rattle.morsel_frame.specs.Columns.{Values, AreOfType, masked, value_at}
 use Rattle.morsel_frame.specs.Frames.{with_column, rows_of, Fit, AreTyped, IsFramed}
 use Rattle.morsel_frame.specs.Made.{counted, column_picks}

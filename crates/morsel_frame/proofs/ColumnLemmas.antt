@@ -4,10 +4,10 @@ use Rattle.std.specs.Prelude.{ℤ, Result, OnOk, slice_range}
 use Rattle.std.proofs.lemmas.Bool.{cases_lt, lt-ltb, le-ltb}
 use Rattle.std.proofs.lemmas.List.{map-append, take-map, get_or-take, get_or_past}
 use Rattle.std.proofs.lemmas.Result.{on_ok_weaker}
-use Rattle.morsel_meaning.specs.declared.ColType.{ColType}
-use Rattle.morsel_meaning.specs.declared.ColType.TheVariants as types
-use Rattle.morsel_meaning.specs.declared.Value.{Value}
-use Rattle.morsel_meaning.specs.declared.Value.TheVariants as values
+use Rattle.morsel_meaning.specs.declared.value.ColType.{ColType}
+use Rattle.morsel_meaning.specs.declared.value.ColType.TheVariants as types
+use Rattle.morsel_meaning.specs.declared.value.Value.{Value}
+use Rattle.morsel_meaning.specs.declared.value.Value.TheVariants as values
 use Rattle.morsel_meaning.specs.Values.{IsOfType}
 use Rattle.morsel_frame.specs.declared.packed.Packed.{Packed}
 use Rattle.morsel_frame.specs.declared.packed.Packed.TheVariants as packed

@@ -8,5 +8,3 @@ pub mod SameFields
 pub mod SeenNames
 pub mod SelectLemmas
 pub mod StackLemmas
-pub mod MemoryLemmas
-pub mod MemIoLemmas

@@ -3,9 +3,9 @@ use Rattle.std.proofs.Common.{◌≡◌, ℕ, Bool, true, false, ◌&&◌, ◌==
 use Rattle.std.proofs.lemmas.Bool.{eqb-true}
 use Rattle.std.proofs.lemmas.Slice.Eq.{bytes_eq-Decides}
 use Rattle.std.specs.Str.{bytes_eq}
-use Rattle.morsel_meaning.specs.declared.ColType.{ColType}
-use Rattle.morsel_meaning.specs.declared.ColType.TheVariants as types
-use Rattle.morsel_meaning.specs.declared.Field.{Field}
+use Rattle.morsel_meaning.specs.declared.value.ColType.{ColType}
+use Rattle.morsel_meaning.specs.declared.value.ColType.TheVariants as types
+use Rattle.morsel_meaning.specs.declared.value.Field.{Field}
 use Rattle.morsel_frame.specs.Tables.{same_kind, same_field, first_difference, difference}
 
 kind-same : (a b : ColType) → same_kind a b ≡ true → a ≡ b

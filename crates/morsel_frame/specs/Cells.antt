@@ -1,6 +1,6 @@
 -- The value that a cell lends.
-use Rattle.morsel_meaning.specs.declared.Value.{Value}
-use Rattle.morsel_meaning.specs.declared.Value.TheVariants as values
+use Rattle.morsel_meaning.specs.declared.value.Value.{Value}
+use Rattle.morsel_meaning.specs.declared.value.Value.TheVariants as values
 use Rattle.morsel_frame.specs.declared.cell.Cell.{Cell}
 use Rattle.morsel_frame.specs.declared.cell.Cell.TheVariants as cells
 

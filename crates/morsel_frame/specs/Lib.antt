@@ -1,10 +1,4 @@
--- Definitions that the contracts cite. Those of the base crate are given on.
-pub use Rattle.morsel_meaning.specs.Values
-pub use Rattle.morsel_meaning.specs.Order
-pub use Rattle.morsel_meaning.specs.Faults
-pub use Rattle.morsel_meaning.specs.Outside
-pub use Rattle.morsel_meaning.specs.Calls
-pub use Rattle.morsel_meaning.specs.Asks
+-- Columns, frames and the calls on them, as lists.
 pub mod Cells
 pub mod Columns
 pub mod Frames
@@ -16,6 +10,3 @@ pub mod Refusals
 pub mod Selects
 pub mod Stacks
 pub mod Tables
-pub mod Memory
-pub mod MemoryParts
-pub mod MemIo

@@ -1,9 +1,9 @@
 -- How a column keeps its values: numbers, truth values or texts side by side, and beside them which are valid.
 use Rattle.std.specs.Prelude.{◌≡◌, Bool, false, pos, List, [], length, map}
-use Rattle.morsel_meaning.specs.declared.ColType.{ColType}
-use Rattle.morsel_meaning.specs.declared.ColType.TheVariants as types
-use Rattle.morsel_meaning.specs.declared.Value.{Value}
-use Rattle.morsel_meaning.specs.declared.Value.TheVariants as values
+use Rattle.morsel_meaning.specs.declared.value.ColType.{ColType}
+use Rattle.morsel_meaning.specs.declared.value.ColType.TheVariants as types
+use Rattle.morsel_meaning.specs.declared.value.Value.{Value}
+use Rattle.morsel_meaning.specs.declared.value.Value.TheVariants as values
 use Rattle.morsel_frame.specs.declared.packed.Packed.{Packed}
 use Rattle.morsel_frame.specs.declared.packed.Packed.TheVariants as packed
 use Rattle.morsel_frame.specs.Columns.{Values, masked}

@@ -1,9 +1,9 @@
 -- Which fault a call answers.
 use Rattle.std.specs.Prelude.{◌≡◌, ℕ, ◌+◌, nat_lt, ◌&&◌, if◌then◌else◌, Option, Some, None, Result, Ok, Err, List}
-use Rattle.morsel_meaning.specs.declared.Field.{Field}
-use Rattle.morsel_meaning.specs.declared.Fault.{Fault}
-use Rattle.morsel_meaning.specs.declared.Fault.TheVariants.{OutOfMemory, SchemaMismatch, Duplicate, ComputeError}
-use Rattle.morsel_meaning.specs.declared.ComputeKind.TheVariants.{IndexTooLarge}
+use Rattle.morsel_meaning.specs.declared.value.Field.{Field}
+use Rattle.morsel_meaning.specs.declared.fault.Fault.{Fault}
+use Rattle.morsel_meaning.specs.declared.fault.Fault.TheVariants.{OutOfMemory, SchemaMismatch, Duplicate, ComputeError}
+use Rattle.morsel_meaning.specs.declared.fault.ComputeKind.TheVariants.{IndexTooLarge}
 use Rattle.morsel_meaning.specs.Values.{names_of}
 use Rattle.morsel_frame.specs.Names.{first_repeated}
 

@@ -1,6 +1,6 @@
 -- Columns at places.
 use Rattle.std.specs.Prelude.{ℕ, List, [], map, get_or}
-use Rattle.morsel_meaning.specs.declared.ColType.TheVariants as types
+use Rattle.morsel_meaning.specs.declared.value.ColType.TheVariants as types
 use Rattle.morsel_frame.specs.Columns.{Values}
 
 -- what stands in the place of a column that was moved away

@@ -1,11 +1,11 @@
 -- What a call makes of a table: lists of rows.
 use Rattle.std.specs.Prelude.{ℕ, ◌+◌, ◌==◌, pos, Bool, true, false, ◌&&◌, if◌then◌else◌, Option, Some, None, List, [], ◌∷◌, ◌++◌, length, map, get_or, take, drop}
 use Rattle.std.specs.Str.{bytes_eq}
-use Rattle.morsel_meaning.specs.declared.ColType.{ColType}
-use Rattle.morsel_meaning.specs.declared.ColType.TheVariants as types
-use Rattle.morsel_meaning.specs.declared.Value.{Value}
-use Rattle.morsel_meaning.specs.declared.Value.TheVariants as values
-use Rattle.morsel_meaning.specs.declared.Field.{Field}
+use Rattle.morsel_meaning.specs.declared.value.ColType.{ColType}
+use Rattle.morsel_meaning.specs.declared.value.ColType.TheVariants as types
+use Rattle.morsel_meaning.specs.declared.value.Value.{Value}
+use Rattle.morsel_meaning.specs.declared.value.Value.TheVariants as values
+use Rattle.morsel_meaning.specs.declared.value.Field.{Field}
 use Rattle.morsel_meaning.specs.Values.{Row}
 
 -- the value of a row under a column

@@ -7,7 +7,8 @@ ghost use Rattle.morsel_frame.specs.Columns.{AreOfType, masked, value_at, value_
 use crate::gathers::gather_slice;
 use crate::packed::{Packed, append_slice};
 use crate::row_number::RowNumber;
-use crate::{Cell, ColType, Fault, Texts, Value};
+use crate::{Cell, Texts};
+use morsel_meaning::{ColType, Fault, Value};
 use std::alloc::Global;
 use std::marker::Model;
 

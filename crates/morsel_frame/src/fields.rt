@@ -2,8 +2,9 @@
 ghost use Rattle.std.specs.Prelude.{◌≡◌, ◌++◌, ◌∷◌, [], IfOk, IsOkUnless};
 ghost use Rattle.morsel_frame.specs.Refusals.{Refuses, repeat_fault};
 
+use crate::Schema;
 use crate::packed::append_vec;
-use crate::{ColType, Fault, Field, Name, Schema};
+use morsel_meaning::{ColType, Fault, Field, Name};
 use std::alloc::Global;
 
 /// The fields of both.

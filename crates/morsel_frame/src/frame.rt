@@ -13,7 +13,8 @@ use crate::mismatch::mismatch;
 use crate::packed::append_vec;
 use crate::selects::{select_schema, take_columns};
 use crate::stacks::{range_of_each, stack, truncate_each};
-use crate::{ColType, Column, ComputeKind, Fault, Name, QUERY_FILE, Schema};
+use crate::{Column, Schema};
+use morsel_meaning::{ColType, ComputeKind, Fault, Name, QUERY_FILE};
 use std::alloc::Global;
 use std::marker::Model;
 

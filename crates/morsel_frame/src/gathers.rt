@@ -1,8 +1,9 @@
 //! Items, texts and marks by row number: what each kind of column gathers.
 ghost use Rattle.std.specs.Prelude.{◌≡◌, ◌≤◌, ◌<◌, ◌+◌, ◌++◌, [], length, map, take, get_or, OnOk, OnErr, IsOkUnless, vec_len, vec_capacity};
 
+use crate::Texts;
 use crate::row_number::RowNumber;
-use crate::{Fault, Texts};
+use morsel_meaning::Fault;
 
 /// Puts the items of these rows last, and a blank for each row from `limit` on.
 pub fn gather_slice<T: Copy + Drop, R: RowNumber>(

@@ -3,7 +3,8 @@ ghost use Rattle.std.specs.Prelude.{◌≡◌, ◌+◌, ◌<◌, ◌≤◌, ◌^
 ghost use Rattle.morsel_frame.specs.Made.{counted, column_picks};
 
 use crate::packed::append_vec;
-use crate::{ColType, Column, Fault, Texts, Value};
+use crate::{Column, Texts};
+use morsel_meaning::{ColType, Fault, Value};
 use std::alloc::Global;
 
 /// The column of so many numbers, from `first` on.

@@ -2,7 +2,7 @@
 ghost use Rattle.std.specs.Prelude.{◌≡◌, IfOk, IsOkUnless, length};
 ghost use Rattle.morsel_frame.specs.Tables.{same_kind, same_field, first_difference, difference};
 
-use crate::{ColType, Fault, Field, Name};
+use morsel_meaning::{ColType, Fault, Field, Name};
 use std::alloc::Global;
 
 /// The name of the first field that differs from the other's at its place, and no name where the widths differ.

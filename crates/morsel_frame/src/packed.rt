@@ -5,7 +5,8 @@ ghost use Rattle.morsel_frame.specs.Packing.{stored, kind_of, blank_of};
 
 use crate::gathers::{gather_slice, gather_texts};
 use crate::row_number::RowNumber;
-use crate::{Cell, ColType, Fault, Texts, Value};
+use crate::{Cell, Texts};
+use morsel_meaning::{ColType, Fault, Value};
 use std::alloc::Global;
 
 /// Values of one type, none of them null.

@@ -6,7 +6,7 @@ ghost use Rattle.morsel_meaning.specs.Values.{names_of};
 ghost use Rattle.morsel_frame.specs.Names.{AreDistinct, first_repeated};
 ghost use Rattle.morsel_frame.specs.Refusals.{Refuses, repeat_fault};
 
-use crate::{Fault, Field, Name};
+use morsel_meaning::{Fault, Field, Name};
 use std::alloc::Global;
 use std::collections::BTreeSet;
 use std::marker::Model;
@@ -19,7 +19,7 @@ pub struct Schema {
 
 impl Model for Schema {
     ghost use Rattle.std.specs.Prelude.{List};
-    ghost use Rattle.morsel_meaning.specs.declared.Field.{Field};
+    ghost use Rattle.morsel_meaning.specs.declared.value.Field.{Field};
     ghost use Rattle.morsel_meaning.specs.Values.{names_of};
     ghost use Rattle.morsel_frame.specs.Names.{AreDistinct};
 

@@ -6,7 +6,8 @@ ghost use Rattle.morsel_frame.specs.Names.{AreDistinct, AreDistinctPlaces};
 ghost use Rattle.morsel_frame.specs.Selects.{columns_at};
 ghost use Rattle.morsel_frame.specs.Tables.{fields_at};
 
-use crate::{ColType, Column, Fault, Field, Name, Schema};
+use crate::{Column, Schema};
+use morsel_meaning::{ColType, Fault, Field, Name};
 use std::alloc::Global;
 use std::mem::replace;
 

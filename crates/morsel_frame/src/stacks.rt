@@ -2,7 +2,8 @@
 ghost use Rattle.std.specs.Prelude.{◌≡◌, ℕ, ◌≤◌, length, map, IfOk, OnOk, OnErr, IsOkUnless, vec_len};
 ghost use Rattle.morsel_frame.specs.Stacks.{column_range, column_front, AreTall, AreLevel, AreAlike, stacked, stacked_up_to};
 
-use crate::{Column, Fault};
+use crate::Column;
+use morsel_meaning::Fault;
 use std::alloc::Global;
 
 /// The rows of each column from row `from` to row `to`.

@@ -2,7 +2,7 @@
 ghost use Rattle.std.specs.Prelude.{◌≡◌, ◌+◌, ◌-◌, ◌<◌, ◌≤◌, [], ◌∷◌, ◌++◌, List, ℕ, length, take, map, slice_range, get_or, OnOk, OnErr, IfOk, IsOkUnless, vec_len, vec_capacity, slice_index, ◌^◌, replicate, string_bytes};
 ghost use Rattle.morsel_frame.specs.Pieces.{ArePieces, moved};
 
-use crate::Fault;
+use morsel_meaning::Fault;
 use std::alloc::Global;
 use std::marker::Model;
 

@@ -7,7 +7,7 @@ use Rattle.morsel_meaning.specs.declared.value.ColType.{ColType}
 use Rattle.morsel_meaning.specs.Values.{Row}
 use Rattle.morsel_grammar.specs.Options.{Options, AreOptions}
 use Rattle.morsel_grammar.specs.Grammar.{CsvField, CsvRecord, doubled, BeginsComment, Records}
-use Rattle.morsel_grammar.specs.Cells.{Cell}
+use Rattle.morsel_grammar.specs.Cells.{CsvCell}
 use Rattle.morsel_grammar.specs.Split.{is_quote, quoted_at, with_byte, in_quotes, field_at, with_field, fields_then, fields_up_to, fields_record, comment_body, record_then_fields}
 use Rattle.morsel_grammar.specs.Rows.{mark_len, unmarked}
 use Rattle.morsel_grammar.specs.Reading.{Refusal, reading, read_of}
@@ -145,5 +145,5 @@ reads_files o fit = λ kinds bytes.
           (reading-ends o kinds o.has_header at text is.1 (still_to_come o.has_header is.2.0) fit has).0,
       λ none.
           let has = (reading-is o kinds [] o.has_header at text fit).done none in
-          ((utf8_unmarked bytes).1 has.utf8, map (λ (row : ℕ × List Cell). row.1) (reading o kinds o.has_header at text).rows, (has.records, has.split, has.rows_are)),
+          ((utf8_unmarked bytes).1 has.utf8, map (λ (row : ℕ × List CsvCell). row.1) (reading o kinds o.has_header at text).rows, (has.records, has.split, has.rows_are)),
     )

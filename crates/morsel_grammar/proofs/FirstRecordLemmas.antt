@@ -7,8 +7,8 @@ use Rattle.std.specs.Prelude.{Bool, true, false, not, ◌⊎◌, if◌then◌els
 use Rattle.morsel_meaning.specs.declared.value.ColType.{ColType}
 use Rattle.morsel_grammar.specs.Options.{Options, AreOptions}
 use Rattle.morsel_grammar.specs.Grammar.{CsvField, CsvRecord, Comment, Fields, IsRecord}
-use Rattle.morsel_grammar.specs.Cells.{Cell, cell_of}
-use Rattle.morsel_grammar.specs.Rows.{NoRow, IsRow, Misfit, is_empty, is_header, cells_of, row_or_misfit, row_of_nothing, row_of, behind_header, with_row, rows_of}
+use Rattle.morsel_grammar.specs.Cells.{CsvCell, cell_of}
+use Rattle.morsel_grammar.specs.Rows.{NoRow, IsRow, Misfit, is_empty, is_header, cells_of, row_or_misfit, row_of_nothing, row_of, behind_header, with_first_row, rows_of_records}
 use Rattle.morsel_grammar.specs.GrammarRows.{still_to_come, HasRows, HasRowsBefore, HasOtherWidth}
 use Rattle.morsel_grammar.proofs.RecordLemmas.{EndsIn, record_ends, takes_bytes}
 
@@ -90,9 +90,9 @@ utf8_whole o r text next bytes taken first later =
     let P : List ℕ → Type 0 = λ x. IsUtf8 x in subst P (sym taken.split) (IsUtf8-append bytes next first later)
 
 -- what a record does to the rows that follow: the header's state before and behind it, and the rows with those that follow
-pub record Adds (o : Options) (kinds : List ColType) (r : CsvRecord) (head still : Bool) (add : List (List Cell) → List (List Cell)) : Type 0 where
-  pub rows_more : (records : List CsvRecord) (rows : List (List Cell)) → rows_of o kinds (behind_header still records) ≡ Some rows
-      → rows_of o kinds (behind_header head (r ∷ records)) ≡ Some (add rows)
+pub record Adds (o : Options) (kinds : List ColType) (r : CsvRecord) (head still : Bool) (add : List (List CsvCell) → List (List CsvCell)) : Type 0 where
+  pub rows_more : (records : List CsvRecord) (rows : List (List CsvCell)) → rows_of_records o kinds (behind_header still records) ≡ Some rows
+      → rows_of_records o kinds (behind_header head (r ∷ records)) ≡ Some (add rows)
   pub still_more : (records : List CsvRecord) → still_to_come head (r ∷ records) ≡ still_to_come still records
 
 header_behind : (records : List CsvRecord) (t : Bool) → behind_header (not t) records ≡ (if t then records else behind_header true records)
@@ -106,24 +106,24 @@ header_still records false = refl
 -- up to the header there are no rows
 pub adds_header : (o : Options) (kinds : List ColType) (r : CsvRecord) → Adds o kinds r true (not (is_header r)) (λ rows. rows)
 adds_header o kinds r = record {
-  rows_more = λ records rows is. ap (rows_of o kinds) (sym (header_behind records (is_header r))) ∙ is;
+  rows_more = λ records rows is. ap (rows_of_records o kinds) (sym (header_behind records (is_header r))) ∙ is;
   still_more = λ records. header_still records (is_header r);
 }
 
 pub adds_nothing : (o : Options) (kinds : List ColType) (r : CsvRecord) → row_of o kinds r ≡ NoRow → Adds o kinds r false false (λ rows. rows)
 adds_nothing o kinds r none = record {
-  rows_more = λ records rows is. ap (λ row. with_row row (rows_of o kinds records)) none ∙ is;
+  rows_more = λ records rows is. ap (λ row. with_first_row row (rows_of_records o kinds records)) none ∙ is;
   still_more = λ records. refl;
 }
 
-pub adds_row : (o : Options) (kinds : List ColType) (r : CsvRecord) (cells : List Cell) → row_of o kinds r ≡ IsRow cells → Adds o kinds r false false (λ rows. cells ∷ rows)
+pub adds_row : (o : Options) (kinds : List ColType) (r : CsvRecord) (cells : List CsvCell) → row_of o kinds r ≡ IsRow cells → Adds o kinds r false false (λ rows. cells ∷ rows)
 adds_row o kinds r cells row = record {
-  rows_more = λ records rows is. ap (λ row. with_row row (rows_of o kinds records)) row ∙ ap (with_row (IsRow cells)) is;
+  rows_more = λ records rows is. ap (λ row. with_first_row row (rows_of_records o kinds records)) row ∙ ap (with_first_row (IsRow cells)) is;
   still_more = λ records. refl;
 }
 
 -- the rows of a text are those of its first record and of what follows
-pub rows_more : (o : Options) (kinds : List ColType) (r : CsvRecord) (head still later : Bool) (text next bytes : List ℕ) (add : List (List Cell) → List (List Cell)) (rows : List (List Cell))
+pub rows_more : (o : Options) (kinds : List ColType) (r : CsvRecord) (head still later : Bool) (text next bytes : List ℕ) (add : List (List CsvCell) → List (List CsvCell)) (rows : List (List CsvCell))
     → IsTaken o r text next bytes → IsUtf8 bytes → Adds o kinds r head still add → HasRows o kinds still next rows later → HasRows o kinds head text (add rows) later
 rows_more o kinds r head still later text next bytes add rows taken utf8 adds has = record {
   utf8 = utf8_whole o r text next bytes taken utf8 has.utf8;
@@ -133,7 +133,7 @@ rows_more o kinds r head still later text next bytes add rows taken utf8 adds ha
   still_is = has.still_is ∙ sym (adds.still_more has.records);
 }
 
-before_line : (o : Options) (kinds : List ColType) (r : CsvRecord) (head still later : Bool) (at place : ℕ) (text next line rest : List ℕ) (add : List (List Cell) → List (List Cell)) (rows : List (List Cell))
+before_line : (o : Options) (kinds : List ColType) (r : CsvRecord) (head still later : Bool) (at place : ℕ) (text next line rest : List ℕ) (add : List (List CsvCell) → List (List CsvCell)) (rows : List (List CsvCell))
     → AreOptions o → text ≡ line ++ o.eol ∷ next → ((more : List ℕ) → IsRecord o r (line ++ o.eol ∷ more) more) → IsUtf8 (line ++ o.eol ∷ []) → Adds o kinds r head still add
     → HasRowsBefore o kinds still (at + (length text - length next)) next place rows later rest → HasRowsBefore o kinds head at text place (add rows) later rest
 before_line o kinds r head still later at place text next line rest add rows fit split again utf8 adds has =
@@ -157,7 +157,7 @@ nothing_left : (next front rest : List ℕ) → next ≡ [] → next ≡ front +
 nothing_left next [] rest none is = sym is ∙ none
 nothing_left next (b ∷ front) rest none is = let never : [] ≡ b ∷ front ++ rest = sym none ∙ is in cc
 
-before_by_end : (o : Options) (kinds : List ColType) (r : CsvRecord) (head still later : Bool) (at place : ℕ) (text next bytes rest : List ℕ) (add : List (List Cell) → List (List Cell)) (rows : List (List Cell))
+before_by_end : (o : Options) (kinds : List ColType) (r : CsvRecord) (head still later : Bool) (at place : ℕ) (text next bytes rest : List ℕ) (add : List (List CsvCell) → List (List CsvCell)) (rows : List (List CsvCell))
     → AreOptions o → IsTaken o r text next bytes → IsUtf8 bytes → Adds o kinds r head still add → EndsIn o (IsRecord o r) text next
     → HasRowsBefore o kinds still (at + (length text - length next)) next place rows later rest → HasRowsBefore o kinds head at text place (add rows) later rest
 before_by_end o kinds r head still later at place text next bytes rest add rows fit taken utf8 adds (inl none) has =
@@ -169,13 +169,13 @@ before_by_end o kinds r head still later at place text next bytes rest add rows 
     (subst P (append_cancel_right bytes (line ++ o.eol ∷ []) next same) utf8) adds has
 
 -- the rows before a place behind the first record are those of that record and of what follows
-pub before_more : (o : Options) (kinds : List ColType) (r : CsvRecord) (head still later : Bool) (at place : ℕ) (text next bytes rest : List ℕ) (add : List (List Cell) → List (List Cell)) (rows : List (List Cell))
+pub before_more : (o : Options) (kinds : List ColType) (r : CsvRecord) (head still later : Bool) (at place : ℕ) (text next bytes rest : List ℕ) (add : List (List CsvCell) → List (List CsvCell)) (rows : List (List CsvCell))
     → AreOptions o → IsTaken o r text next bytes → IsUtf8 bytes → Adds o kinds r head still add
     → HasRowsBefore o kinds still (at + (length text - length next)) next place rows later rest → HasRowsBefore o kinds head at text place (add rows) later rest
 before_more o kinds r head still later at place text next bytes rest add rows fit taken utf8 adds has =
     before_by_end o kinds r head still later at place text next bytes rest add rows fit taken utf8 adds (record_ends o r text next fit taken.is) has
 
-no_rows : (o : Options) (kinds : List ColType) (head : Bool) → rows_of o kinds (behind_header head []) ≡ Some []
+no_rows : (o : Options) (kinds : List ColType) (head : Bool) → rows_of_records o kinds (behind_header head []) ≡ Some []
 no_rows o kinds true = refl
 no_rows o kinds false = refl
 
@@ -207,7 +207,7 @@ rows_of_nothing o kinds head = record {
 }
 
 -- a record of another width
-cells_found : (o : Options) (kinds : List ColType) (fields : List CsvField) → length fields ≡ length kinds → (cells : List Cell) × (cells_of o kinds fields ≡ Some cells)
+cells_found : (o : Options) (kinds : List ColType) (fields : List CsvField) → length fields ≡ length kinds → (cells : List CsvCell) × (cells_of o kinds fields ≡ Some cells)
 cells_found o [] [] same = ([], refl)
 cells_found o [] (f ∷ fields) same = absurd (omega arith)
 cells_found o (kind ∷ kinds) [] same = absurd (omega arith)
@@ -215,7 +215,7 @@ cells_found o (kind ∷ kinds) (f ∷ fields) same =
     let later = cells_found o kinds fields (omega arith) in
     (cell_of o kind f ∷ later.0, rw later.1 refl)
 
-misfit_none : (found : Option (List Cell)) → row_or_misfit found ≡ Misfit → found ≡ None
+misfit_none : (found : Option (List CsvCell)) → row_or_misfit found ≡ Misfit → found ≡ None
 misfit_none None is = refl
 misfit_none (Some cells) is = cc
 

@@ -5,7 +5,7 @@ use Rattle.std.specs.Str.{is_utf8}
 use Rattle.morsel_meaning.specs.declared.value.ColType.{ColType}
 use Rattle.morsel_grammar.specs.Options.{Options, AreOptions}
 use Rattle.morsel_grammar.specs.Grammar.{CsvRecord, IsRecord}
-use Rattle.morsel_grammar.specs.Cells.{Cell}
+use Rattle.morsel_grammar.specs.Cells.{CsvCell}
 use Rattle.morsel_grammar.specs.Rows.{RowOf, NoRow, IsRow, Misfit, is_header, row_of}
 use Rattle.morsel_grammar.specs.Split.{record_at}
 use Rattle.morsel_grammar.specs.Reading.{NotUtf8, Refusal, Reading, refuses, with_cells, row_then, record_then, split_then, reading_up_to, reading}
@@ -89,7 +89,7 @@ line_taken o r text line next is split =
     some_line [] is = cc
     some_line (b ∷ line) is = cc
 
-joined_cells : (at : ℕ) (cells : List Cell) (rows : List (ℕ × List Cell)) (head : Bool) (refusal : Option Refusal) (later : Bool → Reading)
+joined_cells : (at : ℕ) (cells : List CsvCell) (rows : List (ℕ × List CsvCell)) (head : Bool) (refusal : Option Refusal) (later : Bool → Reading)
     → joined_at ((at, cells) ∷ rows) head refusal later ≡ with_cells at cells (joined_at rows head refusal later)
 joined_cells at cells rows head None later = refl
 joined_cells at cells rows head (Some refusal) later = refl

@@ -8,7 +8,7 @@ use Rattle.morsel_meaning.specs.declared.value.ColType.{ColType}
 use Rattle.morsel_meaning.specs.Values.{Row}
 use Rattle.morsel_grammar.specs.Options.{Options, AreOptions}
 use Rattle.morsel_grammar.specs.Grammar.{CsvField, CsvRecord, Comment, Fields, IsRecord, Records}
-use Rattle.morsel_grammar.specs.Cells.{Cell}
+use Rattle.morsel_grammar.specs.Cells.{CsvCell}
 use Rattle.morsel_grammar.specs.Rows.{RowOf, IsRow, Misfit, is_header, cells_of, row_of}
 use Rattle.morsel_grammar.specs.Reading.{Flaw, Malformed, NotUtf8, IllTyped, Refusal, Reading, refuses, row_then, record_then, split_then, reading, used_values, Read, value_then, read_of}
 use Rattle.morsel_grammar.specs.GrammarRows.{AreWholeRecords, HasOtherWidth, HasRows, HasFlaw, RowsOfGrammar}
@@ -63,7 +63,7 @@ stops_misfit used at row later is = rw is (stops_refused used false at Malformed
 stops_value : (head : Bool) (at : ℕ) (found : Option Row) (later : Read) → found ≡ None → StopsAt at (value_then head at found later)
 stops_value head at found later is = rw is (refl, refl)
 
-stops_bad : (used : List Bool) (at : ℕ) (row : RowOf) (cells : List Cell) (later : Reading) → row ≡ IsRow cells → used_values used cells ≡ None
+stops_bad : (used : List Bool) (at : ℕ) (row : RowOf) (cells : List CsvCell) (later : Reading) → row ≡ IsRow cells → used_values used cells ≡ None
     → StopsAt at (read_of used (row_then false at row later))
 stops_bad used at row cells later is bad = rw is (stops_value later.head at (used_values used cells) (read_of used later) bad)
 

@@ -6,7 +6,7 @@ use Rattle.morsel_meaning.specs.declared.value.ColType.{ColType}
 use Rattle.morsel_meaning.specs.Values.{Row}
 use Rattle.morsel_grammar.specs.Options.{Options, AreOptions}
 use Rattle.morsel_grammar.specs.Grammar.{CsvRecord}
-use Rattle.morsel_grammar.specs.Cells.{Cell}
+use Rattle.morsel_grammar.specs.Cells.{CsvCell}
 use Rattle.morsel_grammar.specs.Rows.{RowOf, NoRow, IsRow, Misfit, is_header, row_of}
 use Rattle.morsel_grammar.specs.Split.{record_at}
 use Rattle.morsel_grammar.specs.Reading.{Flaw, IllTyped, Malformed, NotUtf8, Refusal, Reading, ends, refuses, row_then, split_then, reading_up_to, reading, used_values, Read, value_then, used_rows, read_of}
@@ -17,7 +17,7 @@ use Rattle.morsel_grammar.proofs.JoinedLemmas.{reading-joined}
 -- the header does not come twice, and no row stands before it
 pub record IsPast (head : Bool) (r : Reading) : Type 0 where
   pub kept : head ≡ false → r.head ≡ false
-  pub behind_rows : (row : ℕ × List Cell) (rows : List (ℕ × List Cell)) → r.rows ≡ row ∷ rows → r.head ≡ false
+  pub behind_rows : (row : ℕ × List CsvCell) (rows : List (ℕ × List CsvCell)) → r.rows ≡ row ∷ rows → r.head ≡ false
 
 past_end : (head : Bool) → IsPast head (ends head)
 past_end head = record { kept = λ is. is; behind_rows = λ row rows is. cc }
@@ -70,7 +70,7 @@ joined_value head other at None all first later same is =
 joined_value head other at (Some row) all first later same is =
     ap (λ (x : Read). let r : Read = record x { rows = (at, row) ∷ x.rows } in r) is ∙ joined_values at row first.rows first.head first.refusal later
 
-joined_used : (used : List Bool) (head other : Bool) (rows more : List (ℕ × List Cell)) (refusal : Option Refusal) (later : Bool → Read) → other ≡ head
+joined_used : (used : List Bool) (head other : Bool) (rows more : List (ℕ × List CsvCell)) (refusal : Option Refusal) (later : Bool → Read) → other ≡ head
     → used_rows used other more refusal ≡ later head
     → used_rows used other (rows ++ more) refusal ≡ joined_read (used_rows used head rows None) later
 joined_used used head other [] more refusal later same is = is
@@ -82,22 +82,22 @@ refused_value : (head : Bool) (at : ℕ) (found : Option Row) (first : Read) (la
     → value_then head at found first ≡ joined_read (value_then head at found first) later
 refused_value head at found first later is = joined_value head head at found first first later refl is
 
-refused_used : (used : List Bool) (head : Bool) (rows : List (ℕ × List Cell)) (refusal : Refusal) (later : Bool → Read)
+refused_used : (used : List Bool) (head : Bool) (rows : List (ℕ × List CsvCell)) (refusal : Refusal) (later : Bool → Read)
     → used_rows used head rows (Some refusal) ≡ joined_read (used_rows used head rows (Some refusal)) later
 refused_used used head [] refusal later = refl
 refused_used used head (row ∷ rows) refusal later =
     refused_value head row.0 (used_values used row.1) (used_rows used head rows (Some refusal)) later (refused_used used head rows refusal later)
 
-by_rows : (used : List Bool) (rows : List (ℕ × List Cell)) (head : Bool) (later : Bool → Reading)
-    → ((row : ℕ × List Cell) (more : List (ℕ × List Cell)) → rows ≡ row ∷ more → head ≡ false) → ((still : Bool) → IsPast still (later still))
+by_rows : (used : List Bool) (rows : List (ℕ × List CsvCell)) (head : Bool) (later : Bool → Reading)
+    → ((row : ℕ × List CsvCell) (more : List (ℕ × List CsvCell)) → rows ≡ row ∷ more → head ≡ false) → ((still : Bool) → IsPast still (later still))
     → used_rows used (later head).head (rows ++ (later head).rows) (later head).refusal ≡ joined_read (used_rows used head rows None) (λ still. read_of used (later still))
 by_rows used [] head later behind is = refl
 by_rows used (row ∷ rows) head later behind is =
     let past : head ≡ false = behind row rows refl in
     joined_used used head (later head).head (row ∷ rows) (later head).rows (later head).refusal (λ still. read_of used (later still)) ((is head).kept past ∙ sym past) refl
 
-by_refusal : (used : List Bool) (rows : List (ℕ × List Cell)) (head : Bool) (refusal : Option Refusal) (later : Bool → Reading)
-    → ((row : ℕ × List Cell) (more : List (ℕ × List Cell)) → rows ≡ row ∷ more → head ≡ false) → ((still : Bool) → IsPast still (later still))
+by_refusal : (used : List Bool) (rows : List (ℕ × List CsvCell)) (head : Bool) (refusal : Option Refusal) (later : Bool → Reading)
+    → ((row : ℕ × List CsvCell) (more : List (ℕ × List CsvCell)) → rows ≡ row ∷ more → head ≡ false) → ((still : Bool) → IsPast still (later still))
     → read_of used (joined_at rows head refusal later) ≡ joined_read (used_rows used head rows refusal) (λ still. read_of used (later still))
 by_refusal used rows head None later behind is = by_rows used rows head later behind is
 by_refusal used rows head (Some refusal) later behind is = refused_used used head rows refusal (λ still. read_of used (later still))

@@ -6,8 +6,8 @@ use Rattle.std.specs.Str.{is_utf8}
 use Rattle.morsel_meaning.specs.declared.value.ColType.{ColType}
 use Rattle.morsel_grammar.specs.Options.{Options, AreOptions}
 use Rattle.morsel_grammar.specs.Grammar.{CsvRecord, IsRecord, Records}
-use Rattle.morsel_grammar.specs.Cells.{Cell}
-use Rattle.morsel_grammar.specs.Rows.{RowOf, NoRow, IsRow, Misfit, is_header, row_of, behind_header, with_row, rows_of}
+use Rattle.morsel_grammar.specs.Cells.{CsvCell}
+use Rattle.morsel_grammar.specs.Rows.{RowOf, NoRow, IsRow, Misfit, is_header, row_of, behind_header, with_first_row, rows_of_records}
 use Rattle.morsel_grammar.specs.Split.{record_at}
 use Rattle.morsel_grammar.specs.Reading.{Flaw, Malformed, NotUtf8, Refusal, Reading, ends, refuses, with_cells, row_then, record_then, split_then, reading_up_to, reading}
 use Rattle.morsel_grammar.specs.GrammarRows.{still_to_come, HasRows, HasFlaw, IsRefusedAt, HasRowAt, CellsOfGrammar}
@@ -16,14 +16,14 @@ use Rattle.morsel_grammar.proofs.RecordLemmas.{IsFound, record_at-read, record_a
 use Rattle.morsel_grammar.proofs.FirstRecordLemmas.{IsTaken, bytes_taken, record_taken, utf8_parts, Adds, adds_header, adds_nothing, adds_row, rows_more, before_more, before_first, rows_of_nothing, misfit_width}
 
 -- the cells of rows with places
-abbrev pub cells_in : List (ℕ × List Cell) → List (List Cell)
-cells_in rows = map (λ (row : ℕ × List Cell). row.1) rows
+abbrev pub cells_in : List (ℕ × List CsvCell) → List (List CsvCell)
+cells_in rows = map (λ (row : ℕ × List CsvCell). row.1) rows
 
 -- a reading says of the text what the grammar says
 pub record IsReading (o : Options) (kinds : List ColType) (used : List Bool) (head : Bool) (at : ℕ) (text : List ℕ) (r : Reading) : Type 0 where
   pub done : r.refusal ≡ None → HasRows o kinds head text (cells_in r.rows) r.head
   pub stopped : (refusal : Refusal) → r.refusal ≡ Some refusal → IsRefusedAt o kinds used head at text (cells_in r.rows) refusal
-  pub rows : (before : List (ℕ × List Cell)) (place : ℕ) (cells : List Cell) (after : List (ℕ × List Cell)) → r.rows ≡ before ++ (place, cells) ∷ after
+  pub rows : (before : List (ℕ × List CsvCell)) (place : ℕ) (cells : List CsvCell) (after : List (ℕ × List CsvCell)) → r.rows ≡ before ++ (place, cells) ∷ after
       → HasRowAt o kinds head at text (cells_in before) place cells
 
 no_middle : {A : Type 0} (before : List A) (x : A) (after : List A) → [] ≡ before ++ x ∷ after → ⊥
@@ -76,22 +76,22 @@ passed o kinds used head still at text next bytes r later fit taken utf8 adds is
 }
 
 -- a record that is a row
-row_here : (o : Options) (kinds : List ColType) (used : List Bool) (at : ℕ) (text next bytes : List ℕ) (r : CsvRecord) (cells : List Cell) (later : Reading)
+row_here : (o : Options) (kinds : List ColType) (used : List Bool) (at : ℕ) (text next bytes : List ℕ) (r : CsvRecord) (cells : List CsvCell) (later : Reading)
     → AreOptions o → IsTaken o r text next bytes → IsUtf8 bytes → row_of o kinds r ≡ IsRow cells
     → IsReading o kinds used false (at + (length text - length next)) next later
-    → (before : List (ℕ × List Cell)) (place : ℕ) (other : List Cell) (after : List (ℕ × List Cell)) → (at, cells) ∷ later.rows ≡ before ++ (place, other) ∷ after
+    → (before : List (ℕ × List CsvCell)) (place : ℕ) (other : List CsvCell) (after : List (ℕ × List CsvCell)) → (at, cells) ∷ later.rows ≡ before ++ (place, other) ∷ after
     → HasRowAt o kinds false at text (cells_in before) place other
 row_here o kinds used at text next bytes r cells later fit taken utf8 row is [] place other after one =
-    let first : (ℕ × List Cell) → (ℕ × List Cell) → Type 0 = λ a b. a ≡ b in
+    let first : (ℕ × List CsvCell) → (ℕ × List CsvCell) → Type 0 = λ a b. a ≡ b in
     let same : first (at, cells) (place, other) = cc in
-    let P : ℕ × List Cell → Type 0 = λ x. HasRowAt o kinds false at text [] x.0 x.1 in
+    let P : ℕ × List CsvCell → Type 0 = λ x. HasRowAt o kinds false at text [] x.0 x.1 in
     subst P same (text, r, next, before_first o kinds false at text taken.some, taken.is, row)
 row_here o kinds used at text next bytes r cells later fit taken utf8 row is (b ∷ before) place other after one =
     let rest : later.rows ≡ before ++ (place, other) ∷ after = cc in
-    let first : ℕ × List Cell = (at, cells) in
+    let first : ℕ × List CsvCell = (at, cells) in
     let same : first ≡ b = cc in
     let found = is.rows before place other after rest in
-    let P : ℕ × List Cell → Type 0 = λ x. HasRowAt o kinds false at text (x.1 ∷ cells_in before) place other in
+    let P : ℕ × List CsvCell → Type 0 = λ x. HasRowAt o kinds false at text (x.1 ∷ cells_in before) place other in
     subst P same (
       found.0,
       found.1,
@@ -101,7 +101,7 @@ row_here o kinds used at text next bytes r cells later fit taken utf8 row is (b 
       found.5,
     )
 
-added : (o : Options) (kinds : List ColType) (used : List Bool) (at : ℕ) (text next bytes : List ℕ) (r : CsvRecord) (cells : List Cell) (later : Reading)
+added : (o : Options) (kinds : List ColType) (used : List Bool) (at : ℕ) (text next bytes : List ℕ) (r : CsvRecord) (cells : List CsvCell) (later : Reading)
     → AreOptions o → IsTaken o r text next bytes → IsUtf8 bytes → row_of o kinds r ≡ IsRow cells
     → IsReading o kinds used false (at + (length text - length next)) next later → IsReading o kinds used false at text (with_cells at cells later)
 added o kinds used at text next bytes r cells later fit taken utf8 row is = record {
@@ -186,33 +186,33 @@ reading-cells o kinds head at text fit =
     cells_by_refusal o kinds head at text (reading o kinds head at text) (reading o kinds head at text).refusal refl (reading-is o kinds [] head at text fit)
 
 -- a text that has rows is read to its end
-row_kept : (o : Options) (kinds : List ColType) (at : ℕ) (row : RowOf) (later : Reading) (found : Option (List (List Cell))) (rows : List (List Cell))
-    → with_row row found ≡ Some rows → ((before : List (List Cell)) → found ≡ Some before → later.refusal ≡ None) → (row_then false at row later).refusal ≡ None
+row_kept : (o : Options) (kinds : List ColType) (at : ℕ) (row : RowOf) (later : Reading) (found : Option (List (List CsvCell))) (rows : List (List CsvCell))
+    → with_first_row row found ≡ Some rows → ((before : List (List CsvCell)) → found ≡ Some before → later.refusal ≡ None) → (row_then false at row later).refusal ≡ None
 row_kept o kinds at NoRow later found rows is ends = ends rows is
 row_kept o kinds at (IsRow cells) later None rows is ends = cc
 row_kept o kinds at (IsRow cells) later (Some before) rows is ends = ends before refl
 row_kept o kinds at Misfit later found rows is ends = cc
 
-header_rows : (o : Options) (kinds : List ColType) (records : List CsvRecord) (t : Bool) (rows : List (List Cell))
-    → rows_of o kinds (if t then records else behind_header true records) ≡ Some rows → rows_of o kinds (behind_header (not t) records) ≡ Some rows
+header_rows : (o : Options) (kinds : List ColType) (records : List CsvRecord) (t : Bool) (rows : List (List CsvCell))
+    → rows_of_records o kinds (if t then records else behind_header true records) ≡ Some rows → rows_of_records o kinds (behind_header (not t) records) ≡ Some rows
 header_rows o kinds records true rows is = is
 header_rows o kinds records false rows is = is
 
-head_kept : (o : Options) (kinds : List ColType) (head : Bool) (at : ℕ) (r : CsvRecord) (records : List CsvRecord) (rows : List (List Cell)) (later : Bool → Reading)
-    → rows_of o kinds (behind_header head (r ∷ records)) ≡ Some rows
-    → ((still : Bool) (before : List (List Cell)) → rows_of o kinds (behind_header still records) ≡ Some before → (later still).refusal ≡ None)
+head_kept : (o : Options) (kinds : List ColType) (head : Bool) (at : ℕ) (r : CsvRecord) (records : List CsvRecord) (rows : List (List CsvCell)) (later : Bool → Reading)
+    → rows_of_records o kinds (behind_header head (r ∷ records)) ≡ Some rows
+    → ((still : Bool) (before : List (List CsvCell)) → rows_of_records o kinds (behind_header still records) ≡ Some before → (later still).refusal ≡ None)
     → (if head then later (not (is_header r)) else row_then false at (row_of o kinds r) (later false)).refusal ≡ None
 head_kept o kinds true at r records rows later is ends = ends (not (is_header r)) rows (header_rows o kinds records (is_header r) rows is)
 head_kept o kinds false at r records rows later is ends =
-    row_kept o kinds at (row_of o kinds r) (later false) (rows_of o kinds records) rows is (ends false)
+    row_kept o kinds at (row_of o kinds r) (later false) (rows_of_records o kinds records) rows is (ends false)
 
 utf8_kept : (o : Options) (kinds : List ColType) (head : Bool) (at : ℕ) (bytes : List ℕ) (r : CsvRecord) (later : Bool → Reading) → IsUtf8 bytes
     → (if head then later (not (is_header r)) else row_then false at (row_of o kinds r) (later false)).refusal ≡ None
     → (record_then o kinds head at bytes r later).refusal ≡ None
 utf8_kept o kinds head at bytes r later utf8 kept = rw (is_utf8-from_IsUtf8 bytes utf8) kept
 
-pub reading_up_to-ends : (n : ℕ) (o : Options) (kinds : List ColType) (head : Bool) (at : ℕ) (text : List ℕ) (records : List CsvRecord) (rows : List (List Cell))
-    → AreOptions o → length text ≤ n → IsUtf8 text → Records o text records → rows_of o kinds (behind_header head records) ≡ Some rows
+pub reading_up_to-ends : (n : ℕ) (o : Options) (kinds : List ColType) (head : Bool) (at : ℕ) (text : List ℕ) (records : List CsvRecord) (rows : List (List CsvCell))
+    → AreOptions o → length text ≤ n → IsUtf8 text → Records o text records → rows_of_records o kinds (behind_header head records) ≡ Some rows
     → (reading_up_to n o kinds head at text).refusal ≡ None
 reading_up_to-ends zero o kinds head at [] records rows fit enough utf8 split is = refl
 reading_up_to-ends (suc n) o kinds head at [] records rows fit enough utf8 split is = refl
@@ -235,14 +235,14 @@ reading_up_to-ends (suc n) o kinds head at (b ∷ bs) (r ∷ records) rows fit e
     ∙ kept
 
 -- two answers of the grammar are one
-rows_same : (o : Options) (kinds : List ColType) (head : Bool) (text : List ℕ) (rows others : List (List Cell)) (still other : Bool) → AreOptions o
+rows_same : (o : Options) (kinds : List ColType) (head : Bool) (text : List ℕ) (rows others : List (List CsvCell)) (still other : Bool) → AreOptions o
     → HasRows o kinds head text rows still → HasRows o kinds head text others other → (rows ≡ others) × (still ≡ other)
 rows_same o kinds head text rows others still other fit is also =
     let same : is.records ≡ also.records = one_list o fit text is.records also.records is.split also.split in
-    let found : Some rows ≡ Some others = sym is.rows_are ∙ ap (λ records. rows_of o kinds (behind_header head records)) same ∙ also.rows_are in
+    let found : Some rows ≡ Some others = sym is.rows_are ∙ ap (λ records. rows_of_records o kinds (behind_header head records)) same ∙ also.rows_are in
     (cc, is.still_is ∙ ap (still_to_come head) same ∙ sym also.still_is)
 
-pub reading-ends : (o : Options) (kinds : List ColType) (head : Bool) (at : ℕ) (text : List ℕ) (rows : List (List Cell)) (still : Bool) → AreOptions o
+pub reading-ends : (o : Options) (kinds : List ColType) (head : Bool) (at : ℕ) (text : List ℕ) (rows : List (List CsvCell)) (still : Bool) → AreOptions o
     → HasRows o kinds head text rows still
     → (let r = reading o kinds head at text in (r.refusal ≡ None) × (cells_in r.rows ≡ rows) × (r.head ≡ still))
 reading-ends o kinds head at text rows still fit is =

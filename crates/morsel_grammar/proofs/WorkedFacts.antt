@@ -7,7 +7,7 @@ use Rattle.morsel_grammar.specs.Options.{Options, standard}
 use Rattle.morsel_grammar.specs.Grammar.{CsvField, CsvRecord, Comment, Fields}
 use Rattle.morsel_meaning.specs.declared.value.ColType.TheVariants as types
 use Rattle.morsel_meaning.specs.declared.value.Value.TheVariants as values
-use Rattle.morsel_grammar.specs.Cells.{Held, Bad}
+use Rattle.morsel_grammar.specs.Cells.{Good, Bad}
 use Rattle.morsel_grammar.specs.Rows.{NoRow, IsRow, Misfit, row_of, behind_header}
 use Rattle.morsel_grammar.specs.Reading.{Malformed, IllTyped, reading, read_of}
 use Rattle.morsel_grammar.specs.Split.{record_at}
@@ -74,13 +74,13 @@ abbrev marked : Options
 marked = record standard { null_text = codes "NA" }
 
 pub quoted_null : row_of marked (types.Text ∷ types.Text ∷ []) (Fields (quoted (codes "NA") ∷ plain (codes "NA") ∷ []))
-    ≡ IsRow (Held (values.Text (codes "NA")) ∷ Held values.Null ∷ [])
+    ≡ IsRow (Good (values.Text (codes "NA")) ∷ Good values.Null ∷ [])
 quoted_null = refl
 
-pub quoted_empty_text : row_of standard (types.Text ∷ []) (Fields (quoted [] ∷ [])) ≡ IsRow (Held (values.Text []) ∷ [])
+pub quoted_empty_text : row_of standard (types.Text ∷ []) (Fields (quoted [] ∷ [])) ≡ IsRow (Good (values.Text []) ∷ [])
 quoted_empty_text = refl
 
-pub empty_record_of_one : row_of standard (types.Int ∷ []) (Fields (plain [] ∷ [])) ≡ IsRow (Held values.Null ∷ [])
+pub empty_record_of_one : row_of standard (types.Int ∷ []) (Fields (plain [] ∷ [])) ≡ IsRow (Good values.Null ∷ [])
 empty_record_of_one = refl
 
 pub empty_record_of_two : row_of standard (types.Int ∷ types.Int ∷ []) (Fields (plain [] ∷ [])) ≡ NoRow
@@ -90,7 +90,7 @@ pub too_many_fields : row_of standard (types.Int ∷ []) (Fields (plain (codes "
 too_many_fields = refl
 
 pub signed_and_ill_typed : row_of standard (types.Int ∷ types.Bool ∷ []) (Fields (plain (codes "+7") ∷ plain (codes "yes") ∷ []))
-    ≡ IsRow (Held (values.Int (pos 7)) ∷ Bad ∷ [])
+    ≡ IsRow (Good (values.Int (pos 7)) ∷ Bad ∷ [])
 signed_and_ill_typed = refl
 
 -- comments and empty records may stand before the header
@@ -101,7 +101,7 @@ header_behind_comment = refl
 -- behind a header, a row, an empty record and a row, an open quote is refused where its record begins
 pub refused_at_its_place : reading standard (types.Int ∷ types.Int ∷ []) true 0 (codes "a,b\n1,2\n\n3,\n\"4")
     ≡ record {
-      rows = (4, Held (values.Int (pos 1)) ∷ Held (values.Int (pos 2)) ∷ []) ∷ (9, Held (values.Int (pos 3)) ∷ Held values.Null ∷ []) ∷ [];
+      rows = (4, Good (values.Int (pos 1)) ∷ Good (values.Int (pos 2)) ∷ []) ∷ (9, Good (values.Int (pos 3)) ∷ Good values.Null ∷ []) ∷ [];
       head = false;
       refusal = Some (record { at = 12; flaw = Malformed });
     }

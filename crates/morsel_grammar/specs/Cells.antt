@@ -11,9 +11,9 @@ use Rattle.morsel_grammar.specs.Options.{Options}
 use Rattle.morsel_grammar.specs.Grammar.{CsvField}
 
 -- a cell of a row: a value, or none of its type
-pub data Cell : Type 0 where
-  Held : Value → Cell
-  Bad : Cell
+pub data CsvCell : Type 0 where
+  Good : Value → CsvCell
+  Bad : CsvCell
 
 -- whether two texts are the same
 abbrev pub same_text : List ℕ → List ℕ → Bool
@@ -55,17 +55,17 @@ bool_value None = None
 bool_value (Some b) = Some (values.Bool b)
 
 -- what a text says under a type, if anything
-abbrev pub value_of : ColType → List ℕ → Option Value
-value_of types.Int text = int_value (int_of text)
-value_of types.Bool text = bool_value (bool_of text)
-value_of types.Text text = Some (values.Text text)
+abbrev pub value_written : ColType → List ℕ → Option Value
+value_written types.Int text = int_value (int_of text)
+value_written types.Bool text = bool_value (bool_of text)
+value_written types.Text text = Some (values.Text text)
 
-abbrev pub cell_or_bad : Bool → Option Value → Cell
-cell_or_bad ignore_errors (Some v) = Held v
-cell_or_bad true None = Held values.Null
+abbrev pub cell_or_bad : Bool → Option Value → CsvCell
+cell_or_bad ignore_errors (Some v) = Good v
+cell_or_bad true None = Good values.Null
 cell_or_bad false None = Bad
 
 -- a field without quotes that is the null text is null; a field that does not fit its type is bad, or null where errors are ignored
-abbrev pub cell_of : Options → ColType → CsvField → Cell
-cell_of o kind f = if not f.quoted && same_text f.bytes o.null_text then Held values.Null
-    else cell_or_bad o.ignore_errors (value_of kind f.bytes)
+abbrev pub cell_of : Options → ColType → CsvField → CsvCell
+cell_of o kind f = if not f.quoted && same_text f.bytes o.null_text then Good values.Null
+    else cell_or_bad o.ignore_errors (value_written kind f.bytes)

@@ -1,8 +1,8 @@
 -- What a reader answers of a text, in the words of the grammar.
 use Rattle.std.specs.Prelude.{◌≡◌, ℕ, Bool, Some, None, Result, Ok, Err, List}
-use Rattle.morsel_meaning.specs.declared.Fault.{Fault}
-use Rattle.morsel_meaning.specs.declared.Fault.TheVariants as faults
-use Rattle.morsel_meaning.specs.declared.Field.{Field}
+use Rattle.morsel_meaning.specs.declared.fault.Fault.{Fault}
+use Rattle.morsel_meaning.specs.declared.fault.Fault.TheVariants as faults
+use Rattle.morsel_meaning.specs.declared.value.Field.{Field}
 use Rattle.morsel_meaning.specs.Values.{Table, Row, kinds_of}
 use Rattle.morsel_grammar.specs.Options.{Options}
 use Rattle.morsel_grammar.specs.Reading.{Refusal, reading, read_of, chosen}

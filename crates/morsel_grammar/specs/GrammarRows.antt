@@ -4,8 +4,8 @@ use Rattle.morsel_meaning.specs.declared.value.ColType.{ColType}
 use Rattle.morsel_meaning.specs.Values.{Row}
 use Rattle.morsel_grammar.specs.Options.{Options}
 use Rattle.morsel_grammar.specs.Grammar.{CsvField, CsvRecord, Comment, Fields, Spells, doubled, BeginsComment, IsRecord, Records}
-use Rattle.morsel_grammar.specs.Cells.{Cell}
-use Rattle.morsel_grammar.specs.Rows.{IsRow, is_empty, is_header, row_of, behind_header, rows_of}
+use Rattle.morsel_grammar.specs.Cells.{CsvCell}
+use Rattle.morsel_grammar.specs.Rows.{IsRow, is_empty, is_header, row_of, behind_header, rows_of_records}
 use Rattle.morsel_grammar.specs.Reading.{Flaw, Malformed, NotUtf8, IllTyped, Refusal, used_values}
 
 -- the text is these records, each with its eol byte
@@ -21,7 +21,7 @@ still_to_come true [] = true
 still_to_come true (r ∷ records) = if is_header r then false else still_to_come true records
 
 -- the values of the used columns, row by row, where none of their cells is bad
-abbrev pub values_of : List Bool → List (List Cell) → Option (List Row)
+abbrev pub values_of : List Bool → List (List CsvCell) → Option (List Row)
 values_of used [] = Some []
 values_of used (cells ∷ rows) = with_values (used_values used cells) (values_of used rows)
   where
@@ -31,22 +31,22 @@ values_of used (cells ∷ rows) = with_values (used_values used cells) (values_o
     with_values (Some row) (Some rows) = Some (row ∷ rows)
 
 -- the text is UTF-8 and a list of records, and these are the rows behind its header
-pub record HasRows (o : Options) (kinds : List ColType) (head : Bool) (text : List ℕ) (rows : List (List Cell)) (still : Bool) : Type 0 where
+pub record HasRows (o : Options) (kinds : List ColType) (head : Bool) (text : List ℕ) (rows : List (List CsvCell)) (still : Bool) : Type 0 where
   pub utf8 : IsUtf8 text
   pub records : List CsvRecord
   pub split : Records o text records
-  pub rows_are : rows_of o kinds (behind_header head records) ≡ Some rows
+  pub rows_are : rows_of_records o kinds (behind_header head records) ≡ Some rows
   pub still_is : still ≡ still_to_come head records
 
 -- the bytes before a place of the text, which begins at place `at`, are UTF-8 and whole records; these are their rows, and this is the rest
-pub record HasRowsBefore (o : Options) (kinds : List ColType) (head : Bool) (at : ℕ) (text : List ℕ) (place : ℕ) (rows : List (List Cell)) (still : Bool) (rest : List ℕ) : Type 0 where
+pub record HasRowsBefore (o : Options) (kinds : List ColType) (head : Bool) (at : ℕ) (text : List ℕ) (place : ℕ) (rows : List (List CsvCell)) (still : Bool) (rest : List ℕ) : Type 0 where
   pub front : List ℕ
   pub records : List CsvRecord
   pub split : text ≡ front ++ rest
   pub place_is : place ≡ at + length front
   pub whole : AreWholeRecords o front records
   pub utf8 : IsUtf8 front
-  pub rows_are : rows_of o kinds (behind_header head records) ≡ Some rows
+  pub rows_are : rows_of_records o kinds (behind_header head records) ≡ Some rows
   pub still_is : still ≡ still_to_come head records
   pub some_rest : rest ≢ []
 
@@ -61,7 +61,7 @@ HasOtherWidth kinds (Fields fields) = (is_empty fields ≡ false) × (length fie
 
 -- a row with a bad cell in a used column
 abbrev pub HasBadCell : Options → List ColType → List Bool → CsvRecord → Type 0
-HasBadCell o kinds used r = (cells : List Cell) × (row_of o kinds r ≡ IsRow cells) × (used_values used cells ≡ None)
+HasBadCell o kinds used r = (cells : List CsvCell) × (row_of o kinds r ≡ IsRow cells) × (used_values used cells ≡ None)
 
 -- what begins here is refused: no whole record or one of another width; a record that is not UTF-8; one with a bad cell
 abbrev pub HasFlaw : Options → List ColType → List Bool → Bool → List ℕ → Flaw → Type 0
@@ -72,25 +72,25 @@ HasFlaw o kinds used still text NotUtf8 = (r : CsvRecord) × (bytes : List ℕ) 
 HasFlaw o kinds used still text IllTyped = (r : CsvRecord) × (rest : List ℕ) × IsRecord o r text rest × (still ≡ false) × HasBadCell o kinds used r
 
 -- what begins at the place is refused, and nothing before it is
-abbrev pub IsRefusedAt : Options → List ColType → List Bool → Bool → ℕ → List ℕ → List (List Cell) → Refusal → Type 0
+abbrev pub IsRefusedAt : Options → List ColType → List Bool → Bool → ℕ → List ℕ → List (List CsvCell) → Refusal → Type 0
 IsRefusedAt o kinds used head at text rows refusal = (still : Bool) × (rest : List ℕ)
     × HasRowsBefore o kinds head at text refusal.at rows still rest × HasFlaw o kinds used still rest refusal.flaw
 
 -- a row of these cells begins at the place, behind these rows
-abbrev pub HasRowAt : Options → List ColType → Bool → ℕ → List ℕ → List (List Cell) → ℕ → List Cell → Type 0
+abbrev pub HasRowAt : Options → List ColType → Bool → ℕ → List ℕ → List (List CsvCell) → ℕ → List CsvCell → Type 0
 HasRowAt o kinds head at text before place cells = (rest : List ℕ) × (r : CsvRecord) × (after : List ℕ)
     × HasRowsBefore o kinds head at text place before false rest × IsRecord o r rest after × (row_of o kinds r ≡ IsRow cells)
 
 -- rows of cells up to the end of the text, or up to a record that is refused
-abbrev pub CellsOfGrammar : Options → List ColType → Bool → ℕ → List ℕ → List (List Cell) → Bool → Option Refusal → Type 0
+abbrev pub CellsOfGrammar : Options → List ColType → Bool → ℕ → List ℕ → List (List CsvCell) → Bool → Option Refusal → Type 0
 CellsOfGrammar o kinds head at text rows still None = HasRows o kinds head text rows still
 CellsOfGrammar o kinds head at text rows still (Some refusal) = IsRefusedAt o kinds [] head at text rows refusal
 
 -- the used columns' rows up to the end of the text, or up to a record that is refused
 abbrev pub RowsOfGrammar : Options → List ColType → List Bool → Bool → ℕ → List ℕ → List Row → Bool → Option Refusal → Type 0
-RowsOfGrammar o kinds used head at text rows still None = (cells : List (List Cell))
+RowsOfGrammar o kinds used head at text rows still None = (cells : List (List CsvCell))
     × HasRows o kinds head text cells still × (values_of used cells ≡ Some rows)
-RowsOfGrammar o kinds used head at text rows still (Some refusal) = (cells : List (List Cell))
+RowsOfGrammar o kinds used head at text rows still (Some refusal) = (cells : List (List CsvCell))
     × IsRefusedAt o kinds used head at text cells refusal × (values_of used cells ≡ Some rows)
 
 -- fields with a separator behind each, and then an opening quote and content up to the end of the text

@@ -4,11 +4,11 @@ use Rattle.morsel_meaning.specs.declared.value.ColType.{ColType}
 use Rattle.morsel_grammar.specs.Options.{Options}
 use Rattle.morsel_grammar.specs.Grammar.{CsvRecord}
 use Rattle.morsel_meaning.specs.Values.{Row}
-use Rattle.morsel_grammar.specs.Cells.{Cell}
+use Rattle.morsel_grammar.specs.Cells.{CsvCell}
 use Rattle.morsel_grammar.specs.Reading.{Refusal, Reading, reading, Read, read_of}
 use Rattle.morsel_grammar.specs.GrammarRows.{AreWholeRecords}
 
-abbrev pub joined_at : List (ℕ × List Cell) → Bool → Option Refusal → (Bool → Reading) → Reading
+abbrev pub joined_at : List (ℕ × List CsvCell) → Bool → Option Refusal → (Bool → Reading) → Reading
 joined_at rows head None later = record (later head) { rows = rows ++ (later head).rows }
 joined_at rows head (Some refusal) later = record { rows = rows; head = head; refusal = Some refusal }
 

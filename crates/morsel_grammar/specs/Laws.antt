@@ -5,7 +5,7 @@ use Rattle.morsel_meaning.specs.Values.{Row}
 use Rattle.morsel_grammar.specs.Options.{Options}
 use Rattle.morsel_grammar.specs.Grammar.{CsvRecord, IsRecord, Records}
 use Rattle.morsel_grammar.specs.Split.{record_at}
-use Rattle.morsel_grammar.specs.Cells.{Cell}
+use Rattle.morsel_grammar.specs.Cells.{CsvCell}
 use Rattle.morsel_grammar.specs.Rows.{mark_len, unmarked, IsOfGrammar}
 use Rattle.morsel_grammar.specs.Reading.{Refusal, reading, read_of}
 use Rattle.morsel_grammar.specs.GrammarRows.{AreWholeRecords, BeginsNoRecord, HasRows, HasRowAt, CellsOfGrammar, RowsOfGrammar, EndsWithinQuotes}
@@ -50,19 +50,19 @@ SplitsBehindWhole o = (front rest : List ℕ) (whole records : List CsvRecord) �
 -- reading gives the rows of the grammar, or refuses by it
 abbrev pub ReadsCells : Options → Type 0
 ReadsCells o = (kinds : List ColType) (head : Bool) (at : ℕ) (text : List ℕ) → (let r = reading o kinds head at text in
-    CellsOfGrammar o kinds head at text (map (λ (row : ℕ × List Cell). row.1) r.rows) r.head r.refusal)
+    CellsOfGrammar o kinds head at text (map (λ (row : ℕ × List CsvCell). row.1) r.rows) r.head r.refusal)
 
 -- a text that has rows by the grammar is read to its end
 abbrev pub ReadsAllCells : Options → Type 0
-ReadsAllCells o = (kinds : List ColType) (head : Bool) (at : ℕ) (text : List ℕ) (rows : List (List Cell)) (still : Bool) → HasRows o kinds head text rows still
-    → (let r = reading o kinds head at text in (r.refusal ≡ None) × (map (λ (row : ℕ × List Cell). row.1) r.rows ≡ rows) × (r.head ≡ still))
+ReadsAllCells o = (kinds : List ColType) (head : Bool) (at : ℕ) (text : List ℕ) (rows : List (List CsvCell)) (still : Bool) → HasRows o kinds head text rows still
+    → (let r = reading o kinds head at text in (r.refusal ≡ None) × (map (λ (row : ℕ × List CsvCell). row.1) r.rows ≡ rows) × (r.head ≡ still))
 
 -- each row has the place where its record begins
 abbrev pub PlacesRows : Options → Type 0
 PlacesRows o = (kinds : List ColType) (head : Bool) (at : ℕ) (text : List ℕ)
-    (before : List (ℕ × List Cell)) (place : ℕ) (cells : List Cell) (after : List (ℕ × List Cell))
+    (before : List (ℕ × List CsvCell)) (place : ℕ) (cells : List CsvCell) (after : List (ℕ × List CsvCell))
     → (reading o kinds head at text).rows ≡ before ++ (place, cells) ∷ after
-    → HasRowAt o kinds head at text (map (λ (row : ℕ × List Cell). row.1) before) place cells
+    → HasRowAt o kinds head at text (map (λ (row : ℕ × List CsvCell). row.1) before) place cells
 
 -- reading the used columns gives their rows by the grammar, or refuses by it
 abbrev pub ReadsRows : Options → Type 0

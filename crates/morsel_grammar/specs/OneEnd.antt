@@ -4,7 +4,7 @@ use Rattle.morsel_meaning.specs.declared.value.ColType.{ColType}
 use Rattle.morsel_meaning.specs.Values.{Row}
 use Rattle.morsel_grammar.specs.Options.{Options}
 use Rattle.morsel_grammar.specs.Reading.{Refusal}
-use Rattle.morsel_grammar.specs.Cells.{Cell}
+use Rattle.morsel_grammar.specs.Cells.{CsvCell}
 use Rattle.morsel_grammar.specs.GrammarRows.{RowsOfGrammar, HasRowAt}
 
 abbrev pub place_in : Option Refusal → Option ℕ
@@ -20,5 +20,5 @@ EndsOnce o = (kinds : List ColType) (used : List Bool) (head : Bool) (at : ℕ) 
 
 -- behind so many rows there begins a row at one place
 abbrev pub StandsOnce : Options → Type 0
-StandsOnce o = (kinds : List ColType) (head : Bool) (at : ℕ) (text : List ℕ) (before others : List (List Cell)) (place other : ℕ) (cells more : List Cell)
+StandsOnce o = (kinds : List ColType) (head : Bool) (at : ℕ) (text : List ℕ) (before others : List (List CsvCell)) (place other : ℕ) (cells more : List CsvCell)
     → HasRowAt o kinds head at text before place cells → HasRowAt o kinds head at text others other more → length before ≡ length others → place ≡ other

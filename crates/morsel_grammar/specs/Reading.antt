@@ -6,7 +6,7 @@ use Rattle.morsel_meaning.specs.declared.value.Value.{Value}
 use Rattle.morsel_meaning.specs.Values.{Row}
 use Rattle.morsel_grammar.specs.Options.{Options}
 use Rattle.morsel_grammar.specs.Grammar.{CsvRecord}
-use Rattle.morsel_grammar.specs.Cells.{Cell, Held, Bad}
+use Rattle.morsel_grammar.specs.Cells.{CsvCell, Good, Bad}
 use Rattle.morsel_grammar.specs.Rows.{RowOf, NoRow, IsRow, Misfit, row_of, is_header}
 use Rattle.morsel_grammar.specs.Split.{record_at}
 
@@ -23,7 +23,7 @@ pub record Refusal : Type 0 where
 
 -- rows of cells, each with its record's place, up to a refused record; and whether the header is still to come
 pub record Reading : Type 0 where
-  pub rows : List (ℕ × List Cell)
+  pub rows : List (ℕ × List CsvCell)
   pub head : Bool
   pub refusal : Option Refusal
 
@@ -33,7 +33,7 @@ ends head = record { rows = []; head = head; refusal = None }
 abbrev pub refuses : Bool → ℕ → Flaw → Reading
 refuses head at flaw = record { rows = []; head = head; refusal = Some (record { at = at; flaw = flaw }) }
 
-abbrev pub with_cells : ℕ → List Cell → Reading → Reading
+abbrev pub with_cells : ℕ → List CsvCell → Reading → Reading
 with_cells at cells later = record later { rows = (at, cells) ∷ later.rows }
 
 -- the row of a record at a place, and then what is read later
@@ -68,10 +68,10 @@ abbrev pub reading : Options → List ColType → Bool → ℕ → List ℕ → 
 reading o kinds head at text = reading_up_to (length text) o kinds head at text
 
 -- the values of the used columns, where none of their cells is bad
-abbrev pub used_values : List Bool → List Cell → Option Row
+abbrev pub used_values : List Bool → List CsvCell → Option Row
 used_values [] cells = Some []
 used_values (u ∷ used) [] = Some []
-used_values (true ∷ used) (Held v ∷ cells) = with_value v (used_values used cells)
+used_values (true ∷ used) (Good v ∷ cells) = with_value v (used_values used cells)
   where
     with_value : Value → Option Row → Option Row
     with_value v None = None
@@ -89,7 +89,7 @@ abbrev pub value_then : Bool → ℕ → Option Row → Read → Read
 value_then head at None later = record { rows = []; head = head; refusal = Some (record { at = at; flaw = IllTyped }) }
 value_then head at (Some row) later = record later { rows = (at, row) ∷ later.rows }
 
-abbrev pub used_rows : List Bool → Bool → List (ℕ × List Cell) → Option Refusal → Read
+abbrev pub used_rows : List Bool → Bool → List (ℕ × List CsvCell) → Option Refusal → Read
 used_rows used head [] refusal = record { rows = []; head = head; refusal = refusal }
 used_rows used head (row ∷ rows) refusal = value_then head row.0 (used_values used row.1) (used_rows used head rows refusal)
 
@@ -109,7 +109,7 @@ abbrev pub places_of : Reading → List ℕ
 places_of r = map (λ row. row.0) r.rows
 
 -- the place of the row of this number, counted from 0
-abbrev pub row_place : List (ℕ × List Cell) → ℕ → Option ℕ
+abbrev pub row_place : List (ℕ × List CsvCell) → ℕ → Option ℕ
 row_place [] row = None
 row_place (r ∷ rows) zero = Some r.0
 row_place (r ∷ rows) (suc row) = row_place rows row

@@ -4,12 +4,12 @@ use Rattle.morsel_meaning.specs.declared.value.ColType.{ColType}
 use Rattle.morsel_meaning.specs.declared.value.Value.TheVariants as values
 use Rattle.morsel_grammar.specs.Options.{Options}
 use Rattle.morsel_grammar.specs.Grammar.{CsvField, CsvRecord, Comment, Fields, Records}
-use Rattle.morsel_grammar.specs.Cells.{Cell, Held, cell_of}
+use Rattle.morsel_grammar.specs.Cells.{CsvCell, Good, cell_of}
 
 -- what a record is to the rows: none, a row, or none that fits the columns
 pub data RowOf : Type 0 where
   NoRow : RowOf
-  IsRow : List Cell → RowOf
+  IsRow : List CsvCell → RowOf
   Misfit : RowOf
 
 -- one field without quotes and without bytes
@@ -19,23 +19,23 @@ is_empty (f ∷ []) = not f.quoted && length f.bytes == 0
 is_empty (f ∷ g ∷ fields) = false
 
 -- a cell for each column, where there are as many fields
-abbrev pub cells_of : Options → List ColType → List CsvField → Option (List Cell)
+abbrev pub cells_of : Options → List ColType → List CsvField → Option (List CsvCell)
 cells_of o [] [] = Some []
 cells_of o [] (f ∷ fields) = None
 cells_of o (kind ∷ kinds) [] = None
 cells_of o (kind ∷ kinds) (f ∷ fields) = with_cell (cell_of o kind f) (cells_of o kinds fields)
   where
-    with_cell : Cell → Option (List Cell) → Option (List Cell)
+    with_cell : CsvCell → Option (List CsvCell) → Option (List CsvCell)
     with_cell cell None = None
     with_cell cell (Some cells) = Some (cell ∷ cells)
 
-abbrev pub row_or_misfit : Option (List Cell) → RowOf
+abbrev pub row_or_misfit : Option (List CsvCell) → RowOf
 row_or_misfit None = Misfit
 row_or_misfit (Some cells) = IsRow cells
 
 -- an empty record is one null where there is one column, and no row else
 abbrev pub row_of_nothing : List ColType → RowOf
-row_of_nothing (kind ∷ []) = IsRow (Held values.Null ∷ [])
+row_of_nothing (kind ∷ []) = IsRow (Good values.Null ∷ [])
 row_of_nothing kinds = NoRow
 
 abbrev pub row_of : Options → List ColType → CsvRecord → RowOf
@@ -53,16 +53,16 @@ behind_header false records = records
 behind_header true [] = []
 behind_header true (r ∷ records) = if is_header r then records else behind_header true records
 
-abbrev pub with_row : RowOf → Option (List (List Cell)) → Option (List (List Cell))
-with_row NoRow rows = rows
-with_row (IsRow cells) None = None
-with_row (IsRow cells) (Some rows) = Some (cells ∷ rows)
-with_row Misfit rows = None
+abbrev pub with_first_row : RowOf → Option (List (List CsvCell)) → Option (List (List CsvCell))
+with_first_row NoRow rows = rows
+with_first_row (IsRow cells) None = None
+with_first_row (IsRow cells) (Some rows) = Some (cells ∷ rows)
+with_first_row Misfit rows = None
 
 -- the rows of the records, unless one does not fit the columns
-abbrev pub rows_of : Options → List ColType → List CsvRecord → Option (List (List Cell))
-rows_of o kinds [] = Some []
-rows_of o kinds (r ∷ records) = with_row (row_of o kinds r) (rows_of o kinds records)
+abbrev pub rows_of_records : Options → List ColType → List CsvRecord → Option (List (List CsvCell))
+rows_of_records o kinds [] = Some []
+rows_of_records o kinds (r ∷ records) = with_first_row (row_of o kinds r) (rows_of_records o kinds records)
 
 -- behind the byte order mark
 abbrev pub mark_len : List ℕ → ℕ
@@ -73,10 +73,10 @@ abbrev pub unmarked : List ℕ → List ℕ
 unmarked bytes = drop (mark_len bytes) bytes
 
 -- the rows of a whole text behind its mark
-abbrev pub CsvRows : Options → List ColType → List ℕ → List (List Cell) → Type 0
+abbrev pub CsvRows : Options → List ColType → List ℕ → List (List CsvCell) → Type 0
 CsvRows o kinds text rows = (records : List CsvRecord) × Records o text records
-    × (rows_of o kinds (behind_header o.has_header records) ≡ Some rows)
+    × (rows_of_records o kinds (behind_header o.has_header records) ≡ Some rows)
 
 -- a file that is UTF-8 and has rows
 abbrev pub IsOfGrammar : Options → List ColType → List ℕ → Type 0
-IsOfGrammar o kinds bytes = IsUtf8 bytes × (rows : List (List Cell)) × CsvRows o kinds (unmarked bytes) rows
+IsOfGrammar o kinds bytes = IsUtf8 bytes × (rows : List (List CsvCell)) × CsvRows o kinds (unmarked bytes) rows

@@ -2,6 +2,3 @@
 pub mod Values
 pub mod Order
 pub mod Faults
-pub mod Outside
-pub mod Calls
-pub mod Asks

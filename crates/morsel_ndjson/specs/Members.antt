@@ -1,8 +1,8 @@
 -- A row of JSON as it is written: before each value stands what a column's member begins with, behind the last the end.
 use Rattle.std.specs.Prelude.{◌≡◌, ℕ, ◌+◌, ◌*◌, ◌<◌, ◌≤◌, Bool, false, ◌||◌, ◌==◌, nat_lt, Result, Ok, Err, List, [], ◌∷◌, ◌++◌, codes, length, map, take, get_or}
 use Rattle.std.specs.List.{flat_map}
-use Rattle.morsel_meaning.specs.declared.Value.{Value}
-use Rattle.morsel_meaning.specs.declared.Value.TheVariants as values
+use Rattle.morsel_meaning.specs.declared.value.Value.{Value}
+use Rattle.morsel_meaning.specs.declared.value.Value.TheVariants as values
 use Rattle.morsel_meaning.specs.Values.{Row}
 use Rattle.morsel_frame.specs.Tables.{cell_at}
 use Rattle.morsel_ndjson.specs.Ndjson.{json_string, json_value}

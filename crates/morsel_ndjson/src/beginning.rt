@@ -1,12 +1,13 @@
 //! What stands before each value of a row, made once for each column.
 ghost use Rattle.std.specs.Prelude.{◌≡◌, ◌+◌, ◌*◌, ◌≤◌, ◌++◌, [], length, take, OnOk, IfOk, IsOkUnless};
-ghost use Rattle.morsel_meaning.specs.declared.Fault.TheVariants as faults;
+ghost use Rattle.morsel_meaning.specs.declared.fault.Fault.TheVariants as faults;
 ghost use Rattle.morsel_meaning.specs.Values.{names_of};
 ghost use Rattle.morsel_ndjson.specs.Members.{beginning, beginnings};
 
 use crate::cursor::{put_byte, put_words};
 use crate::values::put_string;
-use morsel_frame::{Fault, Schema};
+use morsel_frame::Schema;
+use morsel_meaning::Fault;
 use std::alloc::Global;
 use std::marker::Model;
 

@@ -1,6 +1,6 @@
 //! Rows as JSON, one object a line.
 ghost use Rattle.std.specs.Prelude.{◌≡◌, ◌+◌, ◌≤◌, ◌++◌, length, take, OnOk, OnErr, IfOk, IsOkUnless, codes, if◌then◌else◌};
-ghost use Rattle.morsel_meaning.specs.declared.Fault.TheVariants as faults;
+ghost use Rattle.morsel_meaning.specs.declared.fault.Fault.TheVariants as faults;
 ghost use Rattle.morsel_meaning.specs.Values.{names_of};
 ghost use Rattle.morsel_ndjson.specs.Ndjson.{ndjson};
 ghost use Rattle.morsel_ndjson.specs.Members.{beginnings, members_from, members_at, line_end, HaveRow, Puts};
@@ -8,7 +8,8 @@ ghost use Rattle.morsel_ndjson.specs.Members.{beginnings, members_from, members_
 use crate::beginning::{Beginning, make_beginnings};
 use crate::cursor::{make_room, put_byte, put_bytes};
 use crate::members::{Members, make_members};
-use morsel_frame::{Fault, Frame};
+use morsel_frame::Frame;
+use morsel_meaning::Fault;
 use std::alloc::{AllocError, Global};
 
 /// Appends the rows of the frame as JSON, one object a line; appends nothing where memory is short.

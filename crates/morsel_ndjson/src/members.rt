@@ -10,7 +10,8 @@ ghost use Rattle.morsel_ndjson.specs.Members.{column_members, text_room, ArePadd
 use crate::beginning::Beginning;
 use crate::cursor::{make_room, put_words};
 use crate::values::put_value;
-use morsel_frame::{Cell, ColType, Column, Texts, Value};
+use morsel_frame::{Cell, Column, Texts};
+use morsel_meaning::{ColType, Value};
 use std::alloc::{AllocError, Global};
 use std::marker::Model;
 

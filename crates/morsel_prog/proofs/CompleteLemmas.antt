@@ -1,13 +1,13 @@
 -- A command over a valid file ends with status 0 or for want of memory, by the causes of the other statuses.
 use Rattle.std.specs.Prelude.{◌≡◌, ℕ, zero, suc, Option, Some, None, Err, refl}
 use Rattle.std.proofs.Common.{ap, ◌∙◌, arith, inl, inr}
-use Rattle.morsel_meaning.specs.declared.Fault.{Fault}
-use Rattle.morsel_meaning.specs.declared.Fault.TheVariants as faults
+use Rattle.morsel_meaning.specs.declared.fault.Fault.{Fault}
+use Rattle.morsel_meaning.specs.declared.fault.Fault.TheVariants as faults
 use Rattle.morsel_meaning.specs.Faults.{fault_status}
-use Rattle.morsel_meaning.specs.Outside.{Outside}
+use Rattle.morsel_outside.specs.Outside.{Outside}
 use Rattle.morsel_engine.specs.Complete.{NoneRises}
 use Rattle.morsel_engine.proofs.CompleteLemmas.{completes}
-use Rattle.morsel_prog.specs.Words.{Command, Scan}
+use Rattle.morsel_prog.specs.Words.{Command, ScanFile}
 use Rattle.morsel_prog.specs.Program.{query_of, HasCauseIn, TellsFault, CausesWords}
 use Rattle.morsel_prog.specs.Complete.{IsValidCommand, IsDone}
 
@@ -15,7 +15,7 @@ use Rattle.morsel_prog.specs.Complete.{IsValidCommand, IsDone}
 only_memory : (old new : Outside) (command : Option Command) (fault : Fault) → HasCauseIn old command fault new → IsValidCommand old command new → NoneRises old new
     → fault ≡ faults.OutOfMemory
 only_memory old new None fault cause valid none = absurd valid
-only_memory old new (Some (Scan file schema out)) fault cause valid none = completes old new (query_of file schema out) (Err fault) cause valid none
+only_memory old new (Some (ScanFile file schema out)) fault cause valid none = completes old new (query_of file schema out) (Err fault) cause valid none
 
 -- however want of memory is told, the status is its own
 told_of_memory : (old new : Outside) (fault : Fault) (status : ℕ) → fault ≡ faults.OutOfMemory → TellsFault old fault status new → status ≡ fault_status faults.OutOfMemory

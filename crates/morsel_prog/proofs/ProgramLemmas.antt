@@ -2,15 +2,15 @@
 use Rattle.std.specs.Prelude.{◌≡◌, ◌⊎◌, ℕ, ◌-◌, ◌^◌, ◌<◌, ◌≤◌, Option, Some, None, Result, Ok, Err, List, length, decimal}
 use Rattle.std.proofs.Common.{sym, ap, subst, ◌∙◌, arith, inl, inr}
 use Rattle.std.proofs.lemmas.List.{take_all}
-use Rattle.morsel_meaning.specs.declared.Fault.{Fault}
-use Rattle.morsel_meaning.specs.declared.Fault.TheVariants as faults
-use Rattle.morsel_meaning.specs.declared.Field.{Field}
+use Rattle.morsel_meaning.specs.declared.fault.Fault.{Fault}
+use Rattle.morsel_meaning.specs.declared.fault.Fault.TheVariants as faults
+use Rattle.morsel_meaning.specs.declared.value.Field.{Field}
 use Rattle.morsel_meaning.specs.Faults.{fault_line}
 use Rattle.morsel_meaning.specs.Values.{Row, names_of}
-use Rattle.morsel_meaning.specs.Outside.{Outside, with_last}
-use Rattle.morsel_meaning.specs.Calls.{Rises}
+use Rattle.morsel_outside.specs.Outside.{Outside, with_last}
+use Rattle.morsel_outside.specs.Calls.{Rises}
 use Rattle.morsel_ndjson.specs.Ndjson.{ndjson}
-use Rattle.morsel_engine.specs.Run.{Query, OpensOne, Runs, Answers, HasCause, MadeSome, AsksSome, Reads, Keeps, HasRows, IsFrontOfText}
+use Rattle.morsel_engine.specs.Run.{Query, OpensOne, Runs, Answers, HasCause, MadeSome, AsksSome, ReadsAtMostOnce, Keeps, HasAllRows, IsFrontOfText}
 use Rattle.morsel_prog.specs.Words.{Command, Scan as Scans}
 use Rattle.morsel_prog.specs.Program.{query_of, ReportsFault, Reports, RunsAndReports, AnswersWords, TellsFault, CausesWords, LeavesAfterFault, AsksNames, ReadsOnce, KeepsRest}
 
@@ -84,7 +84,7 @@ asks_names old new None status (ran, Err fault, runs, reports) =
 pub reads_once : (old new : Outside) (command : Option Command) (status : ℕ) → RunsAndReports old command status new → ReadsOnce old command new
 reads_once old new (Some (Scans file schema out)) status (ran, answer, runs, reports) =
     let r = reported ran new answer status reports in
-    subst (Reads old) (sym r.after) (record { events = runs.reads.events; gained = runs.reads.gained; once = runs.reads.once })
+    subst (ReadsAtMostOnce old) (sym r.after) (record { events = runs.reads.events; gained = runs.reads.gained; once = runs.reads.once })
 reads_once old new None status (ran, Ok count, runs, reports) = absurd runs
 reads_once old new None status (ran, Err fault, runs, reports) =
     let r = reported ran new (Err fault) status reports in ap (λ (o : Outside). o.events) r.after ∙ ap (λ (o : Outside). o.events) runs.0
@@ -110,7 +110,7 @@ keeps_rest old new None status (ran, Err fault, runs, reports) =
     )
 
 -- the text of all rows is a front of itself
-front_whole : (held : Option (List (List ℕ))) (file : ℕ) (schema : List Field) (rows : List Row) → HasRows held file schema rows → IsFrontOfText held file schema (ndjson (names_of schema) rows)
+front_whole : (held : Option (List (List ℕ))) (file : ℕ) (schema : List Field) (rows : List Row) → HasAllRows held file schema rows → IsFrontOfText held file schema (ndjson (names_of schema) rows)
 front_whole None file schema rows h = tt
 front_whole (Some files) file schema rows h =
     let text = ndjson (names_of schema) rows in (rows, None, length text, h, sym (take_all (length text) text (omega arith)))

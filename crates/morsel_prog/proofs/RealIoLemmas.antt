@@ -2,9 +2,9 @@
 use Rattle.std.specs.Prelude.{◌≡◌, ℕ, Option, Some, None, List, [], ◌∷◌, ◌++◌, length, replicate, Ok}
 use Rattle.std.proofs.Common.{refl, sym, ap, ◌∙◌}
 use Rattle.std.proofs.lemmas.List.{length-replicate}
-use Rattle.morsel_meaning.specs.declared.io.FileNo.{FileNo}
-use Rattle.morsel_meaning.specs.Outside.{Outside, Open, with_last}
-use Rattle.morsel_meaning.specs.Calls.{Opens}
+use Rattle.morsel_outside.specs.declared.io.FileNo.{FileNo}
+use Rattle.morsel_outside.specs.Outside.{Outside, Open, with_last}
+use Rattle.morsel_outside.specs.Calls.{Opens}
 use Rattle.morsel_prog.specs.RealIo.{with_source}
 
 -- a list that is not told stays untold

@@ -1,20 +1,20 @@
 -- What the program does with its words: a run, and then the line that tells its answer.
 use Rattle.std.specs.Prelude.{◌≡◌, ◌⊎◌, ℕ, Option, Some, None, Result, Ok, Err, List, decimal}
-use Rattle.morsel_meaning.specs.declared.Fault.{Fault}
-use Rattle.morsel_meaning.specs.declared.Fault.TheVariants as faults
-use Rattle.morsel_meaning.specs.declared.Field.{Field}
+use Rattle.morsel_meaning.specs.declared.fault.Fault.{Fault}
+use Rattle.morsel_meaning.specs.declared.fault.Fault.TheVariants as faults
+use Rattle.morsel_meaning.specs.declared.value.Field.{Field}
 use Rattle.morsel_meaning.specs.Faults.{fault_line, fault_status}
-use Rattle.morsel_meaning.specs.Outside.{Outside, with_last}
-use Rattle.morsel_meaning.specs.Calls.{Rises}
-use Rattle.morsel_engine.specs.Run.{Query, Runs, Answers, HasCause, MadeSome, AsksSome, Reads, ReadsWell, Keeps}
-use Rattle.morsel_prog.specs.Words.{Command, Scan}
+use Rattle.morsel_outside.specs.Outside.{Outside, with_last}
+use Rattle.morsel_outside.specs.Calls.{Rises}
+use Rattle.morsel_engine.specs.Run.{Query, Runs, Answers, HasCause, MadeSome, AsksSome, ReadsAtMostOnce, ReadsWell, Keeps}
+use Rattle.morsel_prog.specs.Words.{Command, ScanFile}
 
 abbrev pub query_of : List ℕ → List Field → List ℕ → Query
 query_of file schema out = record { file = file; schema = schema; out = out }
 
 -- the run of a command; words that are no command touch nothing
 abbrev pub RunsWords : Outside → Option Command → Result ℕ Fault → Outside → Type 0
-RunsWords old (Some (Scan file schema out)) result new = Runs old (query_of file schema out) result new
+RunsWords old (Some (ScanFile file schema out)) result new = Runs old (query_of file schema out) result new
 RunsWords old None (Ok count) new = ⊥
 RunsWords old None (Err fault) new = (new ≡ old) × ((fault ≡ faults.Usage) ⊎ (fault ≡ faults.OutOfMemory))
 
@@ -50,11 +50,11 @@ RunsAndReports old command status new = (ran : Outside) × (result : Result ℕ 
 -- status 0: the words are a command, the sink has the text of all rows, and their number was printed
 abbrev pub AnswersWords : Outside → Option Command → Outside → Type 0
 AnswersWords old None new = ⊥
-AnswersWords old (Some (Scan file schema out)) new = (count : ℕ) × Answers old (query_of file schema out) count new × (new.printed ≡ with_last old.printed (decimal count))
+AnswersWords old (Some (ScanFile file schema out)) new = (count : ℕ) × Answers old (query_of file schema out) count new × (new.printed ≡ with_last old.printed (decimal count))
 
 -- when a fault may be answered to words
 abbrev pub HasCauseIn : Outside → Option Command → Fault → Outside → Type 0
-HasCauseIn old (Some (Scan file schema out)) fault new = HasCause old (query_of file schema out) fault new
+HasCauseIn old (Some (ScanFile file schema out)) fault new = HasCause old (query_of file schema out) fault new
 HasCauseIn old None fault new = (fault ≡ faults.Usage) ⊎ (fault ≡ faults.OutOfMemory)
 
 -- how a status tells a fault: by its line; without a line where printing failed, or memory was short
@@ -70,20 +70,20 @@ CausesWords old command status new = (fault : Fault) × HasCauseIn old command f
 
 -- another status: no sink, or one whose text is a front of the rows' text
 abbrev pub LeavesAfterFault : Outside → Option Command → Outside → Type 0
-LeavesAfterFault old (Some (Scan file schema out)) new = MadeSome old (query_of file schema out) new
+LeavesAfterFault old (Some (ScanFile file schema out)) new = MadeSome old (query_of file schema out) new
 LeavesAfterFault old None new = new.made ≡ old.made
 
 -- whatever the status, the names asked for are the command's, from the first on, and the sink's only where the file was opened
 abbrev pub AsksNames : Outside → Option Command → Outside → Type 0
-AsksNames old (Some (Scan file schema out)) new = AsksSome old (query_of file schema out) new
+AsksNames old (Some (ScanFile file schema out)) new = AsksSome old (query_of file schema out) new
 AsksNames old None new = new.asked ≡ old.asked
 
 -- whatever the status, no byte of the file is asked twice, none past its size, and none of another file
 abbrev pub ReadsOnce : Outside → Option Command → Outside → Type 0
-ReadsOnce old (Some (Scan file schema out)) new = Reads old new
+ReadsOnce old (Some (ScanFile file schema out)) new = ReadsAtMostOnce old new
 ReadsOnce old None new = new.events ≡ old.events
 
 -- whatever the status, one file more is open at most, one sink more was made, and a read of the file failed; for words that are no command none
 abbrev pub KeepsRest : Outside → Option Command → Outside → Type 0
-KeepsRest old (Some (Scan file schema out)) new = Keeps old new
+KeepsRest old (Some (ScanFile file schema out)) new = Keeps old new
 KeepsRest old None new = (new.sizes ≡ old.sizes) × (new.held ≡ old.held) × (new.sinks ≡ old.sinks) × ReadsWell old new

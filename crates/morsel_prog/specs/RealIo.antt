@@ -1,7 +1,7 @@
 -- What an outside of real files tells: sizes, counts and names, and nothing of any content.
 use Rattle.std.specs.Prelude.{ℕ, ◌+◌, None, List, [], ◌∷◌, ◌++◌}
-use Rattle.morsel_meaning.specs.Outside.{Outside, Asked, Open}
-use Rattle.morsel_frame.specs.MemIo.{raised}
+use Rattle.morsel_outside.specs.Outside.{Outside, Asked, Open}
+use Rattle.morsel_outside.specs.MemIo.{raised}
 
 -- files of these sizes are open, and so many sinks were made
 abbrev pub untold : List ℕ → ℕ → ℕ → ℕ → ℕ → List Asked → Outside
@@ -26,8 +26,8 @@ with_source old size name = record old { sizes = old.sizes ++ size ∷ []; asked
 abbrev pub with_sink_made : Outside → Outside
 with_sink_made old = record old { sinks = old.sinks + 1 }
 
-abbrev pub with_asked : Outside → Asked → Outside
-with_asked old asked = record old { asked = old.asked ++ asked ∷ [] }
+abbrev pub with_name_asked : Outside → Asked → Outside
+with_name_asked old asked = record old { asked = old.asked ++ asked ∷ [] }
 
 -- a read or an open failed on this file
 abbrev pub with_read_fault : Outside → ℕ → Outside

@@ -1,9 +1,9 @@
 -- What a parse answers.
 use Rattle.std.specs.Prelude.{◌≡◌, Option, Some, None, Result, Ok, Err, List, Vec}
 use Rattle.std.specs.declared.alloc.Global.{Global}
-use Rattle.morsel_meaning.specs.declared.Fault.{Fault}
+use Rattle.morsel_meaning.specs.declared.fault.Fault.{Fault}
 use Rattle.morsel_prog.specs.declared.words.ScanCommand.{ScanCommand}
-use Rattle.morsel_prog.specs.Words.{Command, Scan}
+use Rattle.morsel_prog.specs.Words.{Command, ScanFile}
 use Rattle.morsel_meaning.specs.declared.fault.Fault.TheVariants.{OutOfMemory, Usage}
 
 -- what was found, or `Usage` where there is nothing to find
@@ -20,5 +20,5 @@ items_of (Err e) = Err e
 
 -- a command seen by its words
 abbrev pub command_seen : {E : Type 0} → Result ScanCommand E → Result Command E
-command_seen (Ok c) = Ok (Scan c.file.now c.schema c.out.now)
+command_seen (Ok c) = Ok (ScanFile c.file.now c.schema c.out.now)
 command_seen (Err e) = Err e

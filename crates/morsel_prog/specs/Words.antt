@@ -43,14 +43,14 @@ field_of_cut cut = typed cut.0 cut.1
 abbrev pub field_of : List ℕ → Option Field
 field_of part = field_of_cut (cut_at 58 part)
 
-abbrev pub with_field : Option Field → Option (List Field) → Option (List Field)
-with_field None fields = None
-with_field (Some f) None = None
-with_field (Some f) (Some fields) = Some (f ∷ fields)
+abbrev pub with_first_field : Option Field → Option (List Field) → Option (List Field)
+with_first_field None fields = None
+with_first_field (Some f) None = None
+with_first_field (Some f) (Some fields) = Some (f ∷ fields)
 
 abbrev pub fields_of : List (List ℕ) → Option (List Field)
 fields_of [] = Some []
-fields_of (part ∷ parts) = with_field (field_of part) (fields_of parts)
+fields_of (part ∷ parts) = with_first_field (field_of part) (fields_of parts)
 
 -- the greatest number of columns
 abbrev pub column_limit : ℕ
@@ -66,11 +66,11 @@ schema_of text = schema_if (fields_of (parts_at 44 text))
 
 -- a command: one file is scanned into one sink
 pub data Command : Type 0 where
-  Scan : List ℕ → List Field → List ℕ → Command  -- file, schema, sink
+  ScanFile : List ℕ → List Field → List ℕ → Command  -- file, schema, sink
 
 abbrev pub scan_if : List ℕ → Option (List Field) → List ℕ → Option Command
 scan_if file None out = None
-scan_if file (Some schema) out = Some (Scan file schema out)
+scan_if file (Some schema) out = Some (ScanFile file schema out)
 
 -- `scan FILE SCHEMA OUT`
 abbrev pub command_of : List (List ℕ) → Option Command

@@ -13,7 +13,8 @@ mod tests;
 mod words;
 
 use help::{HELP, VERSION};
-use morsel_frame::{Fault, OpenGate};
+use morsel_meaning::Fault;
+use morsel_outside::OpenGate;
 use program::morsel_main;
 use real_io::RealIo;
 use std::fs::File;

@@ -3,13 +3,13 @@
 //! This is the trusted edge: the clauses speak of sizes, counts and names alone, and what stands in the files is the
 //! system's word. A file is opened anew for each read, so that nothing but its name and size is kept.
 ghost use Rattle.std.specs.Prelude.{◌≡◌, ◌+◌, ◌<◌, ◌≤◌, [], length, slice_index, IfOk, OnOk, OnErr, None};
-ghost use Rattle.morsel_frame.specs.MemoryParts.{asked_as};
-ghost use Rattle.morsel_meaning.specs.Calls.{Rises};
-ghost use Rattle.morsel_frame.specs.MemIo.{raised};
-ghost use Rattle.morsel_prog.specs.RealIo.{untold, with_source, with_asked, with_sink_made, with_read_fault, with_write_fault};
+ghost use Rattle.morsel_outside.specs.MemoryParts.{asked_as};
+ghost use Rattle.morsel_outside.specs.Calls.{Rises};
+ghost use Rattle.morsel_outside.specs.MemIo.{raised};
+ghost use Rattle.morsel_prog.specs.RealIo.{untold, with_source, with_name_asked, with_sink_made, with_read_fault, with_write_fault};
 
-use morsel_frame::AskedFor;
-use morsel_meaning::{Fault, FileNo, Io, IoErr, Name};
+use morsel_meaning::{Fault, Name};
+use morsel_outside::{AskedFor, FileNo, Io, IoErr};
 use std::alloc::Global;
 use std::fs::{File, Metadata, OpenFile, OpenOptions};
 use std::io::{ErrorKind, Read, Seek, SeekFrom, Write};
@@ -56,8 +56,8 @@ pub struct RealIo<'r, R: Files + Print> {
 
 impl<'r, R: Files + Print> Model for RealIo<'r, R> {
     ghost use Rattle.std.specs.Prelude.{map, length};
-    ghost use Rattle.morsel_meaning.specs.Outside.{Outside};
-    ghost use Rattle.morsel_frame.specs.MemoryParts.{asked_of};
+    ghost use Rattle.morsel_outside.specs.Outside.{Outside};
+    ghost use Rattle.morsel_outside.specs.MemoryParts.{asked_of};
     ghost use Rattle.morsel_prog.specs.RealIo.{untold};
 
     ghost Value = { Outside };
@@ -113,7 +113,7 @@ impl<'r, R: Files + Print> RealIo<'r, R> {
     }
 
     fn ask(&mut self, what: AskedFor, name: &str) -> Result<(), Fault>
-        ensures ok { OnOk result (self.new ≡ with_asked self.old (asked_as what name.now)) }
+        ensures ok { OnOk result (self.new ≡ with_name_asked self.old (asked_as what name.now)) }
         ensures err { OnErr result (self.new ≡ self.old) }
     {
         let asked = Name::new(self.alloc, name)?;

@@ -4,7 +4,8 @@ ghost use Rattle.std.specs.String.{string_bytes};
 ghost use Rattle.morsel_meaning.specs.Faults.{fault_line, fault_status};
 ghost use Rattle.morsel_prog.specs.Program.{PrintsCount, ReportsFault, ReportsCount, Reports};
 
-use morsel_frame::{Fault, Io, IoErr};
+use morsel_meaning::Fault;
+use morsel_outside::{Io, IoErr};
 use std::alloc::{AllocError, Global};
 
 /// The status of success.

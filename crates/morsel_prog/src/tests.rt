@@ -4,7 +4,8 @@ mod hostile;
 mod sure;
 
 use crate::program::{local_main, morsel_main};
-use morsel_frame::{Fault, MemIo, Name, OpenGate, SureMemIo};
+use morsel_meaning::{Fault, Name};
+use morsel_outside::{MemIo, OpenGate, SureMemIo};
 use std::alloc::{AllocError, Global};
 use std::process::Abort;
 use std::test::Fail;

@@ -5,7 +5,8 @@ ghost use Rattle.morsel_prog.specs.Words.{option_text, cut_at, parts_at, kind_na
 ghost use Rattle.morsel_prog.specs.Results.{Finds, items_of, command_seen};
 
 use memchr::memchr;
-use morsel_frame::{ColType, Fault, Field, Name, Schema};
+use morsel_frame::Schema;
+use morsel_meaning::{ColType, Fault, Field, Name};
 use std::alloc::Global;
 
 /// The place of the first such byte.

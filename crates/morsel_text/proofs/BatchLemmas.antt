@@ -4,13 +4,13 @@ use Rattle.std.proofs.lemmas.List.{append-nil, length-replicate}
 use Rattle.std.proofs.lemmas.Str.{is_utf8-from_IsUtf8}
 use Rattle.std.specs.Prelude.{Option, Some, IsUtf8}
 use Rattle.std.specs.Str.{is_utf8}
-use Rattle.morsel_meaning.specs.declared.ColType.{ColType}
-use Rattle.morsel_meaning.specs.declared.Value.{Value}
+use Rattle.morsel_meaning.specs.declared.value.ColType.{ColType}
+use Rattle.morsel_meaning.specs.declared.value.Value.{Value}
 use Rattle.morsel_meaning.specs.Values.{Row}
 use Rattle.morsel_frame.specs.Columns.{Values}
 use Rattle.morsel_grammar.specs.Options.{Options, AreOptions}
 use Rattle.morsel_grammar.specs.Grammar.{CsvField, CsvRecord, Fields, IsRecord}
-use Rattle.morsel_grammar.specs.Cells.{Cell, Held, cell_of}
+use Rattle.morsel_grammar.specs.Cells.{CsvCell, Good, cell_of}
 use Rattle.morsel_grammar.specs.Rows.{IsRow, is_empty, cells_of, row_of, row_or_misfit}
 use Rattle.morsel_grammar.specs.Split.{record_at}
 use Rattle.morsel_grammar.specs.Reading.{Read, used_values, chosen}
@@ -137,7 +137,7 @@ columns_spread width rows =
 
 -- the values and cells of a row of fields, and the columns behind it
 pub record FirstRow (o : Options) (used : List Bool) (columns : List Values) (fields : List RawField) (batch : List (List RawField)) (made : List Values) : Type 0 where
-  pub cells : List Cell
+  pub cells : List CsvCell
   pub row : Row
   pub later : List Values
   pub cells_are : cells_of o (column_kinds columns) (map shown fields) ≡ Some cells
@@ -146,14 +146,14 @@ pub record FirstRow (o : Options) (used : List Bool) (columns : List Values) (fi
   pub later_made : AreMade o used (column_kinds columns) batch later
   pub same : appended columns made ≡ appended (with_row used columns row) later
 
-held_first : (v : Value) (vs : List Value) (cell : Cell) (cells : List Cell) → map Held (v ∷ vs) ≡ cell ∷ cells → (cell ≡ Held v) × (map Held vs ≡ cells)
+held_first : (v : Value) (vs : List Value) (cell : CsvCell) (cells : List CsvCell) → map Good (v ∷ vs) ≡ cell ∷ cells → (cell ≡ Good v) × (map Good vs ≡ cells)
 held_first v vs cell cells is = (cc, cc)
 
-cells_first : (o : Options) (kind : ColType) (kinds : List ColType) (f : CsvField) (fields : List CsvField) (cells : List Cell) → cells_of o kinds fields ≡ Some cells
+cells_first : (o : Options) (kind : ColType) (kinds : List ColType) (f : CsvField) (fields : List CsvField) (cells : List CsvCell) → cells_of o kinds fields ≡ Some cells
     → cells_of o (kind ∷ kinds) (f ∷ fields) ≡ Some (cell_of o kind f ∷ cells)
 cells_first o kind kinds f fields cells is = rw is refl
 
-values_first : (used : List Bool) (cell : Cell) (v : Value) (cells : List Cell) (row : Row) → cell ≡ Held v → used_values used cells ≡ Some row
+values_first : (used : List Bool) (cell : CsvCell) (v : Value) (cells : List CsvCell) (row : Row) → cell ≡ Good v → used_values used cells ≡ Some row
     → used_values (true ∷ used) (cell ∷ cells) ≡ Some (v ∷ row)
 values_first used cell v cells row is later = rw is (rw later refl)
 
@@ -163,9 +163,9 @@ used_first : (o : Options) (used : List Bool) (c : Values) (columns : List Value
 used_first o used c columns f fields more batch new made is later = by new.values refl
   where
     by : (vals : List Value) → new.values ≡ vals → FirstRow o (true ∷ used) (c ∷ columns) (f ∷ fields) (more ∷ batch) (new ∷ made)
-    by [] none = absurd (let empty : [] ≡ cell_of o c.kind (shown f) ∷ map (λ g. cell_of o c.kind (shown g)) more = ap (map Held) (sym none) ∙ is.1 in cc)
+    by [] none = absurd (let empty : [] ≡ cell_of o c.kind (shown f) ∷ map (λ g. cell_of o c.kind (shown g)) more = ap (map Good) (sym none) ∙ is.1 in cc)
     by (v ∷ vs) some =
-        let parts = held_first v vs (cell_of o c.kind (shown f)) (map (λ g. cell_of o c.kind (shown g)) more) (ap (map Held) (sym some) ∙ is.1) in
+        let parts = held_first v vs (cell_of o c.kind (shown f)) (map (λ g. cell_of o c.kind (shown g)) more) (ap (map Good) (sym some) ∙ is.1) in
         record {
           cells = cell_of o c.kind (shown f) ∷ later.cells;
           row = v ∷ later.row;
@@ -221,7 +221,7 @@ first_row o (true ∷ used) (c ∷ columns) (f ∷ fields) (more ∷ batch) (new
 first_row o (false ∷ used) (c ∷ columns) (f ∷ fields) (more ∷ batch) (new ∷ made) same wide is =
     unused_first o used c columns f fields more batch new made is.0 is.1 (first_row o used columns fields batch made (omega arith) (omega arith) is.2)
 
-no_values : (vs : List Value) → map Held vs ≡ [] → vs ≡ []
+no_values : (vs : List Value) → map Good vs ≡ [] → vs ≡ []
 no_values [] is = refl
 no_values (v ∷ vs) is = absurd (cc)
 
@@ -243,7 +243,7 @@ nothing_appended o (false ∷ used) (c ∷ columns) (suc width) (new ∷ made) s
 
 -- ---- the rows of a batch are read
 
-filled_row : (o : Options) (kinds : List ColType) (fields : List CsvField) (cells : List Cell) → is_empty fields ≡ false → cells_of o kinds fields ≡ Some cells
+filled_row : (o : Options) (kinds : List ColType) (fields : List CsvField) (cells : List CsvCell) → is_empty fields ≡ false → cells_of o kinds fields ≡ Some cells
     → row_of o kinds (Fields fields) ≡ IsRow cells
 filled_row o kinds fields cells filled is = rw filled (ap row_or_misfit is)
 

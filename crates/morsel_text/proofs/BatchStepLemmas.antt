@@ -3,12 +3,12 @@ use Rattle.std.proofs.Common.{◌≡◌, ℕ, zero, suc, ◌+◌, ◌-◌, ◌<�
 use Rattle.std.proofs.lemmas.List.{append-nil, drop_more, take_all, take_more, take_more_set, drop-set-lt, map-append}
 use Rattle.std.specs.Prelude.{Option, Some}
 use Rattle.std.specs.List.{slice_range}
-use Rattle.morsel_meaning.specs.declared.ColType.{ColType}
-use Rattle.morsel_meaning.specs.declared.Value.{Value}
+use Rattle.morsel_meaning.specs.declared.value.ColType.{ColType}
+use Rattle.morsel_meaning.specs.declared.value.Value.{Value}
 use Rattle.morsel_frame.specs.Columns.{Values}
 use Rattle.morsel_grammar.specs.Options.{Options}
 use Rattle.morsel_grammar.specs.Grammar.{Fields}
-use Rattle.morsel_grammar.specs.Cells.{Cell, Held, Bad, cell_of}
+use Rattle.morsel_grammar.specs.Cells.{CsvCell, Good, Bad, cell_of}
 use Rattle.morsel_grammar.specs.Rows.{is_empty}
 use Rattle.morsel_grammar.specs.Split.{record_at}
 use Rattle.morsel_text.specs.RawFields.{shown}
@@ -29,20 +29,20 @@ batch_more o text rest behind old columns new rows fields is found shorter wide 
 )
 
 -- a column with a value more
-column_held : (o : Options) (kind : ColType) (before : List RawField) (f : RawField) (column new : Values) (v : Value) → IsColumnOf o kind before column → cell_of o kind (shown f) ≡ Held v
+column_held : (o : Options) (kind : ColType) (before : List RawField) (f : RawField) (column new : Values) (v : Value) → IsColumnOf o kind before column → cell_of o kind (shown f) ≡ Good v
     → (let found : Option Values = Some (record column { values = column.values ++ v ∷ [] }) in found ≡ Some new) → IsColumnOf o kind (before ++ f ∷ []) new
 column_held o kind before f column new v is cell put =
     let P : Values → Type 0 = λ c. IsColumnOf o kind (before ++ f ∷ []) c in
     let same : (let filled : Values = record column { values = column.values ++ v ∷ [] } in filled ≡ new) = cc in
     subst P same (
       is.0,
-      map-append Held column.values (v ∷ []) ∙ ap (λ (cs : List Cell). cs ++ Held v ∷ []) is.1
-          ∙ ap (λ (c : Cell). map (λ g. cell_of o kind (shown g)) before ++ c ∷ []) (sym cell) ∙ sym (map-append (λ g. cell_of o kind (shown g)) before (f ∷ [])),
+      map-append Good column.values (v ∷ []) ∙ ap (λ (cs : List CsvCell). cs ++ Good v ∷ []) is.1
+          ∙ ap (λ (c : CsvCell). map (λ g. cell_of o kind (shown g)) before ++ c ∷ []) (sym cell) ∙ sym (map-append (λ g. cell_of o kind (shown g)) before (f ∷ [])),
     )
 
-column_put : (o : Options) (kind : ColType) (before : List RawField) (f : RawField) (column new : Values) (cell : Cell) → IsColumnOf o kind before column → cell_of o kind (shown f) ≡ cell
+column_put : (o : Options) (kind : ColType) (before : List RawField) (f : RawField) (column new : Values) (cell : CsvCell) → IsColumnOf o kind before column → cell_of o kind (shown f) ≡ cell
     → with_cell cell column ≡ Some new → IsColumnOf o kind (before ++ f ∷ []) new
-column_put o kind before f column new (Held v) is cell put = column_held o kind before f column new v is cell put
+column_put o kind before f column new (Good v) is cell put = column_held o kind before f column new v is cell put
 column_put o kind before f column new Bad is cell put = absurd (cc)
 
 pub column_more : (o : Options) (kind : ColType) (fields : List RawField) (i : ℕ) (d : RawField) (column new : Values) → IsColumnOf o kind (take i fields) column → i < length fields

@@ -2,7 +2,7 @@
 use Rattle.std.proofs.Common.{◌≡◌, ℕ, zero, suc, ◌+◌, ◌<◌, ◌≤◌, ◌∙◌, sym, ap, refl, Bool, true, false, List, [], ◌∷◌, ◌++◌, length, drop, get_or, append_assoc}
 use Rattle.std.proofs.lemmas.List.{drop_more, drop_all, append-nil}
 use Rattle.std.specs.Prelude.{Some, slice_get}
-use Rattle.morsel_meaning.specs.declared.Field.{Field}
+use Rattle.morsel_meaning.specs.declared.value.Field.{Field}
 use Rattle.morsel_frame.specs.Columns.{Values}
 use Rattle.morsel_grammar.specs.Reading.{chosen}
 use Rattle.morsel_text.specs.Steps.{empty_columns}

@@ -2,12 +2,12 @@
 use Rattle.std.proofs.Common.{◌≡◌, ℕ, ℤ, ◌+◌, ◌<◌, ◌∙◌, sym, ap, refl, arith, subst, Bool, List, [], ◌∷◌, ◌++◌, suc, length, length-append, take, get_or, map}
 use Rattle.std.proofs.lemmas.List.{take_more, map-append}
 use Rattle.std.specs.Prelude.{if◌then◌else◌}
-use Rattle.morsel_meaning.specs.declared.ColType.TheVariants as types
-use Rattle.morsel_meaning.specs.declared.Value.{Value}
-use Rattle.morsel_meaning.specs.declared.Value.TheVariants as values
+use Rattle.morsel_meaning.specs.declared.value.ColType.TheVariants as types
+use Rattle.morsel_meaning.specs.declared.value.Value.{Value}
+use Rattle.morsel_meaning.specs.declared.value.Value.TheVariants as values
 use Rattle.morsel_frame.specs.Columns.{Values, masked}
 use Rattle.morsel_grammar.specs.Options.{Options}
-use Rattle.morsel_grammar.specs.Cells.{Cell, Held, cell_of}
+use Rattle.morsel_grammar.specs.Cells.{CsvCell, Good, cell_of}
 use Rattle.morsel_text.specs.RawFields.{shown}
 use Rattle.morsel_text.specs.Batches.{IsColumnOf}
 use Rattle.morsel_text.specs.declared.split.RawField.{RawField}
@@ -28,22 +28,22 @@ ints valid numbers = record { kind = types.Int; values = masked valid (map value
 
 pub number_more : (o : Options) (fields : List RawField) (i : ℕ) (d : RawField) (valid : List Bool) (numbers : List ℤ) (b : Bool) (n : ℤ)
     → IsColumnOf o types.Int (take i fields) (ints valid numbers) → length valid ≡ length numbers → i < length fields
-    → cell_of o types.Int (shown (get_or fields i d)) ≡ Held (if b then values.Int n else values.Null)
+    → cell_of o types.Int (shown (get_or fields i d)) ≡ Good (if b then values.Int n else values.Null)
     → IsColumnOf o types.Int (take (i + 1) fields) (ints (valid ++ b ∷ []) (numbers ++ n ∷ []))
 number_more o fields i d valid numbers b n is same within cell = (
   refl,
-  ap (λ (vs : List Value). map Held (masked (valid ++ b ∷ []) vs)) (map-append values.Int numbers (n ∷ []))
-      ∙ ap (map Held) (masked_more valid (map values.Int numbers) b (values.Int n) (same ∙ sym (length_of numbers)))
-      ∙ map-append Held (masked valid (map values.Int numbers)) ((if b then values.Int n else values.Null) ∷ [])
-      ∙ ap (λ (cs : List Cell). cs ++ Held (if b then values.Int n else values.Null) ∷ []) is.1
-      ∙ ap (λ (c : Cell). map (λ g. cell_of o types.Int (shown g)) (take i fields) ++ c ∷ []) (sym cell)
+  ap (λ (vs : List Value). map Good (masked (valid ++ b ∷ []) vs)) (map-append values.Int numbers (n ∷ []))
+      ∙ ap (map Good) (masked_more valid (map values.Int numbers) b (values.Int n) (same ∙ sym (length_of numbers)))
+      ∙ map-append Good (masked valid (map values.Int numbers)) ((if b then values.Int n else values.Null) ∷ [])
+      ∙ ap (λ (cs : List CsvCell). cs ++ Good (if b then values.Int n else values.Null) ∷ []) is.1
+      ∙ ap (λ (c : CsvCell). map (λ g. cell_of o types.Int (shown g)) (take i fields) ++ c ∷ []) (sym cell)
       ∙ sym (map-append (λ g. cell_of o types.Int (shown g)) (take i fields) (get_or fields i d ∷ []))
       ∙ ap (map (λ g. cell_of o types.Int (shown g))) (sym (take_more fields i d within)),
 )
 
 pub number_next : (o : Options) (fields : List RawField) (i : ℕ) (d : RawField) (valid new : List Bool) (numbers more : List ℤ) (b : Bool) (n : ℤ)
     → IsColumnOf o types.Int (take i fields) (ints valid numbers) → length valid ≡ length numbers → i < length fields
-    → cell_of o types.Int (shown (get_or fields i d)) ≡ Held (if b then values.Int n else values.Null) → new ≡ valid ++ b ∷ [] → more ≡ numbers ++ n ∷ []
+    → cell_of o types.Int (shown (get_or fields i d)) ≡ Good (if b then values.Int n else values.Null) → new ≡ valid ++ b ∷ [] → more ≡ numbers ++ n ∷ []
     → IsColumnOf o types.Int (take (i + 1) fields) (ints new more) × (length new ≡ length more)
 number_next o fields i d valid new numbers more b n is same within cell is_new is_more = (
   subst (λ (xs : List Bool). IsColumnOf o types.Int (take (i + 1) fields) (ints xs more)) (sym is_new)

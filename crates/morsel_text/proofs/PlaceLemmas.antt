@@ -2,11 +2,11 @@
 use Rattle.std.proofs.Common.{◌≡◌, ℕ, suc, ◌+◌, ◌-◌, ◌<◌, ◌∙◌, sym, ap, refl, arith, Bool, true, false, List, [], ◌∷◌, length, take}
 use Rattle.std.specs.Prelude.{Option, Some, None}
 use Rattle.std.specs.Str.{is_utf8}
-use Rattle.morsel_meaning.specs.declared.ColType.{ColType}
-use Rattle.morsel_meaning.specs.declared.Value.TheVariants as values
+use Rattle.morsel_meaning.specs.declared.value.ColType.{ColType}
+use Rattle.morsel_meaning.specs.declared.value.Value.TheVariants as values
 use Rattle.morsel_grammar.specs.Options.{Options}
 use Rattle.morsel_grammar.specs.Grammar.{CsvField, CsvRecord, Fields}
-use Rattle.morsel_grammar.specs.Cells.{Cell, Held, cell_of}
+use Rattle.morsel_grammar.specs.Cells.{CsvCell, Good, cell_of}
 use Rattle.morsel_grammar.specs.Rows.{RowOf, IsRow, is_empty, cells_of, row_or_misfit, row_of_nothing, row_of}
 use Rattle.morsel_grammar.specs.Split.{record_at}
 use Rattle.morsel_grammar.specs.Reading.{Reading, with_cells, row_then, reading_up_to, row_place}
@@ -14,12 +14,12 @@ use Rattle.morsel_text.specs.RowPlaces.{IsKind}
 use Rattle.morsel_text.specs.declared.place.RowKind.TheVariants as kinds
 use Rattle.morsel_text.proofs.StepLemmas.{row_reading}
 
-nothing_row : (ks : List ColType) → length ks ≡ 1 → (cells : List Cell) × (row_of_nothing ks ≡ IsRow cells)
+nothing_row : (ks : List ColType) → length ks ≡ 1 → (cells : List CsvCell) × (row_of_nothing ks ≡ IsRow cells)
 nothing_row [] one = absurd (omega arith)
-nothing_row (k ∷ []) one = (Held values.Null ∷ [], refl)
+nothing_row (k ∷ []) one = (Good values.Null ∷ [], refl)
 nothing_row (k ∷ l ∷ ks) one = absurd (omega arith)
 
-some_cells : (o : Options) (ks : List ColType) (fields : List CsvField) → length fields ≡ length ks → (cells : List Cell) × (cells_of o ks fields ≡ Some cells)
+some_cells : (o : Options) (ks : List ColType) (fields : List CsvField) → length fields ≡ length ks → (cells : List CsvCell) × (cells_of o ks fields ≡ Some cells)
 some_cells o [] [] same = ([], refl)
 some_cells o [] (f ∷ fields) same = absurd (omega arith)
 some_cells o (k ∷ ks) [] same = absurd (omega arith)
@@ -54,14 +54,14 @@ skip_row n o ks head at text rest r found some is utf8 behind kind =
     ∙ ap (λ k. row_then false at k (reading_up_to n o ks false (at + (length text - length rest)) rest)) kind
 
 -- where a row stands among what is read from here on
-pub place_next : (total : Option ℕ) (row : ℕ) (before later : Reading) (at : ℕ) (cells : List Cell) → before ≡ with_cells at cells later → row_place before.rows (suc row) ≡ total
+pub place_next : (total : Option ℕ) (row : ℕ) (before later : Reading) (at : ℕ) (cells : List CsvCell) → before ≡ with_cells at cells later → row_place before.rows (suc row) ≡ total
     → row_place later.rows row ≡ total
 place_next total row before later at cells is so_far = sym (ap (λ (r : Reading). row_place r.rows (suc row)) is) ∙ so_far
 
-pub place_here : (total : Option ℕ) (before later : Reading) (at : ℕ) (cells : List Cell) → before ≡ with_cells at cells later → row_place before.rows 0 ≡ total → Some at ≡ total
+pub place_here : (total : Option ℕ) (before later : Reading) (at : ℕ) (cells : List CsvCell) → before ≡ with_cells at cells later → row_place before.rows 0 ≡ total → Some at ≡ total
 place_here total before later at cells is so_far = sym (ap (λ (r : Reading). row_place r.rows 0) is) ∙ so_far
 
-pub place_over : (total : Option ℕ) (row : ℕ) (rows : List (ℕ × List Cell)) → rows ≡ [] → row_place rows row ≡ total → None ≡ total
+pub place_over : (total : Option ℕ) (row : ℕ) (rows : List (ℕ × List CsvCell)) → rows ≡ [] → row_place rows row ≡ total → None ≡ total
 place_over total row rows none so_far = sym (ap (λ rows. row_place rows row) none) ∙ so_far
 
 -- the step of reading that passing one record is

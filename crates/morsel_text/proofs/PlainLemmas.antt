@@ -3,18 +3,18 @@ use Rattle.std.proofs.Common.{◌≡◌, ℕ, zero, suc, ◌+◌, ◌-◌, ◌<�
 use Rattle.std.proofs.lemmas.List.{drop_more, drop_all, take_more_set, drop-set-lt, append-nil, length-replicate, length-map}
 use Rattle.std.specs.Prelude.{Option, Some, None, if◌then◌else◌}
 use Rattle.std.specs.List.{slice_get}
-use Rattle.morsel_meaning.specs.declared.ColType.{ColType}
-use Rattle.morsel_meaning.specs.declared.ColType.TheVariants as types
-use Rattle.morsel_meaning.specs.declared.Value.{Value}
-use Rattle.morsel_meaning.specs.declared.Value.TheVariants as values
-use Rattle.morsel_meaning.specs.declared.Fault.{Fault}
-use Rattle.morsel_meaning.specs.declared.Field.{Field}
+use Rattle.morsel_meaning.specs.declared.value.ColType.{ColType}
+use Rattle.morsel_meaning.specs.declared.value.ColType.TheVariants as types
+use Rattle.morsel_meaning.specs.declared.value.Value.{Value}
+use Rattle.morsel_meaning.specs.declared.value.Value.TheVariants as values
+use Rattle.morsel_meaning.specs.declared.fault.Fault.{Fault}
+use Rattle.morsel_meaning.specs.declared.value.Field.{Field}
 use Rattle.morsel_meaning.specs.Values.{Row, IsOfType, FitsRow, kinds_of}
 use Rattle.morsel_frame.specs.Columns.{Values}
 use Rattle.morsel_frame.specs.Frames.{rows_of, Fit}
 use Rattle.morsel_grammar.specs.Options.{Options}
 use Rattle.morsel_grammar.specs.Grammar.{CsvField, CsvRecord, Fields}
-use Rattle.morsel_grammar.specs.Cells.{Cell, Held, Bad, int_value, bool_value, int_of, bool_of, value_of, cell_or_bad, cell_of}
+use Rattle.morsel_grammar.specs.Cells.{CsvCell, Good, Bad, int_value, bool_value, int_of, bool_of, value_written, cell_or_bad, cell_of}
 use Rattle.morsel_grammar.specs.Rows.{NoRow, IsRow, is_empty, cells_of, row_or_misfit, row_of_nothing, row_of}
 use Rattle.morsel_grammar.specs.Split.{with_field, fields_then, fields_up_to, field_at, record_at}
 use Rattle.morsel_grammar.specs.Reading.{Read, ends, read_of, used_values, chosen}
@@ -50,7 +50,7 @@ fields_next o front n i rest f after r more is follows =
     ∙ ap (with_front front) (follows f (λ r. fields_up_to (n - (i + 1)) o r))
 
 -- a value that a text says is of the type
-value_typed : (kind : ColType) (text : List ℕ) (v : Value) → value_of kind text ≡ Some v → IsOfType kind v
+value_typed : (kind : ColType) (text : List ℕ) (v : Value) → value_written kind text ≡ Some v → IsOfType kind v
 value_typed types.Int text v is = int_typed (int_of text) is
   where
     int_typed : (found : Option _) → int_value found ≡ Some v → IsOfType types.Int v
@@ -63,24 +63,24 @@ value_typed types.Bool text v is = bool_typed (bool_of text) is
     bool_typed (Some b) is = let same : values.Bool b ≡ v = cc in subst (IsOfType types.Bool) same refl
 value_typed types.Text text v is = let same : values.Text text ≡ v = cc in subst (IsOfType types.Text) same refl
 
-found_typed : (kind : ColType) (text : List ℕ) (ignore_errors : Bool) (found : Option Value) (v : Value) → value_of kind text ≡ found → cell_or_bad ignore_errors found ≡ Held v → IsOfType kind v
+found_typed : (kind : ColType) (text : List ℕ) (ignore_errors : Bool) (found : Option Value) (v : Value) → value_written kind text ≡ found → cell_or_bad ignore_errors found ≡ Good v → IsOfType kind v
 found_typed kind text ignore_errors (Some w) v said is = let same : w ≡ v = cc in subst (IsOfType kind) same (value_typed kind text w said)
 found_typed kind text true None v said is = let same : values.Null ≡ v = cc in subst (IsOfType kind) same tt
 found_typed kind text false None v said is = cc
 
-null_or : (kind : ColType) (cell : Cell) (t : Bool) (v : Value) → (cell ≡ Held v → IsOfType kind v) → (if t then Held values.Null else cell) ≡ Held v → IsOfType kind v
+null_or : (kind : ColType) (cell : CsvCell) (t : Bool) (v : Value) → (cell ≡ Good v → IsOfType kind v) → (if t then Good values.Null else cell) ≡ Good v → IsOfType kind v
 null_or kind cell true v typed is = let same : values.Null ≡ v = cc in subst (IsOfType kind) same tt
 null_or kind cell false v typed is = typed is
 
-cell_typed : (o : Options) (kind : ColType) (f : CsvField) (v : Value) → cell_of o kind f ≡ Held v → IsOfType kind v
-cell_typed o kind f v is = null_or kind (cell_or_bad o.ignore_errors (value_of kind f.bytes)) _ v (found_typed kind f.bytes o.ignore_errors (value_of kind f.bytes) v refl) is
+cell_typed : (o : Options) (kind : ColType) (f : CsvField) (v : Value) → cell_of o kind f ≡ Good v → IsOfType kind v
+cell_typed o kind f v is = null_or kind (cell_or_bad o.ignore_errors (value_written kind f.bytes)) _ v (found_typed kind f.bytes o.ignore_errors (value_written kind f.bytes) v refl) is
 
 -- each cell is bad, or has a value of its type
-abbrev AreOfTypes : List ColType → List Cell → Type 0
+abbrev AreOfTypes : List ColType → List CsvCell → Type 0
 AreOfTypes [] [] = Unit {0}
 AreOfTypes [] (c ∷ cells) = ⊥
 AreOfTypes (kind ∷ kinds) [] = ⊥
-AreOfTypes (kind ∷ kinds) (c ∷ cells) = ((v : Value) → c ≡ Held v → IsOfType kind v) × AreOfTypes kinds cells
+AreOfTypes (kind ∷ kinds) (c ∷ cells) = ((v : Value) → c ≡ Good v → IsOfType kind v) × AreOfTypes kinds cells
 
 -- as many fields as types have a cell each
 pub cells_of-with : (o : Options) (kinds : List ColType) (fields : List CsvField) → length fields ≡ length kinds → cells_of o kinds fields ≡ Some (cells_with o kinds fields)
@@ -89,58 +89,58 @@ cells_of-with o [] (f ∷ fields) same = absurd (omega arith)
 cells_of-with o (kind ∷ kinds) [] same = absurd (omega arith)
 cells_of-with o (kind ∷ kinds) (f ∷ fields) same = rw (cells_of-with o kinds fields (omega arith)) refl
 
-cells_more : (o : Options) (kind : ColType) (kinds : List ColType) (f : CsvField) (fields : List CsvField) (cells : List Cell) (found : Option (List Cell)) → cells_of o kinds fields ≡ found
-    → ((rest : List Cell) → cells_of o kinds fields ≡ Some rest → AreOfTypes kinds rest) → cells_of o (kind ∷ kinds) (f ∷ fields) ≡ Some cells → AreOfTypes (kind ∷ kinds) cells
+cells_more : (o : Options) (kind : ColType) (kinds : List ColType) (f : CsvField) (fields : List CsvField) (cells : List CsvCell) (found : Option (List CsvCell)) → cells_of o kinds fields ≡ found
+    → ((rest : List CsvCell) → cells_of o kinds fields ≡ Some rest → AreOfTypes kinds rest) → cells_of o (kind ∷ kinds) (f ∷ fields) ≡ Some cells → AreOfTypes (kind ∷ kinds) cells
 cells_more o kind kinds f fields cells None found typed is = let none : cells_of o (kind ∷ kinds) (f ∷ fields) ≡ None = rw found refl in cc
 cells_more o kind kinds f fields cells (Some rest) found typed is =
     let all : cells_of o (kind ∷ kinds) (f ∷ fields) ≡ Some (cell_of o kind f ∷ rest) = rw found refl in
     let same : cell_of o kind f ∷ rest ≡ cells = cc in
     subst (AreOfTypes (kind ∷ kinds)) same (cell_typed o kind f, typed rest found)
 
-cells_typed : (o : Options) (kinds : List ColType) (fields : List CsvField) (cells : List Cell) → cells_of o kinds fields ≡ Some cells → AreOfTypes kinds cells
+cells_typed : (o : Options) (kinds : List ColType) (fields : List CsvField) (cells : List CsvCell) → cells_of o kinds fields ≡ Some cells → AreOfTypes kinds cells
 cells_typed o [] [] cells is = let same : [] ≡ cells = cc in subst (AreOfTypes []) same tt
 cells_typed o [] (f ∷ fields) cells is = cc
 cells_typed o (kind ∷ kinds) [] cells is = cc
 cells_typed o (kind ∷ kinds) (f ∷ fields) cells is = cells_more o kind kinds f fields cells (cells_of o kinds fields) refl (λ rest found. cells_typed o kinds fields rest found) is
 
-nothing_typed : (kinds : List ColType) (cells : List Cell) → row_of_nothing kinds ≡ IsRow cells → AreOfTypes kinds cells
+nothing_typed : (kinds : List ColType) (cells : List CsvCell) → row_of_nothing kinds ≡ IsRow cells → AreOfTypes kinds cells
 nothing_typed [] cells is = cc
 nothing_typed (kind ∷ []) cells is =
-    let same : Held values.Null ∷ [] ≡ cells = cc in
+    let same : Good values.Null ∷ [] ≡ cells = cc in
     subst (AreOfTypes (kind ∷ [])) same ((λ v held. let null : values.Null ≡ v = cc in subst (IsOfType kind) null tt), tt)
 nothing_typed (kind ∷ next ∷ kinds) cells is = cc
 
-filled_typed : (o : Options) (kinds : List ColType) (fields : List CsvField) (cells : List Cell) (found : Option (List Cell)) → cells_of o kinds fields ≡ found → row_or_misfit found ≡ IsRow cells → AreOfTypes kinds cells
+filled_typed : (o : Options) (kinds : List ColType) (fields : List CsvField) (cells : List CsvCell) (found : Option (List CsvCell)) → cells_of o kinds fields ≡ found → row_or_misfit found ≡ IsRow cells → AreOfTypes kinds cells
 filled_typed o kinds fields cells None found is = cc
 filled_typed o kinds fields cells (Some all) found is = let same : all ≡ cells = cc in cells_typed o kinds fields cells (found ∙ ap Some same)
 
-row_typed : (o : Options) (kinds : List ColType) (fields : List CsvField) (cells : List Cell) → row_of o kinds (Fields fields) ≡ IsRow cells → AreOfTypes kinds cells
+row_typed : (o : Options) (kinds : List ColType) (fields : List CsvField) (cells : List CsvCell) → row_of o kinds (Fields fields) ≡ IsRow cells → AreOfTypes kinds cells
 row_typed o kinds fields cells is = by_bytes (is_empty fields) refl
   where
     by_bytes : (t : Bool) → is_empty fields ≡ t → AreOfTypes kinds cells
     by_bytes true e = nothing_typed kinds cells (let same : row_of o kinds (Fields fields) ≡ row_of_nothing kinds = rw e refl in sym same ∙ is)
     by_bytes false e = filled_typed o kinds fields cells (cells_of o kinds fields) refl (let same : row_of o kinds (Fields fields) ≡ row_or_misfit (cells_of o kinds fields) = rw e refl in sym same ∙ is)
 
-held_more : (used : List Bool) (kind : ColType) (kinds : List ColType) (v : Value) (cells : List Cell) (row : Row) (found : Option Row) → IsOfType kind v → used_values used cells ≡ found
-    → ((rest : Row) → used_values used cells ≡ Some rest → FitsRow (chosen used kinds) rest) → used_values (true ∷ used) (Held v ∷ cells) ≡ Some row → FitsRow (kind ∷ chosen used kinds) row
-held_more used kind kinds v cells row None of_type found fits is = let none : used_values (true ∷ used) (Held v ∷ cells) ≡ None = rw found refl in cc
+held_more : (used : List Bool) (kind : ColType) (kinds : List ColType) (v : Value) (cells : List CsvCell) (row : Row) (found : Option Row) → IsOfType kind v → used_values used cells ≡ found
+    → ((rest : Row) → used_values used cells ≡ Some rest → FitsRow (chosen used kinds) rest) → used_values (true ∷ used) (Good v ∷ cells) ≡ Some row → FitsRow (kind ∷ chosen used kinds) row
+held_more used kind kinds v cells row None of_type found fits is = let none : used_values (true ∷ used) (Good v ∷ cells) ≡ None = rw found refl in cc
 held_more used kind kinds v cells row (Some rest) of_type found fits is =
-    let all : used_values (true ∷ used) (Held v ∷ cells) ≡ Some (v ∷ rest) = rw found refl in
+    let all : used_values (true ∷ used) (Good v ∷ cells) ≡ Some (v ∷ rest) = rw found refl in
     let same : v ∷ rest ≡ row = cc in
     subst (FitsRow (kind ∷ chosen used kinds)) same (of_type, fits rest found)
 
 -- the values of the used columns are of their types
-used_typed : (used : List Bool) (kinds : List ColType) (cells : List Cell) (row : Row) → AreOfTypes kinds cells → used_values used cells ≡ Some row → FitsRow (chosen used kinds) row
+used_typed : (used : List Bool) (kinds : List ColType) (cells : List CsvCell) (row : Row) → AreOfTypes kinds cells → used_values used cells ≡ Some row → FitsRow (chosen used kinds) row
 used_typed [] kinds cells row typed is = let none : [] ≡ row = cc in subst (FitsRow []) none tt
 used_typed (u ∷ used) [] [] row typed is = let none : [] ≡ row = cc in subst (FitsRow []) none tt
 used_typed (u ∷ used) [] (c ∷ cells) row typed is = absurd typed
 used_typed (u ∷ used) (kind ∷ kinds) [] row typed is = absurd typed
 used_typed (false ∷ used) (kind ∷ kinds) (c ∷ cells) row typed is = used_typed used kinds cells row typed.1 is
 used_typed (true ∷ used) (kind ∷ kinds) (Bad ∷ cells) row typed is = cc
-used_typed (true ∷ used) (kind ∷ kinds) (Held v ∷ cells) row typed is =
+used_typed (true ∷ used) (kind ∷ kinds) (Good v ∷ cells) row typed is =
     held_more used kind kinds v cells row (used_values used cells) (typed.0 v refl) refl (λ rest found. used_typed used kinds cells rest typed.1 found) is
 
-pub row_fits : (o : Options) (kinds : List ColType) (used : List Bool) (fields : List CsvField) (cells : List Cell) (row : Row)
+pub row_fits : (o : Options) (kinds : List ColType) (used : List Bool) (fields : List CsvField) (cells : List CsvCell) (row : Row)
     → row_of o kinds (Fields fields) ≡ IsRow cells → used_values used cells ≡ Some row → FitsRow (chosen used kinds) row
 row_fits o kinds used fields cells row is values = used_typed used kinds cells row (row_typed o kinds fields cells is) values
 
@@ -179,7 +179,7 @@ cells_here o schema fields i field f in_schema in_fields is_field is_f =
 
 -- or of one that is not
 pub cells_passed : (o : Options) (schema : List Field) (fields : List CsvField) (i : ℕ) → i < length schema → i < length fields
-    → (c : Cell) × (drop i (cells_with o (kinds_of schema) fields) ≡ c ∷ drop (i + 1) (cells_with o (kinds_of schema) fields))
+    → (c : CsvCell) × (drop i (cells_with o (kinds_of schema) fields) ≡ c ∷ drop (i + 1) (cells_with o (kinds_of schema) fields))
 cells_passed o schema fields i in_schema in_fields =
     let width = length-map schema (λ (x : Field). x.kind) in
     let blank : CsvField = record { quoted = false; bytes = [] } in
@@ -191,19 +191,19 @@ none_of_nothing used [] same other = refl
 none_of_nothing used (kind ∷ []) same other = absurd (other same)
 none_of_nothing used (kind ∷ next ∷ kinds) same other = refl
 
-pub row_of_one : (used : List Bool) (kinds : List ColType) (row : Row) → length used ≡ length kinds → length used ≡ 1 → used_values used (Held values.Null ∷ []) ≡ Some row
-    → (cells : List Cell) × (row_of_nothing kinds ≡ IsRow cells) × (used_values used cells ≡ Some row)
+pub row_of_one : (used : List Bool) (kinds : List ColType) (row : Row) → length used ≡ length kinds → length used ≡ 1 → used_values used (Good values.Null ∷ []) ≡ Some row
+    → (cells : List CsvCell) × (row_of_nothing kinds ≡ IsRow cells) × (used_values used cells ≡ Some row)
 row_of_one used [] row same one is = absurd (omega arith)
-row_of_one used (kind ∷ []) row same one is = (Held values.Null ∷ [], refl, is)
+row_of_one used (kind ∷ []) row same one is = (Good values.Null ∷ [], refl, is)
 row_of_one used (kind ∷ next ∷ kinds) row same one is = absurd (omega arith)
 
-pub null_used : (used : List Bool) → length used ≡ 1 → get_or used 0 false ≡ true → used_values used (Held values.Null ∷ []) ≡ Some (values.Null ∷ [])
+pub null_used : (used : List Bool) → length used ≡ 1 → get_or used 0 false ≡ true → used_values used (Good values.Null ∷ []) ≡ Some (values.Null ∷ [])
 null_used [] one is = absurd (omega arith)
 null_used (true ∷ []) one is = refl
 null_used (false ∷ []) one is = cc
 null_used (u ∷ v ∷ used) one is = absurd (omega arith)
 
-pub null_unused : (used : List Bool) → length used ≡ 1 → get_or used 0 false ≡ false → used_values used (Held values.Null ∷ []) ≡ Some []
+pub null_unused : (used : List Bool) → length used ≡ 1 → get_or used 0 false ≡ false → used_values used (Good values.Null ∷ []) ≡ Some []
 null_unused [] one is = absurd (omega arith)
 null_unused (true ∷ []) one is = cc
 null_unused (false ∷ []) one is = refl
@@ -222,39 +222,39 @@ pub values_nil : (found : Option Row) → fronted [] found ≡ found
 values_nil None = refl
 values_nil (Some row) = refl
 
-with_held : (front : Row) (v : Value) (used : List Bool) (cells : List Cell) (found : Option Row) → used_values used cells ≡ found
-    → fronted front (used_values (true ∷ used) (Held v ∷ cells)) ≡ fronted (front ++ v ∷ []) (used_values used cells)
+with_held : (front : Row) (v : Value) (used : List Bool) (cells : List CsvCell) (found : Option Row) → used_values used cells ≡ found
+    → fronted front (used_values (true ∷ used) (Good v ∷ cells)) ≡ fronted (front ++ v ∷ []) (used_values used cells)
 with_held front v used cells None found = rw found refl
 with_held front v used cells (Some row) found = rw found (ap Some (sym (append_assoc front (v ∷ []) row)))
 
 -- what is left of the values from a place on
-abbrev pub from_place : List Bool → List Cell → Row → ℕ → Option Row
+abbrev pub from_place : List Bool → List CsvCell → Row → ℕ → Option Row
 from_place used cells front i = fronted front (used_values (drop i used) (drop i cells))
 
-from_step : (used : List Bool) (cells : List Cell) (front : Row) (i : ℕ) (u : Bool) (c : Cell) → i < length used → get_or used i false ≡ u
+from_step : (used : List Bool) (cells : List CsvCell) (front : Row) (i : ℕ) (u : Bool) (c : CsvCell) → i < length used → get_or used i false ≡ u
     → drop i cells ≡ c ∷ drop (i + 1) cells → from_place used cells front i ≡ fronted front (used_values (u ∷ drop (i + 1) used) (c ∷ drop (i + 1) cells))
 from_step used cells front i u c within is_u is_c =
     ap (λ cs. fronted front (used_values (drop i used) cs)) is_c
     ∙ ap (λ us. fronted front (used_values us (c ∷ drop (i + 1) cells))) (drop_more used i false within ∙ ap (λ x. x ∷ drop (i + 1) used) is_u)
 
-pub from_skip : (used : List Bool) (cells : List Cell) (front : Row) (i : ℕ) (c : Cell) → i < length used → get_or used i false ≡ false
+pub from_skip : (used : List Bool) (cells : List CsvCell) (front : Row) (i : ℕ) (c : CsvCell) → i < length used → get_or used i false ≡ false
     → drop i cells ≡ c ∷ drop (i + 1) cells → from_place used cells front (i + 1) ≡ from_place used cells front i
 from_skip used cells front i c within is_u is_c = sym (from_step used cells front i false c within is_u is_c)
 
-pub from_value : (used : List Bool) (cells : List Cell) (front : Row) (i : ℕ) (c : Cell) (v : Value) → i < length used → get_or used i false ≡ true
-    → drop i cells ≡ c ∷ drop (i + 1) cells → c ≡ Held v → from_place used cells (front ++ v ∷ []) (i + 1) ≡ from_place used cells front i
+pub from_value : (used : List Bool) (cells : List CsvCell) (front : Row) (i : ℕ) (c : CsvCell) (v : Value) → i < length used → get_or used i false ≡ true
+    → drop i cells ≡ c ∷ drop (i + 1) cells → c ≡ Good v → from_place used cells (front ++ v ∷ []) (i + 1) ≡ from_place used cells front i
 from_value used cells front i c v within is_u is_c held =
     sym (from_step used cells front i true c within is_u is_c
     ∙ ap (λ x. fronted front (used_values (true ∷ drop (i + 1) used) (x ∷ drop (i + 1) cells))) held
     ∙ with_held front v (drop (i + 1) used) (drop (i + 1) cells) _ refl)
 
-pub from_bad : (used : List Bool) (cells : List Cell) (front : Row) (i : ℕ) (c : Cell) → i < length used → get_or used i false ≡ true
+pub from_bad : (used : List Bool) (cells : List CsvCell) (front : Row) (i : ℕ) (c : CsvCell) → i < length used → get_or used i false ≡ true
     → drop i cells ≡ c ∷ drop (i + 1) cells → c ≡ Bad → from_place used cells front i ≡ None
 from_bad used cells front i c within is_u is_c bad =
     from_step used cells front i true c within is_u is_c ∙ ap (λ x. fronted front (used_values (true ∷ drop (i + 1) used) (x ∷ drop (i + 1) cells))) bad
 
 -- at the end of the used columns nothing is left
-pub from_end : (used : List Bool) (cells : List Cell) (front : Row) (i : ℕ) → length used ≤ i → from_place used cells front i ≡ Some front
+pub from_end : (used : List Bool) (cells : List CsvCell) (front : Row) (i : ℕ) → length used ≤ i → from_place used cells front i ≡ Some front
 from_end used cells front i past = ap (λ us. fronted front (used_values us (drop i cells))) (drop_all i used past) ∙ ap Some (append-nil front)
 
 -- a row that is put value by value

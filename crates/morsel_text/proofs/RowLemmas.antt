@@ -5,11 +5,11 @@ use Rattle.std.specs.Prelude.{Option, Some, None, IsUtf8}
 use Rattle.morsel_frame.specs.Columns.{Values}
 use Rattle.morsel_grammar.specs.Options.{Options}
 use Rattle.morsel_grammar.specs.Grammar.{CsvField, Fields}
-use Rattle.morsel_meaning.specs.declared.ColType.TheVariants as types
-use Rattle.morsel_meaning.specs.declared.Value.{Value}
-use Rattle.morsel_meaning.specs.declared.Value.TheVariants as values
+use Rattle.morsel_meaning.specs.declared.value.ColType.TheVariants as types
+use Rattle.morsel_meaning.specs.declared.value.Value.{Value}
+use Rattle.morsel_meaning.specs.declared.value.Value.TheVariants as values
 use Rattle.morsel_meaning.specs.Values.{Row}
-use Rattle.morsel_grammar.specs.Cells.{Cell, Held, Bad, cell_of}
+use Rattle.morsel_grammar.specs.Cells.{CsvCell, Good, Bad, cell_of}
 use Rattle.morsel_grammar.specs.Rows.{RowOf, NoRow, is_empty, cells_of, row_or_misfit, row_of, row_of_nothing}
 use Rattle.morsel_grammar.specs.Reading.{used_values, chosen}
 use Rattle.morsel_text.specs.declared.rows.RowPushed.{RowPushed}
@@ -82,14 +82,14 @@ abbrev pub gains : List Bool → List Values → Option Row → Option (List Val
 gains used columns None = None
 gains used columns (Some row) = Some (with_row used columns row)
 
-put_held : (v : Value) (column : Values) (used : List Bool) (columns : List Values) (cells : List Cell) (found : Option Row) → used_values used cells ≡ found
-    → in_front (with_cell (Held v) column) (gains used columns (used_values used cells)) ≡ gains (true ∷ used) (column ∷ columns) (used_values (true ∷ used) (Held v ∷ cells))
+put_held : (v : Value) (column : Values) (used : List Bool) (columns : List Values) (cells : List CsvCell) (found : Option Row) → used_values used cells ≡ found
+    → in_front (with_cell (Good v) column) (gains used columns (used_values used cells)) ≡ gains (true ∷ used) (column ∷ columns) (used_values (true ∷ used) (Good v ∷ cells))
 put_held v column used columns cells None is = rw is
 put_held v column used columns cells (Some row) is = rw is
 
-put_used : (cell : Cell) (column : Values) (used : List Bool) (columns : List Values) (cells : List Cell)
+put_used : (cell : CsvCell) (column : Values) (used : List Bool) (columns : List Values) (cells : List CsvCell)
     → in_front (with_cell cell column) (gains used columns (used_values used cells)) ≡ gains (true ∷ used) (column ∷ columns) (used_values (true ∷ used) (cell ∷ cells))
-put_used (Held v) column used columns cells = put_held v column used columns cells (used_values used cells) refl
+put_used (Good v) column used columns cells = put_held v column used columns cells (used_values used cells) refl
 put_used Bad column used columns cells = refl
 
 put_unused : (column : Values) (used : List Bool) (columns : List Values) (found : Option Row)
@@ -99,7 +99,7 @@ put_unused column used columns (Some row) = refl
 
 -- fields put one by one are their cells' row put at once
 pub with_fields-row : (o : Options) (used : List Bool) (columns : List Values) (fields : List CsvField) → length used ≡ length columns → length fields ≡ length columns
-    → (cells : List Cell) × (cells_of o (column_kinds columns) fields ≡ Some cells) × (with_fields o used columns fields ≡ gains used columns (used_values used cells))
+    → (cells : List CsvCell) × (cells_of o (column_kinds columns) fields ≡ Some cells) × (with_fields o used columns fields ≡ gains used columns (used_values used cells))
     × (length cells ≡ length columns)
 with_fields-row o [] [] [] same_used same_fields = ([], refl, refl, refl)
 with_fields-row o (u ∷ used) [] fields same_used same_fields = absurd (omega arith)
@@ -122,7 +122,7 @@ with_fields-row o (false ∷ used) (column ∷ columns) (f ∷ fields) same_used
     )
 
 -- a row has a value for each used column
-row_width : (used : List Bool) (columns : List Values) (cells : List Cell) (row : Row) → length used ≡ length columns → length cells ≡ length columns
+row_width : (used : List Bool) (columns : List Values) (cells : List CsvCell) (row : Row) → length used ≡ length columns → length cells ≡ length columns
     → used_values used cells ≡ Some row → length row ≡ length (chosen used columns)
 row_width [] [] cells [] same_used same_cells is = refl
 row_width [] [] cells (v ∷ row) same_used same_cells is = absurd (cc)
@@ -131,13 +131,13 @@ row_width (u ∷ used) [] cells row same_used same_cells is = absurd (omega arit
 row_width (u ∷ used) (column ∷ columns) [] row same_used same_cells is = absurd (omega arith)
 row_width (false ∷ used) (column ∷ columns) (cell ∷ cells) row same_used same_cells is = row_width used columns cells row (omega arith) (omega arith) is
 row_width (true ∷ used) (column ∷ columns) (Bad ∷ cells) row same_used same_cells is = absurd (cc)
-row_width (true ∷ used) (column ∷ columns) (Held v ∷ cells) row same_used same_cells is = by (used_values used cells) refl (λ later found. row_width used columns cells later (omega arith) (omega arith) found)
+row_width (true ∷ used) (column ∷ columns) (Good v ∷ cells) row same_used same_cells is = by (used_values used cells) refl (λ later found. row_width used columns cells later (omega arith) (omega arith) found)
   where
     by : (found : Option Row) → used_values used cells ≡ found → ((later : Row) → used_values used cells ≡ Some later → length later ≡ length (chosen used columns))
         → length row ≡ suc (length (chosen used columns))
-    by None none later = absurd (let bad : used_values (true ∷ used) (Held v ∷ cells) ≡ None = rw none in cc)
+    by None none later = absurd (let bad : used_values (true ∷ used) (Good v ∷ cells) ≡ None = rw none in cc)
     by (Some x) some later =
-        let good : used_values (true ∷ used) (Held v ∷ cells) ≡ Some (v ∷ x) = rw some in
+        let good : used_values (true ∷ used) (Good v ∷ cells) ≡ Some (v ∷ x) = rw some in
         let same : v ∷ x ≡ row = cc in
         ap length (sym same) ∙ ap suc (later x some)
 
@@ -184,7 +184,7 @@ null_put (false ∷ used) (c ∷ columns) after column new one same is_u is_colu
 null_put (true ∷ v ∷ used) (c ∷ columns) after column new one same is_u is_column put written = absurd (omega arith)
 null_put (true ∷ []) (c ∷ d ∷ columns) after column new one same is_u is_column put written = absurd (omega arith)
 null_put (true ∷ []) (c ∷ []) after column new one same is_u is_column put written = (
-  Held values.Null ∷ [],
+  Good values.Null ∷ [],
   values.Null ∷ [],
   refl,
   refl,
@@ -199,7 +199,7 @@ null_unused [] (c ∷ columns) one same is_u = absurd (omega arith)
 null_unused (true ∷ used) (c ∷ columns) one same is_u = absurd (cc)
 null_unused (false ∷ v ∷ used) (c ∷ columns) one same is_u = absurd (omega arith)
 null_unused (false ∷ []) (c ∷ d ∷ columns) one same is_u = absurd (omega arith)
-null_unused (false ∷ []) (c ∷ []) one same is_u = (Held values.Null ∷ [], [], refl, refl, refl, refl)
+null_unused (false ∷ []) (c ∷ []) one same is_u = (Good values.Null ∷ [], [], refl, refl, refl, refl)
 
 -- the same of fields as they stand in the text
 field_shown : (fields : List RawField) (i : ℕ) (d : RawField) → i < length fields → get_or (map shown fields) i (shown (get_or fields i d)) ≡ shown (get_or fields i d)

@@ -3,16 +3,16 @@ use Rattle.std.proofs.Common.{◌≡◌, ℕ, suc, ◌+◌, ◌-◌, ◌<◌, �
 use Rattle.std.proofs.lemmas.List.{replicate_more, length-replicate, nil_from_length}
 use Rattle.std.specs.Prelude.{Option, Some, None, if◌then◌else◌}
 use Rattle.std.specs.Str.{is_utf8}
-use Rattle.morsel_meaning.specs.declared.ColType.{ColType}
-use Rattle.morsel_meaning.specs.declared.Fault.{Fault}
-use Rattle.morsel_meaning.specs.declared.Value.{Value}
-use Rattle.morsel_meaning.specs.declared.Field.{Field}
+use Rattle.morsel_meaning.specs.declared.value.ColType.{ColType}
+use Rattle.morsel_meaning.specs.declared.fault.Fault.{Fault}
+use Rattle.morsel_meaning.specs.declared.value.Value.{Value}
+use Rattle.morsel_meaning.specs.declared.value.Field.{Field}
 use Rattle.morsel_meaning.specs.Values.{Row, kinds_of}
 use Rattle.morsel_frame.specs.Columns.{Values}
 use Rattle.morsel_frame.specs.Frames.{with_column, rows_of, Fit}
 use Rattle.morsel_grammar.specs.Options.{Options}
 use Rattle.morsel_grammar.specs.Grammar.{CsvRecord, Fields}
-use Rattle.morsel_grammar.specs.Cells.{Cell}
+use Rattle.morsel_grammar.specs.Cells.{CsvCell}
 use Rattle.morsel_grammar.specs.Rows.{RowOf, IsRow, row_of, is_header}
 use Rattle.morsel_grammar.specs.Split.{record_at}
 use Rattle.morsel_grammar.specs.Reading.{Reading, Read, Refusal, NotUtf8, refuses, row_then, record_then, split_then, reading_up_to, read_of, used_values, chosen}
@@ -23,7 +23,7 @@ use Rattle.morsel_text.specs.Pushes.{column_kinds, with_row}
 use Rattle.morsel_text.specs.Steps.{left, row_first, Gains, AreHigh, empty_columns}
 
 -- a record's row
-pub row_read : (used : List Bool) (at : ℕ) (found : RowOf) (cells : List Cell) (row : Row) → found ≡ IsRow cells → used_values used cells ≡ Some row
+pub row_read : (used : List Bool) (at : ℕ) (found : RowOf) (cells : List CsvCell) (row : Row) → found ≡ IsRow cells → used_values used cells ≡ Some row
     → (later : Reading) → read_of used (row_then false at found later) ≡ row_first at (Some row) (read_of used later)
 row_read used at found cells row is values = λ later. rw (is, values)
 

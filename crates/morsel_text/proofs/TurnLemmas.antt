@@ -1,7 +1,7 @@
 -- What a turn of reading makes: one record, or a batch of them.
 use Rattle.std.proofs.Common.{◌≡◌, ℕ, ◌+◌, ◌-◌, ◌<◌, ◌≤◌, sym, ap, arith, refl, subst, Bool, false, List, [], ◌∷◌, suc, inl, inr, map, length, replicate}
 use Rattle.std.specs.Prelude.{Option, Some, Result, Ok, Err, IsUtf8}
-use Rattle.morsel_meaning.specs.declared.ColType.{ColType}
+use Rattle.morsel_meaning.specs.declared.value.ColType.{ColType}
 use Rattle.morsel_meaning.specs.Values.{Row}
 use Rattle.morsel_frame.specs.Columns.{Values}
 use Rattle.morsel_grammar.specs.Options.{Options, AreOptions}
@@ -9,7 +9,7 @@ use Rattle.morsel_grammar.specs.Grammar.{CsvRecord, Fields, IsRecord}
 use Rattle.morsel_grammar.specs.Split.{record_at}
 use Rattle.morsel_grammar.specs.Reading.{Read, read_of}
 use Rattle.morsel_text.specs.Pushes.{column_kinds}
-use Rattle.morsel_meaning.specs.declared.Fault.{Fault}
+use Rattle.morsel_meaning.specs.declared.fault.Fault.{Fault}
 use Rattle.morsel_text.specs.Steps.{left, row_first, Gains, StepsTo}
 use Rattle.morsel_text.specs.RawFields.{shown}
 use Rattle.morsel_text.specs.Batches.{spread_all, SplitsRows, AreMade, appended, PutsRows, TurnsTo}

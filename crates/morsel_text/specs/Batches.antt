@@ -1,12 +1,12 @@
 -- Many records at once: their fields column by column, and what the columns gain.
 use Rattle.std.specs.Prelude.{◌≡◌, ◌⊎◌, ℕ, ◌<◌, Bool, true, false, Some, Result, Ok, Err, IsUtf8, List, [], ◌∷◌, ◌++◌, map, length, replicate}
-use Rattle.morsel_meaning.specs.declared.ColType.{ColType}
-use Rattle.morsel_meaning.specs.declared.Fault.{Fault}
+use Rattle.morsel_meaning.specs.declared.value.ColType.{ColType}
+use Rattle.morsel_meaning.specs.declared.fault.Fault.{Fault}
 use Rattle.morsel_frame.specs.Columns.{Values}
 use Rattle.morsel_grammar.specs.Options.{Options}
 use Rattle.morsel_grammar.specs.Grammar.{Fields}
-use Rattle.morsel_meaning.specs.declared.Value.TheVariants as values
-use Rattle.morsel_grammar.specs.Cells.{Cell, Held, cell_of}
+use Rattle.morsel_meaning.specs.declared.value.Value.TheVariants as values
+use Rattle.morsel_grammar.specs.Cells.{CsvCell, Good, cell_of}
 use Rattle.morsel_grammar.specs.Rows.{is_empty}
 use Rattle.morsel_grammar.specs.Split.{record_at}
 use Rattle.morsel_text.specs.RawFields.{shown}
@@ -51,7 +51,7 @@ AreTextColumns (fields ∷ columns) = AreTexts (map shown fields) × AreTextColu
 
 -- the column of these fields' values
 abbrev pub IsColumnOf : Options → ColType → List RawField → Values → Type 0
-IsColumnOf o kind fields column = (column.kind ≡ kind) × (map Held column.values ≡ map (λ f. cell_of o kind (shown f)) fields)
+IsColumnOf o kind fields column = (column.kind ≡ kind) × (map Good column.values ≡ map (λ f. cell_of o kind (shown f)) fields)
 
 -- a column of values for each that is used, and one without values for each other
 abbrev pub AreMade : Options → List Bool → List ColType → List (List RawField) → List Values → Type 0
@@ -61,9 +61,9 @@ AreMade o (false ∷ used) (kind ∷ kinds) (fields ∷ batch) (column ∷ made)
 AreMade o used kinds batch made = ⊥
 
 -- what a field says in a column of numbers
-abbrev pub IsIntCell : Cell → IntCell → Type 0
-IsIntCell cell (ints.Number n) = cell ≡ Held (values.Int n)
-IsIntCell cell ints.Null = cell ≡ Held values.Null
+abbrev pub IsIntCell : CsvCell → IntCell → Type 0
+IsIntCell cell (ints.Number n) = cell ≡ Good (values.Int n)
+IsIntCell cell ints.Null = cell ≡ Good values.Null
 IsIntCell cell ints.Bad = Unit {0}
 IsIntCell cell ints.NoMemory = Unit {0}
 

@@ -1,15 +1,15 @@
 -- What the plain reader's steps find.
 use Rattle.std.specs.Prelude.{◌≡◌, ℕ, suc, ◌+◌, ◌-◌, Bool, false, Option, Some, None, Result, Ok, Err, List, [], ◌∷◌, ◌++◌, map, length, Vec}
 use Rattle.std.specs.declared.alloc.Global.{Global}
-use Rattle.morsel_meaning.specs.declared.ColType.{ColType}
-use Rattle.morsel_meaning.specs.declared.Value.{Value}
-use Rattle.morsel_meaning.specs.declared.Fault.{Fault}
+use Rattle.morsel_meaning.specs.declared.value.ColType.{ColType}
+use Rattle.morsel_meaning.specs.declared.value.Value.{Value}
+use Rattle.morsel_meaning.specs.declared.fault.Fault.{Fault}
 use Rattle.morsel_meaning.specs.Values.{Row}
 use Rattle.morsel_frame.specs.Columns.{Values}
 use Rattle.morsel_frame.specs.Frames.{rows_of}
 use Rattle.morsel_grammar.specs.Options.{Options}
 use Rattle.morsel_grammar.specs.Grammar.{CsvField, Comment, Fields}
-use Rattle.morsel_grammar.specs.Cells.{Cell, Held, Bad, cell_of}
+use Rattle.morsel_grammar.specs.Cells.{CsvCell, Good, Bad, cell_of}
 use Rattle.morsel_grammar.specs.Rows.{RowOf, NoRow, IsRow, Misfit}
 use Rattle.morsel_grammar.specs.Split.{with_field, ended, record_at}
 use Rattle.morsel_grammar.specs.Reading.{Reading, Read, row_then, read_of, used_values}
@@ -80,12 +80,12 @@ split_len splits.Broken = 0
 split_len splits.NoMemory = 0
 
 -- a value, or none that fits
-abbrev pub cell_in : Option Value → Cell
+abbrev pub cell_in : Option Value → CsvCell
 cell_in None = Bad
-cell_in (Some v) = Held v
+cell_in (Some v) = Good v
 
 -- the cells of fields under as many types
-abbrev pub cells_with : Options → List ColType → List CsvField → List Cell
+abbrev pub cells_with : Options → List ColType → List CsvField → List CsvCell
 cells_with o [] fields = []
 cells_with o (kind ∷ kinds) [] = []
 cells_with o (kind ∷ kinds) (f ∷ fields) = cell_of o kind f ∷ cells_with o kinds fields
@@ -97,10 +97,10 @@ values_in (Some values) = Some values.items
 
 -- what a record gives to the used columns
 abbrev pub GivesRow : RowOf → List Bool → PlainRow → Type 0
-GivesRow found used (rows.Row values) = (cells : List Cell) × (found ≡ IsRow cells) × (used_values used cells ≡ Some values.items)
+GivesRow found used (rows.Row values) = (cells : List CsvCell) × (found ≡ IsRow cells) × (used_values used cells ≡ Some values.items)
 GivesRow found used rows.NoRow = found ≡ NoRow
 GivesRow found used rows.Misfit = found ≡ Misfit
-GivesRow found used rows.Bad = (cells : List Cell) × (found ≡ IsRow cells) × (used_values used cells ≡ None)
+GivesRow found used rows.Bad = (cells : List CsvCell) × (found ≡ IsRow cells) × (used_values used cells ≡ None)
 GivesRow found used rows.NoMemory = Unit {0}
 
 -- the columns with a row below

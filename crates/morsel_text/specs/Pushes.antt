@@ -1,11 +1,11 @@
 -- What putting cells, and rows of them, into columns makes of the columns.
 use Rattle.std.specs.Prelude.{◌≡◌, Bool, true, false, Option, Some, None, List, [], ◌∷◌, ◌++◌, length, IsUtf8}
-use Rattle.morsel_meaning.specs.declared.ColType.{ColType}
+use Rattle.morsel_meaning.specs.declared.value.ColType.{ColType}
 use Rattle.morsel_meaning.specs.Values.{Row}
 use Rattle.morsel_frame.specs.Columns.{Values}
 use Rattle.morsel_grammar.specs.Options.{Options}
 use Rattle.morsel_grammar.specs.Grammar.{CsvField}
-use Rattle.morsel_grammar.specs.Cells.{Cell, Held, Bad, cell_of}
+use Rattle.morsel_grammar.specs.Cells.{CsvCell, Good, Bad, cell_of}
 use Rattle.morsel_grammar.specs.Rows.{RowOf, NoRow, IsRow, Misfit}
 use Rattle.morsel_grammar.specs.Reading.{chosen, used_values}
 use Rattle.morsel_text.specs.declared.cells.Pushed.{Pushed}
@@ -14,11 +14,11 @@ use Rattle.morsel_text.specs.declared.rows.RowPushed.{RowPushed}
 use Rattle.morsel_text.specs.declared.rows.RowPushed.TheVariants as rows
 
 -- the column with the cell last, where the cell is a value
-abbrev pub with_cell : Cell → Values → Option Values
-with_cell (Held v) column = Some (record column { values = column.values ++ v ∷ [] })
+abbrev pub with_cell : CsvCell → Values → Option Values
+with_cell (Good v) column = Some (record column { values = column.values ++ v ∷ [] })
 with_cell Bad column = None
 
-abbrev pub PushesCell : Cell → Values → Pushed → Values → Type 0
+abbrev pub PushesCell : CsvCell → Values → Pushed → Values → Type 0
 PushesCell cell old pushes.Done new = with_cell cell old ≡ Some new
 PushesCell cell old pushes.Bad new = with_cell cell old ≡ None
 PushesCell cell old pushes.NoMemory new = Unit {0}
@@ -62,9 +62,9 @@ with_row (false ∷ used) (column ∷ columns) row = column ∷ with_row used co
 
 -- what a record's row makes of the columns
 abbrev pub PushesRow : RowOf → List Bool → List Values → RowPushed → List Values → Type 0
-PushesRow found used old rows.Row new = (cells : List Cell) × (row : Row) × (found ≡ IsRow cells) × (used_values used cells ≡ Some row)
+PushesRow found used old rows.Row new = (cells : List CsvCell) × (row : Row) × (found ≡ IsRow cells) × (used_values used cells ≡ Some row)
     × (length row ≡ length (chosen used old)) × (new ≡ with_row used old row)
 PushesRow found used old rows.NoRow new = (found ≡ NoRow) × (new ≡ old)
 PushesRow found used old rows.Misfit new = found ≡ Misfit
-PushesRow found used old rows.Bad new = (cells : List Cell) × (found ≡ IsRow cells) × (used_values used cells ≡ None)
+PushesRow found used old rows.Bad new = (cells : List CsvCell) × (found ≡ IsRow cells) × (used_values used cells ≡ None)
 PushesRow found used old rows.NoMemory new = Unit {0}

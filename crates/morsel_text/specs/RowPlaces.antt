@@ -2,7 +2,7 @@
 use Rattle.std.specs.Prelude.{◌≡◌, ℕ, suc, ◌+◌, ◌-◌, Bool, false, List, [], length}
 use Rattle.morsel_meaning.specs.declared.value.ColType.{ColType}
 use Rattle.morsel_grammar.specs.Options.{Options}
-use Rattle.morsel_grammar.specs.Cells.{Cell}
+use Rattle.morsel_grammar.specs.Cells.{CsvCell}
 use Rattle.morsel_grammar.specs.Rows.{RowOf, NoRow, IsRow, Misfit}
 use Rattle.morsel_grammar.specs.Reading.{with_cells, reading_up_to}
 use Rattle.morsel_text.specs.declared.place.RowKind.{RowKind}
@@ -11,13 +11,13 @@ use Rattle.morsel_text.specs.declared.place.Skip.{Skip}
 use Rattle.morsel_text.specs.declared.place.Skip.TheVariants as skips
 
 abbrev pub IsKind : RowOf → RowKind → Type 0
-IsKind found kinds.Row = (cells : List Cell) × (found ≡ IsRow cells)
+IsKind found kinds.Row = (cells : List CsvCell) × (found ≡ IsRow cells)
 IsKind found kinds.NoRow = found ≡ NoRow
 IsKind found kinds.Misfit = found ≡ Misfit
 
 -- the record that a text begins with was passed
 abbrev pub SkipsTo : Options → List ColType → Bool → ℕ → List ℕ → Skip → Type 0
-SkipsTo o ks head at text (skips.Row rest) = (cells : List Cell) × ((n : ℕ) →
+SkipsTo o ks head at text (skips.Row rest) = (cells : List CsvCell) × ((n : ℕ) →
     reading_up_to (suc n) o ks head at text ≡ with_cells at cells (reading_up_to n o ks false (at + (length text - length rest.now)) rest.now))
 SkipsTo o ks head at text (skips.Other rest still) = (n : ℕ) →
     reading_up_to (suc n) o ks head at text ≡ reading_up_to n o ks still (at + (length text - length rest.now)) rest.now

@@ -1,13 +1,14 @@
 //! What texts say under a column's type.
 ghost use Rattle.std.specs.Prelude.{◌≡◌, None, false, IsUtf8};
-ghost use Rattle.morsel_meaning.specs.declared.ColType.TheVariants as types;
-ghost use Rattle.morsel_grammar.specs.Cells.{short_number, int_of, bool_of, value_of, cell_or_bad, cell_of};
+ghost use Rattle.morsel_meaning.specs.declared.value.ColType.TheVariants as types;
+ghost use Rattle.morsel_grammar.specs.Cells.{short_number, int_of, bool_of, value_written, cell_or_bad, cell_of};
 ghost use Rattle.morsel_text.specs.RawFields.{shown};
 ghost use Rattle.morsel_text.specs.Pushes.{PushesCell};
 
-use crate::CsvOptions;
+use morsel_grammar::CsvOptions;
 use crate::split::{RawField, unquote};
-use morsel_frame::{ColType, Column};
+use morsel_frame::Column;
+use morsel_meaning::ColType;
 use std::str::from_utf8_unchecked;
 
 /// So many digits are always a number below 2 to the power of 63.
@@ -82,7 +83,7 @@ fn push_misfit(column: &mut Column, options: &CsvOptions) -> Pushed
 #[inline(always)]
 fn push_int(column: &mut Column, text: &str, options: &CsvOptions) -> Pushed
     requires { column.old.kind ≡ types.Int }
-    ensures { PushesCell (cell_or_bad options.now.ignore_errors (value_of types.Int text.now))
+    ensures { PushesCell (cell_or_bad options.now.ignore_errors (value_written types.Int text.now))
         column.old result column.new }
 {
     let Some(number) = int_of(text) else {
@@ -97,7 +98,7 @@ fn push_int(column: &mut Column, text: &str, options: &CsvOptions) -> Pushed
 /// Puts the truth value that a text names.
 fn push_bool(column: &mut Column, text: &str, options: &CsvOptions) -> Pushed
     requires { column.old.kind ≡ types.Bool }
-    ensures { PushesCell (cell_or_bad options.now.ignore_errors (value_of types.Bool text.now))
+    ensures { PushesCell (cell_or_bad options.now.ignore_errors (value_written types.Bool text.now))
         column.old result column.new }
 {
     let Some(flag) = bool_of(text) else {
@@ -113,7 +114,7 @@ fn push_bool(column: &mut Column, text: &str, options: &CsvOptions) -> Pushed
 #[inline(always)]
 fn push_text(column: &mut Column, text: &str, options: &CsvOptions) -> Pushed
     requires { column.old.kind ≡ types.Text }
-    ensures { PushesCell (cell_or_bad options.now.ignore_errors (value_of types.Text text.now))
+    ensures { PushesCell (cell_or_bad options.now.ignore_errors (value_written types.Text text.now))
         column.old result column.new }
 {
     let Ok(()) = column.push_text(text) else {
@@ -125,7 +126,7 @@ fn push_text(column: &mut Column, text: &str, options: &CsvOptions) -> Pushed
 /// Puts what a text says under the column's type.
 #[inline(always)]
 fn push_value(column: &mut Column, text: &str, options: &CsvOptions) -> Pushed
-    ensures { PushesCell (cell_or_bad options.now.ignore_errors (value_of column.old.kind text.now))
+    ensures { PushesCell (cell_or_bad options.now.ignore_errors (value_written column.old.kind text.now))
         column.old result column.new }
 {
     match column.kind() {

@@ -3,7 +3,8 @@ ghost use Rattle.std.specs.Prelude.{◌≡◌, length, IfOk, IsOkUnless};
 ghost use Rattle.morsel_grammar.specs.Reading.{chosen};
 ghost use Rattle.morsel_text.specs.Steps.{empty_columns};
 
-use morsel_frame::{ColType, Column, Fault, Field, Schema};
+use morsel_frame::{Column, Schema};
+use morsel_meaning::{ColType, Fault, Field};
 use std::alloc::Global;
 use std::mem::replace;
 

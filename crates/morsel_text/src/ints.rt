@@ -1,12 +1,12 @@
 //! Columns of numbers, made from fields.
 ghost use Rattle.std.specs.Prelude.{◌≡◌, map, IsUtf8};
-ghost use Rattle.morsel_meaning.specs.declared.ColType.TheVariants as types;
-ghost use Rattle.morsel_grammar.specs.Cells.{value_of, cell_or_bad, cell_of};
+ghost use Rattle.morsel_meaning.specs.declared.value.ColType.TheVariants as types;
+ghost use Rattle.morsel_grammar.specs.Cells.{value_written, cell_or_bad, cell_of};
 ghost use Rattle.morsel_text.specs.RawFields.{shown};
 ghost use Rattle.morsel_text.specs.Pushes.{AreTexts};
 ghost use Rattle.morsel_text.specs.Batches.{IsIntCell, MakesColumn};
 
-use crate::CsvOptions;
+use morsel_grammar::CsvOptions;
 use crate::batch::Made;
 use crate::cells::int_of;
 use crate::split::{RawField, unquote};
@@ -29,7 +29,7 @@ pub enum IntCell {
 /// What a text that is no null says.
 #[inline(always)]
 fn number_cell(text: &str, options: &CsvOptions) -> IntCell
-    ensures { IsIntCell (cell_or_bad options.now.ignore_errors (value_of types.Int text.now)) result }
+    ensures { IsIntCell (cell_or_bad options.now.ignore_errors (value_written types.Int text.now)) result }
 {
     if let Some(number) = int_of(text) {
         return IntCell::Number(number);

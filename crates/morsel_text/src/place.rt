@@ -9,11 +9,12 @@ ghost use Rattle.morsel_grammar.specs.Reading.{reading, row_place};
 ghost use Rattle.morsel_text.specs.RawFields.{shown};
 ghost use Rattle.morsel_text.specs.RowPlaces.{IsKind, SkipsTo, skip_len};
 
-use crate::CsvOptions;
+use morsel_grammar::CsvOptions;
 use crate::rows::is_empty;
 use crate::split::{RawField, Split, split_record};
 use crate::text::is_text;
-use morsel_frame::{Fault, Schema};
+use morsel_frame::Schema;
+use morsel_meaning::Fault;
 use std::alloc::Global;
 
 /// What a record of fields is to the rows.

@@ -16,11 +16,12 @@ mod columns;
 mod records;
 mod rows;
 
-use crate::CsvOptions;
+use morsel_grammar::CsvOptions;
 use crate::choice::{chosen_fields, columns_of};
 use crate::text::is_text;
 use columns::push_row;
-use morsel_frame::{Column, ComputeKind, Fault, Frame, Schema};
+use morsel_frame::{Column, Frame, Schema};
+use morsel_meaning::{ComputeKind, Fault};
 use records::{PlainField, PlainSplit, is_empty, split};
 use rows::{PlainRow, row};
 use std::alloc::Global;

@@ -12,13 +12,14 @@ ghost use Rattle.morsel_text.specs.Pushes.{column_kinds, AreTexts};
 ghost use Rattle.morsel_text.specs.Steps.{RowStepsTo, StepsTo, AreHigh, ReadsAll, ReadsColumns};
 ghost use Rattle.morsel_text.specs.Batches.{TurnsTo};
 
-use crate::CsvOptions;
+use morsel_grammar::CsvOptions;
 use crate::batch::{BatchRead, read_batch};
 use crate::choice::{chosen_columns, chosen_fields, columns_of};
 use crate::rows::{RowPushed, is_empty, push_record};
 use crate::split::{RawField, Split, split_record};
 use crate::text::is_text;
-use morsel_frame::{Column, ComputeKind, Fault, Frame, Schema};
+use morsel_frame::{Column, Frame, Schema};
+use morsel_meaning::{ComputeKind, Fault};
 use std::alloc::Global;
 
 /// A record that was read.

@@ -5,7 +5,7 @@ ghost use Rattle.morsel_grammar.specs.Grammar.{Fields};
 ghost use Rattle.morsel_grammar.specs.Rows.{is_empty, row_of, row_of_nothing};
 ghost use Rattle.morsel_text.specs.Pushes.{with_fields, PushesFields, AreTexts, column_kinds, PushesRow};
 
-use crate::CsvOptions;
+use morsel_grammar::CsvOptions;
 use crate::cells::{Pushed, push_cell};
 use crate::split::RawField;
 use morsel_frame::Column;

@@ -8,10 +8,10 @@ ghost use Rattle.morsel_text.specs.RawFields.{IsRun, PassedTo, content_of, shown
 
 mod line;
 
-use crate::CsvOptions;
+use morsel_grammar::CsvOptions;
 use line::split_short;
 use memchr::memchr;
-use morsel_frame::Fault;
+use morsel_meaning::Fault;
 use std::simd::prelude::*;
 
 /// How many bytes are looked at at once.

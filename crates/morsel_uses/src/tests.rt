@@ -1,7 +1,8 @@
 //! Each public call once with ample memory, with values worked out by hand.
 ghost use Rattle.std.specs.Prelude.{◌≡◌, IfOk};
 
-use morsel_frame::{ColType, Column, Fault};
+use morsel_frame::Column;
+use morsel_meaning::{ColType, Fault};
 use std::alloc::Global;
 
 mod columns;

@@ -1,7 +1,7 @@
 //! The questions and the changes of which the machine's events are made, each on the lists that it reads or writes.
 ghost use Rattle.std.specs.Prelude.{◌≡◌, ◌||◌, true, false, [], slice_index_or, slice_set};
 ghost use Rattle.std.specs.List.{list_any};
-ghost use Rattle.morsel_exec.specs.Machine.{State, after, allowed, delivered, holds, is_free, is_live, is_notified, is_open, is_pending, is_polled, is_polling, is_queued, is_task, names, pended, quiet, turned, with_wake};
+ghost use Rattle.morsel_exec.specs.Machine.{State, after, allowed, delivered, is_awaited_by, is_free, is_live, is_notified, is_open, is_pending, is_polled, is_polling, is_queued, is_task, names, pended, quiet, turned, with_wake};
 
 use super::{End, Event, TaskAt};
 use morsel_meaning::TaskNo;
@@ -173,19 +173,19 @@ fn is_free(tasks: &Vec<Option<TaskAt>>, waiting: Option<TaskNo>, task: TaskNo) -
 /// Whether the task is registered at an end that is not ready, or a wake of it is under way.
 fn is_waiting(ends: &Vec<End>, wakes: &Vec<bool>, task: TaskNo) -> bool
     ensures { result
-        ≡ (list_any (λ end. holds end task.0) ends.now.items || slice_index_or wakes.now.items task.0 false) }
+        ≡ (list_any (λ end. is_awaited_by end task.0) ends.now.items || slice_index_or wakes.now.items task.0 false) }
 {
     is_registered(ends, task) || is_woken(wakes, task)
 }
 
 fn is_registered(ends: &Vec<End>, task: TaskNo) -> bool
-    ensures { result ≡ list_any (λ end. holds end task.0) ends.now.items }
+    ensures { result ≡ list_any (λ end. is_awaited_by end task.0) ends.now.items }
 {
-    ends.iter().any(|end| holds(*end, task))
+    ends.iter().any(|end| is_awaited_by(*end, task))
 }
 
-fn holds(end: End, task: TaskNo) -> bool
-    ensures { result ≡ holds end task.0 }
+fn is_awaited_by(end: End, task: TaskNo) -> bool
+    ensures { result ≡ is_awaited_by end task.0 }
 {
     !end.ready && names(end.waiting, task)
 }

@@ -1,6 +1,7 @@
 //! Each call to the outside fails in turn, and each write after each number of bytes.
 use super::{ROWS, SCHEMA, TEXT, after};
-use morsel_frame::{Fault, MemIo};
+use morsel_meaning::Fault;
+use morsel_outside::MemIo;
 use std::alloc::Global;
 use std::process::Abort;
 use std::test::Fail;

@@ -1,13 +1,14 @@
 //! Over an outside in memory that never fails, no count of faults can rise, so every valid file is answered.
 ghost use Rattle.std.specs.Prelude.{map};
 ghost use Rattle.std.specs.String.{string_bytes};
-ghost use Rattle.morsel_frame.specs.Memory.{sure};
+ghost use Rattle.morsel_outside.specs.Memory.{sure};
 ghost use Rattle.morsel_prog.specs.Words.{command_of};
 ghost use Rattle.morsel_prog.specs.Complete.{IsValidCommand, IsDone};
 
 use super::{ROWS, TEXT, files, words_of};
 use crate::program::{local_main, morsel_main};
-use morsel_frame::{Fault, OpenGate, SureMemIo};
+use morsel_meaning::Fault;
+use morsel_outside::{OpenGate, SureMemIo};
 use std::alloc::Global;
 use std::process::Abort;
 use std::sync::Wait;

@@ -4,7 +4,8 @@ ghost use Rattle.morsel_meaning.specs.Values.{IsOfType, FitsRow};
 ghost use Rattle.morsel_text.specs.Pushes.{column_kinds};
 ghost use Rattle.morsel_text.specs.Plain.{with_values};
 
-use morsel_frame::{Column, Fault, Value};
+use morsel_frame::Column;
+use morsel_meaning::{Fault, Value};
 
 /// Puts a row of values below the columns.
 pub fn push_row(columns: &mut Vec<Column>, values: &[Value]) -> Result<(), Fault>

@@ -6,7 +6,7 @@ ghost use Rattle.morsel_grammar.specs.Rows.{is_empty};
 ghost use Rattle.morsel_grammar.specs.Split.{stops, plain_at, quoted_at, in_quotes, field_at, fields_then, returned, without_return, last_field, fields_up_to, behind_front, line_at, begins};
 ghost use Rattle.morsel_text.specs.Plain.{IsFound, found_len, next_of, next_len, AreFound, SplitsInto, split_len};
 
-use crate::CsvOptions;
+use morsel_grammar::CsvOptions;
 use std::alloc::Global;
 use std::marker::Model;
 

@@ -1,17 +1,18 @@
 //! The values that a record gives to the used columns.
 ghost use Rattle.std.specs.Prelude.{◌≡◌, length, IfOk, IsOkUnless, None, List, IsUtf8};
-ghost use Rattle.morsel_meaning.specs.declared.ColType.{ColType};
+ghost use Rattle.morsel_meaning.specs.declared.value.ColType.{ColType};
 ghost use Rattle.morsel_meaning.specs.Values.{kinds_of};
 ghost use Rattle.morsel_grammar.specs.Grammar.{Fields};
-ghost use Rattle.morsel_grammar.specs.Cells.{int_of, bool_of, int_value, bool_value, value_of, cell_or_bad, cell_of};
+ghost use Rattle.morsel_grammar.specs.Cells.{int_of, bool_of, int_value, bool_value, value_written, cell_or_bad, cell_of};
 ghost use Rattle.morsel_grammar.specs.Rows.{row_of, row_of_nothing};
 ghost use Rattle.morsel_grammar.specs.Reading.{used_values};
 ghost use Rattle.morsel_text.specs.Pushes.{AreTexts};
 ghost use Rattle.morsel_text.specs.Plain.{cell_in, cells_with, values_in, GivesRow};
 
-use crate::CsvOptions;
+use morsel_grammar::CsvOptions;
 use crate::plain::records::{PlainField, is_empty};
-use morsel_frame::{ColType, Fault, Name, Schema, Value};
+use morsel_frame::Schema;
+use morsel_meaning::{ColType, Fault, Name, Value};
 use std::alloc::Global;
 use std::str::from_utf8_unchecked;
 
@@ -132,7 +133,7 @@ fn misfit(options: &CsvOptions) -> Option<Value>
 
 /// What a text says under a type, if anything.
 fn value(alloc: Global, text: &str, kind: ColType) -> Result<Option<Value>, Fault>
-    ensures value { IfOk result (λ found. found ≡ value_of kind text.now) }
+    ensures value { IfOk result (λ found. found ≡ value_written kind text.now) }
     ensures out_of_memory { IsOkUnless result Fault.OutOfMemory }
 {
     match kind {

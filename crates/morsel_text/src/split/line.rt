@@ -6,7 +6,7 @@ ghost use Rattle.morsel_text.specs.RawFields.{FieldsAre};
 ghost use Rattle.morsel_text.specs.Lines.{IsPlainLine, Marks};
 ghost use Rattle.morsel_text.specs.declared.split.Split.TheVariants as splits;
 
-use crate::CsvOptions;
+use morsel_grammar::CsvOptions;
 use crate::split::{RawField, last};
 use std::simd::prelude::*;
 

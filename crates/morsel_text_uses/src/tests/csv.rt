@@ -1,8 +1,10 @@
 //! Texts with the rows that they have, or the place of the record that is refused, worked out by hand.
 mod plain;
 
-use morsel_frame::{Cell, ColType, ComputeKind, Fault, Field, Frame, Name, Schema};
-use morsel_text::{CsvOptions, place_of_row, read_records};
+use morsel_frame::{Cell, Frame, Schema};
+use morsel_meaning::{ColType, ComputeKind, Fault, Field, Name};
+use morsel_grammar::CsvOptions;
+use morsel_text::{place_of_row, read_records};
 use std::alloc::Global;
 use std::process::Abort;
 use std::test::Fail;

@@ -1,6 +1,7 @@
 //! The lines of NDJSON, compared with those that RFC 8259 asks for.
-use morsel_frame::{ColType, Column, Fault, Field, Frame, Name, Schema};
-use morsel_text::write_ndjson;
+use morsel_frame::{Column, Frame, Schema};
+use morsel_meaning::{ColType, Fault, Field, Name};
+use morsel_ndjson::write_ndjson;
 use std::alloc::Global;
 use std::process::Abort;
 use std::test::Fail;

@@ -1,6 +1,8 @@
 //! A scan called by itself over each outside in memory.
 use morsel_engine::run_scan;
-use morsel_frame::{AskedFor, ColType, Fault, Field, Io, MemIo, Memory, Name, Schema, SureMemIo};
+use morsel_frame::Schema;
+use morsel_meaning::{ColType, Fault, Field, Name};
+use morsel_outside::{AskedFor, Io, MemIo, Memory, SureMemIo};
 use std::alloc::Global;
 use std::test::Fail;
 

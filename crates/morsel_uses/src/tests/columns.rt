@@ -1,6 +1,7 @@
 //! Columns, and the texts that they lend: each public call once with ample memory.
 use super::column_of;
-use morsel_frame::{Cell, ColType, Column, Fault, Name, Texts, Value};
+use morsel_frame::{Cell, Column, Texts};
+use morsel_meaning::{ColType, Fault, Name, Value};
 use std::alloc::Global;
 use std::process::Abort;
 use std::test::Fail;

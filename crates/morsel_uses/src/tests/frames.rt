@@ -1,6 +1,7 @@
 //! Frames: each public call once with ample memory, on small tables.
 use super::column_of;
-use morsel_frame::{Cell, ColType, Fault, Field, Frame, Name, Schema};
+use morsel_frame::{Cell, Frame, Schema};
+use morsel_meaning::{ColType, Fault, Field, Name};
 use std::alloc::Global;
 use std::test::Fail;
 

@@ -1,6 +1,7 @@
 //! The outside in memory whose numbered calls fail.
 use super::told::{has_asked, has_event, has_line, has_opened, has_sink};
-use morsel_frame::{AskedFor, Fault, FileNo, Io, IoErr, IoEvent, MemIo, Memory, Name};
+use morsel_meaning::{Fault, Name};
+use morsel_outside::{AskedFor, FileNo, Io, IoErr, IoEvent, MemIo, Memory};
 use std::alloc::Global;
 use std::test::Fail;
 

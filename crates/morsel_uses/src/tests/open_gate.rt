@@ -1,5 +1,6 @@
 //! The gate that lets every poll through.
-use morsel_frame::{Gate, OpenGate, TaskNo};
+use morsel_meaning::TaskNo;
+use morsel_outside::{Gate, OpenGate};
 
 #[test]
 fn every_poll_passes() {

@@ -1,5 +1,6 @@
 //! Schemas of two names.
-use morsel_frame::{ColType, Fault, Field, Name, Schema};
+use morsel_frame::Schema;
+use morsel_meaning::{ColType, Fault, Field, Name};
 use std::alloc::Global;
 use std::test::Fail;
 

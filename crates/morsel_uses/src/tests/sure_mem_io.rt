@@ -1,9 +1,10 @@
 //! The outside in memory that never fails.
 ghost use Rattle.std.specs.Prelude.{IsOkUnless};
-ghost use Rattle.morsel_meaning.specs.Calls.{Opens};
+ghost use Rattle.morsel_outside.specs.Calls.{Opens};
 
 use super::told::{has_asked, has_event, has_line, has_sink};
-use morsel_frame::{AskedFor, Fault, FileNo, Io, IoErr, IoEvent, Memory, Name, SureMemIo};
+use morsel_meaning::{Fault, Name};
+use morsel_outside::{AskedFor, FileNo, Io, IoErr, IoEvent, Memory, SureMemIo};
 use std::alloc::Global;
 use std::test::Fail;
 

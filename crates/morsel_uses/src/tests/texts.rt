@@ -1,5 +1,6 @@
 //! Buffers of texts: each public call once with ample memory.
-use morsel_frame::{Fault, Texts};
+use morsel_frame::Texts;
+use morsel_meaning::Fault;
 use std::alloc::Global;
 use std::process::Abort;
 use std::test::Fail;

@@ -1,5 +1,5 @@
 //! What an outside in memory tells, compared with what was done.
-use morsel_frame::{AskedFor, FileNo, IoEvent, Memory};
+use morsel_outside::{AskedFor, FileNo, IoEvent, Memory};
 
 /// Whether one file is open, and has these bytes.
 pub(super) fn has_opened(memory: &Memory, bytes: &[u8]) -> bool {

@@ -1,5 +1,5 @@
 use Rattle.std.proofs.Common.{◌≡◌, take}
-use Rattle.morsel_meaning.specs.declared.Value.TheVariants as values
+use Rattle.morsel_meaning.specs.declared.value.Value.TheVariants as values
 use Rattle.morsel_expr.specs.Answers.{answered_pairs}
 use Rattle.morsel_expr.proofs.answers.answer_text_pairs.Given as goal
 

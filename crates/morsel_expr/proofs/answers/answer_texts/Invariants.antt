@@ -1,5 +1,5 @@
 use Rattle.std.proofs.Common.{◌≡◌, take}
-use Rattle.morsel_meaning.specs.declared.Value.TheVariants as values
+use Rattle.morsel_meaning.specs.declared.value.Value.TheVariants as values
 use Rattle.morsel_expr.specs.Answers.{answered}
 use Rattle.morsel_expr.proofs.answers.answer_texts.Given as goal
 

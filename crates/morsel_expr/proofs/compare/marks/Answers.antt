@@ -1,5 +1,5 @@
 use Rattle.std.proofs.Common.{refl, sym, ◌∙◌}
-use Rattle.morsel_meaning.specs.declared.Value.TheVariants as values
+use Rattle.morsel_meaning.specs.declared.value.Value.TheVariants as values
 use Rattle.morsel_expr.proofs.CompareLemmas.{marks-masked}
 use Rattle.morsel_expr.proofs.compare.marks.Goals as goal
 

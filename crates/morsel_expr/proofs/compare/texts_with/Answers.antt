@@ -1,5 +1,5 @@
 use Rattle.std.proofs.Common.{refl}
-use Rattle.morsel_meaning.specs.declared.Value.TheVariants as values
+use Rattle.morsel_meaning.specs.declared.value.Value.TheVariants as values
 use Rattle.morsel_expr.proofs.CompareLemmas.{answered-masked}
 use Rattle.morsel_expr.proofs.compare.texts_with.Goals as goal
 

@@ -1,5 +1,5 @@
 use Rattle.std.proofs.Common.{◌≡◌}
-use Rattle.morsel_meaning.specs.declared.ColType.TheVariants as types
+use Rattle.morsel_meaning.specs.declared.value.ColType.TheVariants as types
 use Rattle.morsel_expr.proofs.tests.numbers_of.Given as goal
 
 abbrev pub invariant-loop-number : goal.invariant-loop-number

@@ -1,6 +1,6 @@
 use Rattle.std.proofs.Common.{◌∙◌, sym, refl, map, true}
 use Rattle.std.proofs.lemmas.List.{length-map, length-replicate}
-use Rattle.morsel_meaning.specs.declared.Value.TheVariants as values
+use Rattle.morsel_meaning.specs.declared.value.Value.TheVariants as values
 use Rattle.morsel_frame.specs.Made.{counted}
 use Rattle.morsel_frame.proofs.BesideLemmas.{length-counted, masked-all}
 use Rattle.morsel_frame.proofs.made.counted_column.Goals as goal

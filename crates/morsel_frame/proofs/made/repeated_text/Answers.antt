@@ -1,6 +1,6 @@
 use Rattle.std.proofs.Common.{refl, replicate}
 use Rattle.std.proofs.lemmas.List.{length-replicate}
-use Rattle.morsel_meaning.specs.declared.Value.TheVariants as values
+use Rattle.morsel_meaning.specs.declared.value.Value.TheVariants as values
 use Rattle.morsel_frame.proofs.ColumnLemmas.{map-replicate}
 use Rattle.morsel_frame.proofs.BesideLemmas.{masked-all}
 use Rattle.morsel_frame.proofs.made.repeated_text.Goals as goal

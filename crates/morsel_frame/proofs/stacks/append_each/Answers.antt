@@ -1,5 +1,5 @@
 use Rattle.std.proofs.Common.{arith, ap, length, ◌∙◌, ◌≡◌, List, ◌++◌, get_or, set, add-one}
-use Rattle.morsel_meaning.specs.declared.Value.{Value}
+use Rattle.morsel_meaning.specs.declared.value.Value.{Value}
 use Rattle.morsel_frame.specs.Columns.{Values}
 use Rattle.morsel_frame.specs.Stacks.{stacked_up_to}
 use Rattle.morsel_frame.proofs.StackLemmas.{length-alike, length-stacked, get_or-stacked, alike-at, set-stacked, range-whole}

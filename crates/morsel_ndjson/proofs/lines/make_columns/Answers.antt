@@ -1,6 +1,6 @@
 use Rattle.std.proofs.Common.{◌≡◌, length, ap, ◌∙◌, arith}
 use Rattle.std.proofs.lemmas.List.{length-map}
-use Rattle.morsel_meaning.specs.declared.Field.{Field}
+use Rattle.morsel_meaning.specs.declared.value.Field.{Field}
 use Rattle.morsel_meaning.specs.Values.{names_of}
 use Rattle.morsel_ndjson.proofs.MemberLemmas.{length_beginnings}
 use Rattle.morsel_ndjson.proofs.lines.make_columns.Goals as goal

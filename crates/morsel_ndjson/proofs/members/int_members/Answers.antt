@@ -4,8 +4,8 @@ use Rattle.std.specs.Int.{w64}
 use Rattle.std.proofs.lemmas.Int.{to_z-of_z}
 use mir.Val.{SFits}
 use Rattle.std.proofs.lemmas.List.{take_all, length-map, get_or-map}
-use Rattle.morsel_meaning.specs.declared.Value.{Value}
-use Rattle.morsel_meaning.specs.declared.Value.TheVariants.{Int, Null}
+use Rattle.morsel_meaning.specs.declared.value.Value.{Value}
+use Rattle.morsel_meaning.specs.declared.value.Value.TheVariants.{Int, Null}
 use Rattle.morsel_frame.specs.Cells.{value_of}
 use Rattle.morsel_ndjson.specs.Ndjson.{json_value}
 use Rattle.morsel_ndjson.proofs.MemberLemmas.{members_of_more, length_members}

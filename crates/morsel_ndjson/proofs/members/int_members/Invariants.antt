@@ -1,5 +1,5 @@
 use Rattle.std.proofs.Common.{◌≡◌, take, map}
-use Rattle.morsel_meaning.specs.declared.Value.TheVariants.{Int}
+use Rattle.morsel_meaning.specs.declared.value.Value.TheVariants.{Int}
 use Rattle.morsel_frame.specs.Columns.{masked}
 use Rattle.morsel_ndjson.specs.Members.{column_members}
 use Rattle.morsel_ndjson.proofs.members.int_members.Given as goal

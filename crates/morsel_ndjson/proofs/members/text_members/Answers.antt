@@ -1,7 +1,7 @@
 use Rattle.std.proofs.Common.{◌≡◌, ◌<◌, ◌++◌, ◌∷◌, [], ◌∙◌, List, ℕ, false, if◌then◌else◌, length, get_or, map, ap, sym, arith}
 use Rattle.std.proofs.lemmas.List.{take_all, length-map, get_or-map}
-use Rattle.morsel_meaning.specs.declared.Value.{Value}
-use Rattle.morsel_meaning.specs.declared.Value.TheVariants.{Text, Null}
+use Rattle.morsel_meaning.specs.declared.value.Value.{Value}
+use Rattle.morsel_meaning.specs.declared.value.Value.TheVariants.{Text, Null}
 use Rattle.morsel_frame.specs.Cells.{value_of}
 use Rattle.morsel_ndjson.specs.Ndjson.{json_value}
 use Rattle.morsel_ndjson.proofs.MemberLemmas.{members_of_more, length_members}

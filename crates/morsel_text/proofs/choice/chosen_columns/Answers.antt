@@ -1,7 +1,7 @@
 use Rattle.std.proofs.Common.{arith, []}
 use Rattle.morsel_grammar.specs.Reading.{chosen}
 use Rattle.morsel_frame.specs.Columns.{Values}
-use Rattle.morsel_meaning.specs.declared.ColType.TheVariants as types
+use Rattle.morsel_meaning.specs.declared.value.ColType.TheVariants as types
 use Rattle.morsel_text.proofs.ChoiceLemmas.{kept_skip}
 use Rattle.morsel_text.proofs.choice.chosen_columns.Goals as goal
 

@@ -1,7 +1,7 @@
 use Rattle.std.proofs.Common.{◌∙◌, ap, arith, ◌∷◌, [], ◌++◌}
 use Rattle.morsel_grammar.specs.Reading.{chosen}
-use Rattle.morsel_meaning.specs.declared.Field.{Field}
-use Rattle.morsel_meaning.specs.declared.ColType.TheVariants as types
+use Rattle.morsel_meaning.specs.declared.value.Field.{Field}
+use Rattle.morsel_meaning.specs.declared.value.ColType.TheVariants as types
 use Rattle.morsel_text.proofs.ChoiceLemmas.{copied_more, kept_skip}
 use Rattle.morsel_text.proofs.choice.chosen_fields.Goals as goal
 

@@ -1,6 +1,6 @@
 use Rattle.std.proofs.Common.{◌≡◌, length, map, take}
-use Rattle.morsel_meaning.specs.declared.ColType.TheVariants as types
-use Rattle.morsel_meaning.specs.declared.Value.TheVariants as values
+use Rattle.morsel_meaning.specs.declared.value.ColType.TheVariants as types
+use Rattle.morsel_meaning.specs.declared.value.Value.TheVariants as values
 use Rattle.morsel_frame.specs.Columns.{masked}
 use Rattle.morsel_text.specs.Batches.{IsColumnOf}
 use Rattle.morsel_text.proofs.ints.int_column.Given as goal

@@ -1,6 +1,6 @@
 use Rattle.std.proofs.Common.{◌∙◌, List, sym, ap, subst, refl}
 use Rattle.std.specs.Prelude.{Some}
-use Rattle.morsel_meaning.specs.declared.ColType.{ColType}
+use Rattle.morsel_meaning.specs.declared.value.ColType.{ColType}
 use Rattle.morsel_meaning.specs.Values.{Row, FitsRow, kinds_of}
 use Rattle.morsel_text.specs.Pushes.{column_kinds}
 use Rattle.morsel_text.specs.Plain.{with_values}

@@ -1,5 +1,5 @@
 use Rattle.std.proofs.Common.{◌≡◌, ◌∙◌, ℕ, sym, ap, subst, length, List, map}
-use Rattle.morsel_meaning.specs.declared.ColType.{ColType}
+use Rattle.morsel_meaning.specs.declared.value.ColType.{ColType}
 use Rattle.morsel_meaning.specs.Values.{Row, kinds_of}
 use Rattle.morsel_frame.specs.Columns.{Values}
 use Rattle.morsel_frame.specs.Frames.{rows_of, Fit}

@@ -1,7 +1,9 @@
 //! Both readers over every short text of six bytes that the rules of CSV name.
 use super::schema;
-use morsel_frame::{ColType, Fault, Frame, Schema};
-use morsel_text::{CsvOptions, read_records, read_records_plainly};
+use morsel_frame::{Frame, Schema};
+use morsel_meaning::{ColType, Fault};
+use morsel_grammar::CsvOptions;
+use morsel_text::{read_records, read_records_plainly};
 use std::alloc::Global;
 use std::process::Abort;
 use std::test::Fail;

@@ -1,6 +1,6 @@
 use Rattle.std.proofs.Common.{arith, ◌∙◌, ap, sym, subst, length, List}
 use Rattle.morsel_meaning.specs.Values.{Table}
-use Rattle.morsel_meaning.specs.declared.Field.{Field}
+use Rattle.morsel_meaning.specs.declared.value.Field.{Field}
 use Rattle.morsel_frame.specs.Frames.{IsFramed}
 use Rattle.morsel_frame.specs.Tables.{difference}
 use Rattle.morsel_frame.proofs.SameFields.{same-fields}

@@ -1,6 +1,6 @@
 use Rattle.std.proofs.Common.{arith, ◌≡◌, ◌∙◌, ◌<◌, [], ◌∷◌, ap, sym, length, refl}
 use Rattle.std.proofs.lemmas.List.{nil_from_length}
-use Rattle.morsel_meaning.specs.declared.ColType.TheVariants as types
+use Rattle.morsel_meaning.specs.declared.value.ColType.TheVariants as types
 use Rattle.morsel_frame.specs.Refusals.{first_fault, index_fault, repeat_fault}
 use Rattle.morsel_frame.proofs.FrameLemmas.{length-framed}
 use Rattle.morsel_frame.proofs.BesideLemmas.{field_of, framed-with_index, rows-with_index, no_index_fault, index_fits, index_too_large}

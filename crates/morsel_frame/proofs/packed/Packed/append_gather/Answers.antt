@@ -1,5 +1,5 @@
 use Rattle.std.specs.Prelude.{pos, false, []}
-use Rattle.morsel_meaning.specs.declared.Value.TheVariants as values
+use Rattle.morsel_meaning.specs.declared.value.Value.TheVariants as values
 use Rattle.morsel_frame.proofs.ColumnLemmas.{kept_gather}
 use Rattle.morsel_frame.proofs.packed.Packed.append_gather.Goals as goal
 use Rattle.morsel_frame.proofs.packed.Packed.append_gather.Goals.{in-Int-Int, in-Bool-Bool, in-Text-Text}

@@ -1,4 +1,4 @@
-use Rattle.morsel_meaning.specs.declared.Value.TheVariants as values
+use Rattle.morsel_meaning.specs.declared.value.Value.TheVariants as values
 use Rattle.morsel_frame.proofs.RangeLemmas.{kept_range}
 use Rattle.morsel_frame.proofs.packed.Packed.append_range.Goals as goal
 use Rattle.morsel_frame.proofs.packed.Packed.append_range.Goals.{in-Int-Int, in-Bool-Bool, in-Text-Text}

@@ -1,4 +1,4 @@
-use Rattle.morsel_meaning.specs.declared.Value.TheVariants as values
+use Rattle.morsel_meaning.specs.declared.value.Value.TheVariants as values
 use Rattle.morsel_frame.proofs.ColumnLemmas.{map-replicate}
 use Rattle.morsel_frame.proofs.packed.Packed.blank.Goals as goal
 

@@ -1,0 +1,2 @@
+pub mod MemIoLemmas
+pub mod MemoryLemmas

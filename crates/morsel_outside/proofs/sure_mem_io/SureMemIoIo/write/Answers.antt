@@ -1,0 +1,5 @@
+use Rattle.morsel_outside.proofs.MemoryLemmas.{writes-sure}
+use Rattle.morsel_outside.proofs.sure_mem_io.SureMemIoIo.write.Goals as goal
+
+pub returns-clause-writes : goal.returns-clause-writes
+returns-clause-writes c = writes-sure _ _ _ _ c.self.view_is c.in-Ok.ensures.ok
