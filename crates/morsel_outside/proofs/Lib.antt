@@ -1,2 +1,5 @@
+pub mod ActionLemmas
+pub mod DoesLemmas
 pub mod MemIoLemmas
 pub mod MemoryLemmas
+pub mod SureLemmas

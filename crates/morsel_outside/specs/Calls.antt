@@ -1,16 +1,12 @@
--- What each call to the outside does, by cases on its answer. What a line does not name stays as it was.
-use Rattle.std.specs.Prelude.{◌≡◌, ◌⊎◌, ℕ, ◌+◌, ◌-◌, ◌^◌, ◌<◌, ◌≤◌, Option, Some, None, Result, Ok, Err, List, [], ◌∷◌, ◌++◌, length, take, slice_range, get_or}
+-- What each call to the outside does, by cases on its answer. One that ran out of memory changes nothing.
+use Rattle.std.specs.Prelude.{◌≡◌, ℕ, ◌+◌, ◌≤◌, Option, Some, None, Result, Ok, Err, List, [], ◌∷◌, length, take, slice_range, get_or}
 use Rattle.morsel_outside.specs.declared.io.FileNo.{FileNo}
 use Rattle.morsel_outside.specs.declared.io.IoErr.{IoErr}
 use Rattle.morsel_outside.specs.declared.io.IoErr.TheVariants.{OutOfMemory, Failed}
-use Rattle.morsel_outside.specs.Outside.{Outside, ReadAt, Wrote, Open, Make, with_last, with_piece, with_sink, IsSized}
+use Rattle.morsel_outside.specs.Outside.{Outside, IsSized}
+use Rattle.morsel_outside.specs.Actions.{Does, Opening, FailedOpening, Reading, FailedReading, Making, FailedMaking, Writing, FailedWriting, Printing, FailedPrinting}
 
--- a count of faults that rose: it is greater, or stands at the end of its type
-pub record Rises (before now : ℕ) : Type 0 where
-  pub no_lower : before ≤ now
-  pub rose : (before < now) ⊎ (now ≡ 2 ^ 64 - 1)
-
--- these bytes stand at this place of the file, where its bytes are told
+-- the file has these bytes from this place on, where its bytes are told
 abbrev pub Holds : Option (List (List ℕ)) → ℕ → ℕ → List ℕ → Type 0
 Holds None file at bytes = Unit {0}
 Holds (Some files) file at bytes = slice_range (get_or files file []) at (at + length bytes) ≡ bytes
@@ -19,51 +15,34 @@ Holds (Some files) file at bytes = slice_range (get_or files file []) at (at + l
 pub record Opened (old : Outside) (name : List ℕ) (file : ℕ) (bytes : List ℕ) (new : Outside) : Type 0 where
   pub number : file ≡ length old.sizes
   pub sized : IsSized new.held new.sizes
-  pub after : new ≡ record old {
-    sizes = old.sizes ++ length bytes ∷ [];
-    held = with_last old.held bytes;
-    asked = old.asked ++ Open name ∷ [];
-  }
+  pub does : Does old (Opening name bytes ∷ []) new
 
+-- the file is open, with some bytes; or it could not be opened
 abbrev pub Opens : Outside → List ℕ → Result FileNo IoErr → Outside → Type 0
 Opens old name (Ok file) new = (bytes : List ℕ) × Opened old name file.0 bytes new
 Opens old name (Err OutOfMemory) new = new ≡ old
-Opens old name (Err Failed) new = (count : ℕ) × Rises old.read_faults count
-    × (new ≡ record old { read_faults = count; failed = length old.sizes; asked = old.asked ++ Open name ∷ [] })
+Opens old name (Err Failed) new = Does old (FailedOpening (length old.sizes) name ∷ []) new
 
--- `bytes` is the buffer at the return: what the file holds at Ok, and anything of its length else
+-- `bytes` is the buffer at the return: what the file has there at Ok, and anything of its length otherwise
 abbrev pub Reads : Outside → ℕ → ℕ → List ℕ → Result (Unit {0}) IoErr → Outside → Type 0
-Reads old file at bytes (Ok _) new = Holds old.held file at bytes
-    × (new ≡ record old { events = with_last old.events (ReadAt file at (length bytes)) })
+Reads old file at bytes (Ok _) new = Holds old.held file at bytes × Does old (Reading file at (length bytes) ∷ []) new
 Reads old file at bytes (Err OutOfMemory) new = new ≡ old
-Reads old file at bytes (Err Failed) new = (count : ℕ) × Rises old.read_faults count
-    × (new ≡ record old { events = with_last old.events (ReadAt file at (length bytes)); read_faults = count; failed = file })
+Reads old file at bytes (Err Failed) new = Does old (FailedReading file at (length bytes) ∷ []) new
 
+-- a sink of this name is the last; or it could not be made
 abbrev pub Makes : Outside → List ℕ → Result (Unit {0}) IoErr → Outside → Type 0
-Makes old name (Ok _) new = new ≡ record old {
-  sinks = old.sinks + 1;
-  made = with_sink old.made name [];
-  asked = old.asked ++ Make name ∷ [];
-}
+Makes old name (Ok _) new = Does old (Making name ∷ []) new
 Makes old name (Err OutOfMemory) new = new ≡ old
-Makes old name (Err Failed) new = (count : ℕ) × Rises old.write_faults count
-    × (new ≡ record old { write_faults = count; asked = old.asked ++ Make name ∷ [] })
+Makes old name (Err Failed) new = Does old (FailedMaking name ∷ []) new
 
--- a failing write takes some bytes of the piece
+-- the text of the last sink has the piece at its end; a write that fails takes some bytes of the piece
 abbrev pub Writes : Outside → List ℕ → Result (Unit {0}) IoErr → Outside → Type 0
-Writes old piece (Ok _) new = new ≡ record old {
-  made = with_piece old.made piece;
-  events = with_last old.events (Wrote (length piece));
-}
+Writes old piece (Ok _) new = Does old (Writing piece ∷ []) new
 Writes old piece (Err OutOfMemory) new = new ≡ old
-Writes old piece (Err Failed) new = (count : ℕ) × (taken : ℕ) × Rises old.write_faults count × (taken ≤ length piece)
-    × (new ≡ record old {
-      made = with_piece old.made (take taken piece);
-      events = with_last old.events (Wrote taken);
-      write_faults = count;
-    })
+Writes old piece (Err Failed) new = (taken : ℕ) × (taken ≤ length piece) × Does old (FailedWriting (take taken piece) ∷ []) new
 
+-- the line is printed; or it could not be
 abbrev pub Prints : Outside → List ℕ → Result (Unit {0}) IoErr → Outside → Type 0
-Prints old line (Ok _) new = new ≡ record old { printed = with_last old.printed line }
+Prints old line (Ok _) new = Does old (Printing line ∷ []) new
 Prints old line (Err OutOfMemory) new = new ≡ old
-Prints old line (Err Failed) new = (count : ℕ) × Rises old.write_faults count × (new ≡ record old { write_faults = count })
+Prints old line (Err Failed) new = Does old (FailedPrinting ∷ []) new

@@ -1,5 +1,6 @@
 -- The outside, what each call does to it, and outsides in memory.
 pub mod Outside
+pub mod Actions
 pub mod Calls
 pub mod Asks
 pub mod Memory

@@ -1,13 +1,16 @@
 -- An outside in memory whose numbered calls fail.
-use Rattle.std.specs.Prelude.{◌≡◌, ℕ, ◌+◌, ◌-◌, ◌^◌, ◌==◌, ◌||◌, Bool, true, false, if◌then◌else◌, Option, Some, None, IsSome, is_none, unwrap_or, Result, Ok, Err, List, [], ◌∷◌, length, take, slice_range, get_or, min}
+use Rattle.std.specs.Prelude.{◌≡◌, ℕ, ◌+◌, ◌==◌, ◌||◌, Bool, true, false, if◌then◌else◌, Option, Some, None, IsSome, is_none, unwrap_or, Result, Ok, Err, List, [], ◌∷◌, length, take, slice_range, get_or, min}
 use Rattle.std.specs.List.{list_any}
 use Rattle.morsel_outside.specs.declared.io.FileNo.{FileNo}
 use Rattle.morsel_outside.specs.declared.io.IoErr.{IoErr}
 use Rattle.morsel_outside.specs.declared.io.IoErr.TheVariants.{OutOfMemory, Failed}
-use Rattle.morsel_outside.specs.Outside.{Outside, ReadAt, Open, Make}
-use Rattle.morsel_outside.specs.Calls.{Rises}
+use Rattle.morsel_outside.specs.declared.events.IoEvent.TheVariants.{ReadAt}
+use Rattle.morsel_outside.specs.declared.events.Asked.TheVariants.{Open, Make}
+use Rattle.morsel_outside.specs.Outside.{Outside}
+use Rattle.morsel_outside.specs.Actions.{Rises, raised}
 use Rattle.morsel_outside.specs.Memory.{StoredFile, Contents, untouched, bytes_of, sizes_of, told, with_opened, with_made, with_event, with_asked, with_written, with_printed}
 
+-- the contents, the calls that fail, and the counts
 pub record FaultyMemory : Type 0 where
   pub contents : Contents
   pub fail_reads : List ℕ  -- the numbers of the opens and reads that fail
@@ -16,10 +19,12 @@ pub record FaultyMemory : Type 0 where
   pub writes : ℕ  -- how many makes, writes and prints there were
   pub read_faults : ℕ
   pub write_faults : ℕ
+  pub print_faults : ℕ
   pub failed : ℕ
 
+-- what it tells
 abbrev pub told_of : FaultyMemory → Outside
-told_of memory = told memory.contents memory.read_faults memory.write_faults memory.failed
+told_of memory = told memory.contents memory.read_faults memory.write_faults memory.print_faults memory.failed
 
 -- nothing was done yet
 abbrev pub at_start : List StoredFile → List ℕ → List (ℕ × ℕ) → FaultyMemory
@@ -31,12 +36,9 @@ at_start files fail_reads fail_writes = record {
   writes = 0;
   read_faults = 0;
   write_faults = 0;
+  print_faults = 0;
   failed = 0;
 }
-
--- a count that stands still at the end of its type
-abbrev pub raised : ℕ → ℕ
-raised count = min (count + 1) (2 ^ 64 - 1)
 
 -- whether the next open or read is one that fails
 abbrev pub read_fails : FaultyMemory → Bool
@@ -84,6 +86,14 @@ after_write_fault old contents = record old {
   write_faults = raised old.write_faults;
 }
 
+-- the same, where it was a print that failed
+abbrev pub after_print_fault : FaultyMemory → FaultyMemory
+after_print_fault old = record old {
+  writes = raised old.writes;
+  write_faults = raised old.write_faults;
+  print_faults = raised old.print_faults;
+}
+
 -- the first file of the name is opened; it fails where its number says so, or there is no such file
 abbrev pub OpensStored : FaultyMemory → List ℕ → Result FileNo IoErr → FaultyMemory → Type 0
 OpensStored old name (Ok file) new = (open_fails old name ≡ false) × (file.0 ≡ length (sizes_of old.contents))
@@ -120,4 +130,4 @@ abbrev pub PrintsKept : FaultyMemory → List ℕ → Result (Unit {0}) IoErr �
 PrintsKept old line (Ok _) new = (next_taken old ≡ None) × (new ≡ after_write old (with_printed old.contents line))
 PrintsKept old line (Err OutOfMemory) new = new ≡ old
 PrintsKept old line (Err Failed) new = IsSome (next_taken old) × Rises old.write_faults (raised old.write_faults)
-    × (new ≡ after_write_fault old old.contents)
+    × Rises old.print_faults (raised old.print_faults) × (new ≡ after_print_fault old)

@@ -1,19 +1,24 @@
 -- An outside in memory: files that can be opened, and all that was opened, made, printed and asked.
 use Rattle.std.specs.Prelude.{ℕ, Option, Some, None, if◌then◌else◌, List, [], ◌∷◌, ◌++◌, map, length, nat_eq, unwrap_or}
 use Rattle.std.specs.Cmp.Lexicographic.{pointwise}
-use Rattle.morsel_outside.specs.Outside.{Outside, Sink, Event, Asked, Wrote, Open, Make, append_last}
+use Rattle.morsel_outside.specs.declared.events.IoEvent.{IoEvent}
+use Rattle.morsel_outside.specs.declared.events.IoEvent.TheVariants.{Wrote}
+use Rattle.morsel_outside.specs.declared.events.Asked.{Asked}
+use Rattle.morsel_outside.specs.declared.events.Asked.TheVariants.{Open, Make}
+use Rattle.morsel_outside.specs.Outside.{Outside, Sink, append_last}
 
 -- a file that can be opened
 pub record StoredFile : Type 0 where
   pub name : List ℕ
   pub bytes : List ℕ
 
+-- the files that can be opened, and what was done
 pub record Contents : Type 0 where
   pub files : List StoredFile
   pub held : List (List ℕ)  -- the bytes of each opened file
   pub made : List Sink
   pub printed : List (List ℕ)
-  pub events : List Event
+  pub events : List IoEvent
   pub asked : List Asked
 
 -- files to open, and nothing done
@@ -34,8 +39,8 @@ abbrev pub sizes_of : Contents → List ℕ
 sizes_of contents = map length contents.held
 
 -- all is told; the counts of faults and the file of the last read fault are given
-abbrev pub told : Contents → ℕ → ℕ → ℕ → Outside
-told contents read_faults write_faults failed = record {
+abbrev pub told : Contents → ℕ → ℕ → ℕ → ℕ → Outside
+told contents read_faults write_faults print_faults failed = record {
   sizes = sizes_of contents;
   held = Some contents.held;
   sinks = length contents.made;
@@ -44,13 +49,14 @@ told contents read_faults write_faults failed = record {
   events = Some contents.events;
   read_faults = read_faults;
   write_faults = write_faults;
+  print_faults = print_faults;
   failed = failed;
   asked = contents.asked;
 }
 
 -- an outside that never fails
 abbrev pub sure : Contents → Outside
-sure contents = told contents 0 0 0
+sure contents = told contents 0 0 0 0
 
 -- one file more is open
 abbrev pub with_opened : Contents → List ℕ → Contents
@@ -66,9 +72,11 @@ with_made contents name = record contents {
   asked = contents.asked ++ Make name ∷ [];
 }
 
-abbrev pub with_event : Contents → Event → Contents
+-- one read or write more
+abbrev pub with_event : Contents → IoEvent → Contents
 with_event contents event = record contents { events = contents.events ++ event ∷ [] }
 
+-- one name more was asked for
 abbrev pub with_asked : Contents → Asked → Contents
 with_asked contents asked = record contents { asked = contents.asked ++ asked ∷ [] }
 
@@ -79,5 +87,6 @@ with_written contents piece = record contents {
   events = contents.events ++ Wrote (length piece) ∷ [];
 }
 
+-- one line more was printed
 abbrev pub with_printed : Contents → List ℕ → Contents
 with_printed contents line = record contents { printed = contents.printed ++ line ∷ [] }

@@ -5,14 +5,18 @@
 //! in the program. What contracts see of an object is one record, `Outside`.
 #![tactic(auto)]
 
+mod events;
 mod gate;
 mod io;
+mod laws;
 mod mem_io;
 mod memory;
 mod sure_mem_io;
 
+pub use events::{Asked, IoEvent};
 pub use gate::{Gate, OpenGate};
 pub use io::{FileNo, Io, IoErr};
+pub use laws::{actions_follow_one_another, events_tell_the_lengths_of_texts};
 pub use mem_io::MemIo;
-pub use memory::{AskedFor, IoEvent, Memory};
+pub use memory::Memory;
 pub use sure_mem_io::{SureMemIo, sure_never_fails};

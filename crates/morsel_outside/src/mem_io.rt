@@ -1,12 +1,13 @@
 //! An outside in memory that tells everything, and fails at the calls that it is told to fail at.
 ghost use Rattle.std.specs.Prelude.{◌≡◌, ◌<◌, ◌≤◌, ◌+◌, length, slice_index, take, min};
-ghost use Rattle.morsel_outside.specs.Calls.{Rises, Opens, Reads, Makes, Writes, Prints};
+ghost use Rattle.morsel_outside.specs.Actions.{Rises};
+ghost use Rattle.morsel_outside.specs.Calls.{Opens, Reads, Makes, Writes, Prints};
 ghost use Rattle.morsel_outside.specs.Memory.{sizes_of};
 ghost use Rattle.morsel_outside.specs.MemoryParts.{stored_files};
-ghost use Rattle.morsel_outside.specs.MemIo.{told_of, at_start, read_fails, taken_at, next_taken, OpensStored, ReadsHeld, MakesKept, WritesKept, PrintsKept, after_read, after_read_fault, after_write, after_write_fault};
+ghost use Rattle.morsel_outside.specs.MemIo.{told_of, at_start, read_fails, taken_at, next_taken, OpensStored, ReadsHeld, MakesKept, WritesKept, PrintsKept, after_read, after_read_fault, after_write, after_write_fault, after_print_fault};
 
-use crate::memory::{AskedFor, IoEvent, Memory};
-use crate::{FileNo, Io, IoErr};
+use crate::memory::Memory;
+use crate::{FileNo, Io, IoErr, IoEvent};
 use morsel_meaning::Name;
 use std::alloc::Global;
 use std::marker::Model;
@@ -23,6 +24,7 @@ pub struct MemIo {
     writes: u64,
     read_faults: u64,
     write_faults: u64,
+    print_faults: u64,
     failed: usize,
 }
 
@@ -39,6 +41,7 @@ impl Model for MemIo {
       writes = m.writes;
       read_faults = m.read_faults;
       write_faults = m.write_faults;
+      print_faults = m.print_faults;
       failed = m.failed;
     } };
 }
@@ -64,6 +67,7 @@ impl MemIo {
             writes: 0,
             read_faults: 0,
             write_faults: 0,
+            print_faults: 0,
             failed: 0,
         }
     }
@@ -87,6 +91,13 @@ impl MemIo {
         ensures { result ≡ self.now.write_faults }
     {
         self.write_faults
+    }
+
+    /// How many prints failed.
+    pub fn print_faults(&self) -> u64
+        ensures { result ≡ self.now.print_faults }
+    {
+        self.print_faults
     }
 
     /// The number of the file whose open or read failed last.
@@ -137,11 +148,21 @@ impl MemIo {
         self.write_faults = self.write_faults.saturating_add(1);
     }
 
+    fn count_print_fault(&mut self)
+        ensures after { self.new ≡ after_print_fault self.old }
+        ensures rises { Rises self.old.write_faults self.new.write_faults }
+        ensures prints { Rises self.old.print_faults self.new.print_faults }
+    {
+        self.writes = self.writes.saturating_add(1);
+        self.write_faults = self.write_faults.saturating_add(1);
+        self.print_faults = self.print_faults.saturating_add(1);
+    }
+
     fn open(&mut self, name: &str) -> Result<FileNo, IoErr>
         ensures { OpensStored self.old name.now result self.new }
     {
         if self.read_fails() || !self.memory.has(name) {
-            let Ok(()) = self.memory.ask(AskedFor::Opening, name) else {
+            let Ok(()) = self.memory.ask_file(name) else {
                 return Err(IoErr::OutOfMemory);
             };
             let file = self.memory.opened();
@@ -161,7 +182,7 @@ impl MemIo {
         ensures { ReadsHeld self.old file.0 at into.new result self.new }
     {
         let fails = self.read_fails();
-        let event = IoEvent::Read {
+        let event = IoEvent::ReadAt {
             file: file.0,
             at,
             len: into.len(),
@@ -182,7 +203,7 @@ impl MemIo {
         ensures { MakesKept self.old name.now result self.new }
     {
         if self.next_taken().is_some() {
-            let Ok(()) = self.memory.ask(AskedFor::Making, name) else {
+            let Ok(()) = self.memory.ask_sink(name) else {
                 return Err(IoErr::OutOfMemory);
             };
             self.count_write_fault();
@@ -217,7 +238,7 @@ impl MemIo {
         ensures { PrintsKept self.old line.now result self.new }
     {
         if self.next_taken().is_some() {
-            self.count_write_fault();
+            self.count_print_fault();
             return Err(IoErr::Failed);
         }
         let Ok(()) = self.memory.print(line) else {

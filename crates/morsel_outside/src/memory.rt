@@ -1,35 +1,17 @@
 //! Files in memory, and what an outside in memory tells: what was opened, made, written, printed and asked.
 ghost use Rattle.std.specs.Prelude.{◌≡◌, ◌+◌, ◌<◌, ◌≤◌, [], ◌∷◌, ◌++◌, length, map, IfOk, OnOk, OnErr, IsOkUnless, is_some, MatchOption, Some, None, slice_get, slice_index, slice_range, get_or};
 ghost use Rattle.morsel_outside.specs.Outside.{append_last};
-ghost use Rattle.morsel_outside.specs.MemoryParts.{stored_files, sinks_of, event_of, asked_as};
+ghost use Rattle.morsel_outside.specs.MemoryParts.{stored_files, sinks_of};
 ghost use Rattle.morsel_outside.specs.Memory.{untouched, sizes_of, bytes_of, bytes_or_none, with_opened, with_made, with_event, with_asked, with_written, with_printed};
 
-use crate::FileNo;
+use crate::{Asked, FileNo, IoEvent};
 use morsel_meaning::{Fault, Name};
 use std::alloc::Global;
 use std::marker::Model;
 
-/// A read that was answered, or what a write added to its sink.
-#[derive(Clone, Copy, Debug, PartialEq, Eq)]
-pub enum IoEvent {
-    /// `len` bytes from place `at` of the file were asked.
-    Read { file: usize, at: u64, len: usize },
-    /// The text of the sink gained `len` bytes.
-    Wrote { len: usize },
-}
-
-/// What a name was asked for.
-#[derive(Clone, Copy, Debug, PartialEq, Eq)]
-pub enum AskedFor {
-    /// A file was to be opened.
-    Opening,
-    /// A sink was to be made.
-    Making,
-}
-
 /// A sink with the text that it has so far.
 #[derive(Debug, Drop)]
-struct Made {
+struct MemSink {
     name: Name,
     text: Vec<u8>,
 }
@@ -40,16 +22,15 @@ pub struct Memory {
     alloc: Global,
     files: Vec<(Name, Vec<u8>)>,
     held: Vec<Vec<u8>>,
-    made: Vec<Made>,
+    made: Vec<MemSink>,
     printed: Vec<Name>,
     events: Vec<IoEvent>,
-    asked: Vec<(AskedFor, Name)>,
+    asked: Vec<Asked>,
 }
 
 impl Model for Memory {
-    ghost use Rattle.std.specs.Prelude.{map};
     ghost use Rattle.morsel_outside.specs.Memory.{Contents};
-    ghost use Rattle.morsel_outside.specs.MemoryParts.{stored_files, held_files, sinks_of, event_of, asked_of};
+    ghost use Rattle.morsel_outside.specs.MemoryParts.{stored_files, held_files, sinks_of};
 
     ghost Value = { Contents };
 
@@ -58,8 +39,8 @@ impl Model for Memory {
       held = held_files m.held.items;
       made = sinks_of m.made.items;
       printed = m.printed.items;
-      events = map event_of m.events.items;
-      asked = map asked_of m.asked.items;
+      events = m.events.items;
+      asked = m.asked.items;
     } };
 }
 
@@ -141,25 +122,24 @@ impl Memory {
     /// A read or a write, in their order.
     pub fn event(&self, at: usize) -> IoEvent
         requires { at < length self.now.events }
-        ensures { slice_get self.now.events at ≡ Some (event_of result) }
+        ensures { slice_get self.now.events at ≡ Some result }
     {
         self.events[at]
     }
 
-    /// How many names were asked.
+    /// How many names were asked for.
     pub fn names(&self) -> usize
         ensures { result ≡ length self.now.asked }
     {
         self.asked.len()
     }
 
-    /// A name that was asked, and what for.
-    pub fn name(&self, at: usize) -> (AskedFor, &str)
+    /// A name that was asked for, in the order of asking, and what for.
+    pub fn asked(&self, at: usize) -> &Asked
         requires { at < length self.now.asked }
-        ensures { slice_get self.now.asked at ≡ Some (asked_as result.0 result.1.now) }
+        ensures { slice_get self.now.asked at ≡ Some result.now }
     {
-        let asked = &self.asked[at];
-        (asked.0, asked.1.as_str())
+        &self.asked[at]
     }
 
     /// Whether a file of this name can be opened.
@@ -177,27 +157,37 @@ impl Memory {
     {
         let file = FileNo(self.held.len());
         let bytes = copy(self.alloc, self.files.as_slice(), name)?;
-        let asked = Name::new(self.alloc, name)?;
+        let asked = Asked::Open(Name::new(self.alloc, name)?);
         self.held.reserve(1)?;
         self.asked.reserve(1)?;
         self.held.push_reserved(bytes);
-        self.asked.push_reserved((AskedFor::Opening, asked));
+        self.asked.push_reserved(asked);
         Ok(file)
     }
 
-    /// Notes a name that could not be opened or made.
-    pub(crate) fn ask(&mut self, what: AskedFor, name: &str) -> Result<(), Fault>
-        ensures ok { OnOk result (self.new ≡ with_asked self.old (asked_as what name.now)) }
+    /// Notes the name of a file that could not be opened.
+    pub(crate) fn ask_file(&mut self, name: &str) -> Result<(), Fault>
+        ensures ok { OnOk result (self.new ≡ with_asked self.old (Asked.Open name.now)) }
         ensures err { OnErr result (self.new ≡ self.old) }
     {
-        let asked = Name::new(self.alloc, name)?;
-        self.asked.push((what, asked))?;
+        let name = Name::new(self.alloc, name)?;
+        self.asked.push(Asked::Open(name))?;
+        Ok(())
+    }
+
+    /// Notes the name of a sink that could not be made.
+    pub(crate) fn ask_sink(&mut self, name: &str) -> Result<(), Fault>
+        ensures ok { OnOk result (self.new ≡ with_asked self.old (Asked.Make name.now)) }
+        ensures err { OnErr result (self.new ≡ self.old) }
+    {
+        let name = Name::new(self.alloc, name)?;
+        self.asked.push(Asked::Make(name))?;
         Ok(())
     }
 
     /// Notes a read or a write.
     pub(crate) fn note(&mut self, event: IoEvent) -> Result<(), Fault>
-        ensures ok { OnOk result (self.new ≡ with_event self.old (event_of event)) }
+        ensures ok { OnOk result (self.new ≡ with_event self.old event) }
         ensures err { OnErr result (self.new ≡ self.old) }
     {
         self.events.push(event)?;
@@ -227,15 +217,15 @@ impl Memory {
         ensures ok { OnOk result (self.new ≡ with_made self.old name.now) }
         ensures err { OnErr result (self.new ≡ self.old) }
     {
-        let sink = Made {
+        let sink = MemSink {
             name: Name::new(self.alloc, name)?,
             text: Vec::new(self.alloc),
         };
-        let asked = Name::new(self.alloc, name)?;
+        let asked = Asked::Make(Name::new(self.alloc, name)?);
         self.made.reserve(1)?;
         self.asked.reserve(1)?;
         self.made.push_reserved(sink);
-        self.asked.push_reserved((AskedFor::Making, asked));
+        self.asked.push_reserved(asked);
         Ok(())
     }
 
@@ -294,7 +284,7 @@ fn copy_range(bytes: &[u8], at: usize, into: &mut [u8])
 }
 
 /// Appends the piece to the text of the last sink.
-fn extend_last(sinks: &mut [Made], piece: &[u8]) -> Result<(), Fault>
+fn extend_last(sinks: &mut [MemSink], piece: &[u8]) -> Result<(), Fault>
     requires { 0 < length sinks.old }
     ensures ok { OnOk result (sinks_of sinks.new ≡ append_last (sinks_of sinks.old) piece.now) }
     ensures err { OnErr result (sinks_of sinks.new ≡ sinks_of sinks.old) }

@@ -1,12 +1,12 @@
 //! An outside in memory that tells everything and never fails.
 ghost use Rattle.std.specs.Prelude.{◌≡◌, ◌<◌, ◌≤◌, ◌+◌, length, slice_index, OnOk, OnErr, IsOkUnless};
-ghost use Rattle.morsel_outside.specs.Calls.{Rises, Opens, Reads, Makes, Writes, Prints};
-ghost use Rattle.morsel_outside.specs.Outside.{ReadAt};
+ghost use Rattle.morsel_outside.specs.Actions.{Rises};
+ghost use Rattle.morsel_outside.specs.Calls.{Opens, Reads, Makes, Writes, Prints};
 ghost use Rattle.morsel_outside.specs.Memory.{Contents, untouched, sure, with_opened, with_made, with_event, with_written, with_printed};
 ghost use Rattle.morsel_outside.specs.MemoryParts.{stored_files};
 
-use crate::memory::{IoEvent, Memory};
-use crate::{FileNo, Io, IoErr};
+use crate::memory::Memory;
+use crate::{FileNo, Io, IoErr, IoEvent};
 use morsel_meaning::Name;
 use std::alloc::Global;
 use std::marker::Model;
@@ -66,11 +66,11 @@ impl Io for SureMemIo {
         requires opened { file.0 < length (sure self.old).sizes }
         requires within { at + length into.old ≤ slice_index (sure self.old).sizes file.0 }
         ensures reads { Reads (sure self.old) file.0 at into.new result (sure self.new) }
-        ensures noted { OnOk result (self.new ≡ with_event self.old (ReadAt file.0 at (length into.new))) }
+        ensures noted { OnOk result (self.new ≡ with_event self.old (IoEvent.ReadAt file.0 at (length into.new))) }
         ensures err { OnErr result (self.new ≡ self.old) }
         ensures out_of_memory { IsOkUnless result IoErr.OutOfMemory }
     {
-        let event = IoEvent::Read {
+        let event = IoEvent::ReadAt {
             file: file.0,
             at,
             len: into.len(),

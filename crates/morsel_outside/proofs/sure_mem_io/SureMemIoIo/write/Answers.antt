@@ -1,4 +1,4 @@
-use Rattle.morsel_outside.proofs.MemoryLemmas.{writes-sure}
+use Rattle.morsel_outside.proofs.SureLemmas.{writes-sure}
 use Rattle.morsel_outside.proofs.sure_mem_io.SureMemIoIo.write.Goals as goal
 
 pub returns-clause-writes : goal.returns-clause-writes

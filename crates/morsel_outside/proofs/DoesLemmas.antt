@@ -1,0 +1,198 @@
+-- What one action leaves, as a change of the outside.
+use Rattle.std.specs.Prelude.{◌≡◌, ℕ, ◌+◌, List, [], ◌∷◌, ◌++◌, length, refl}
+use Rattle.std.proofs.Common.{sym, subst, append-nil, add-zero}
+use Rattle.morsel_outside.specs.declared.events.IoEvent.TheVariants.{ReadAt, Wrote}
+use Rattle.morsel_outside.specs.declared.events.Asked.TheVariants.{Open, Make}
+use Rattle.morsel_outside.specs.Outside.{Outside, with_more, with_last, with_piece, with_sink}
+use Rattle.morsel_outside.specs.Actions.{Action, Opening, FailedOpening, Reading, FailedReading, Making, FailedMaking, Writing, FailedWriting, Printing, FailedPrinting, Rises, Does}
+use Rattle.morsel_outside.proofs.ActionLemmas.{with_more-nil}
+
+-- nothing was done
+pub does-nothing : (o : Outside) → Does o [] o
+does-nothing o = record {
+  sizes = sym (append-nil o.sizes);
+  held = sym (with_more-nil o.held);
+  sinks = sym (add-zero o.sinks);
+  made = refl;
+  printed = sym (with_more-nil o.printed);
+  events = sym (with_more-nil o.events);
+  read_faults = refl;
+  write_faults = refl;
+  print_faults = refl;
+  failed = refl;
+  asked = sym (append-nil o.asked);
+}
+
+-- a file was opened
+pub does-opening : (old new : Outside) (name bytes : List ℕ)
+    → new ≡ record old { sizes = old.sizes ++ length bytes ∷ []; held = with_last old.held bytes; asked = old.asked ++ Open name ∷ [] }
+    → Does old (Opening name bytes ∷ []) new
+does-opening old new name bytes after = subst (Does old (Opening name bytes ∷ [])) (sym after) (record {
+  sizes = refl;
+  held = refl;
+  sinks = sym (add-zero old.sinks);
+  made = refl;
+  printed = sym (with_more-nil old.printed);
+  events = sym (with_more-nil old.events);
+  read_faults = refl;
+  write_faults = refl;
+  print_faults = refl;
+  failed = refl;
+  asked = refl;
+})
+
+-- a file could not be opened
+pub does-failed_opening : (old new : Outside) (number : ℕ) (name : List ℕ) (count : ℕ) → Rises old.read_faults count
+    → new ≡ record old { read_faults = count; failed = number; asked = old.asked ++ Open name ∷ [] }
+    → Does old (FailedOpening number name ∷ []) new
+does-failed_opening old new number name count rises after = subst (Does old (FailedOpening number name ∷ [])) (sym after) (record {
+  sizes = sym (append-nil old.sizes);
+  held = sym (with_more-nil old.held);
+  sinks = sym (add-zero old.sinks);
+  made = refl;
+  printed = sym (with_more-nil old.printed);
+  events = sym (with_more-nil old.events);
+  read_faults = rises;
+  write_faults = refl;
+  print_faults = refl;
+  failed = refl;
+  asked = refl;
+})
+
+-- bytes were read
+pub does-reading : (old new : Outside) (file at len : ℕ)
+    → new ≡ record old { events = with_last old.events (ReadAt file at len) } → Does old (Reading file at len ∷ []) new
+does-reading old new file at len after = subst (Does old (Reading file at len ∷ [])) (sym after) (record {
+  sizes = sym (append-nil old.sizes);
+  held = sym (with_more-nil old.held);
+  sinks = sym (add-zero old.sinks);
+  made = refl;
+  printed = sym (with_more-nil old.printed);
+  events = refl;
+  read_faults = refl;
+  write_faults = refl;
+  print_faults = refl;
+  failed = refl;
+  asked = sym (append-nil old.asked);
+})
+
+-- bytes could not be read
+pub does-failed_reading : (old new : Outside) (file at len count : ℕ) → Rises old.read_faults count
+    → new ≡ record old { events = with_last old.events (ReadAt file at len); read_faults = count; failed = file }
+    → Does old (FailedReading file at len ∷ []) new
+does-failed_reading old new file at len count rises after = subst (Does old (FailedReading file at len ∷ [])) (sym after) (record {
+  sizes = sym (append-nil old.sizes);
+  held = sym (with_more-nil old.held);
+  sinks = sym (add-zero old.sinks);
+  made = refl;
+  printed = sym (with_more-nil old.printed);
+  events = refl;
+  read_faults = rises;
+  write_faults = refl;
+  print_faults = refl;
+  failed = refl;
+  asked = sym (append-nil old.asked);
+})
+
+-- a sink was made
+pub does-making : (old new : Outside) (name : List ℕ)
+    → new ≡ record old { sinks = old.sinks + 1; made = with_sink old.made name []; asked = old.asked ++ Make name ∷ [] }
+    → Does old (Making name ∷ []) new
+does-making old new name after = subst (Does old (Making name ∷ [])) (sym after) (record {
+  sizes = sym (append-nil old.sizes);
+  held = sym (with_more-nil old.held);
+  sinks = refl;
+  made = refl;
+  printed = sym (with_more-nil old.printed);
+  events = sym (with_more-nil old.events);
+  read_faults = refl;
+  write_faults = refl;
+  print_faults = refl;
+  failed = refl;
+  asked = refl;
+})
+
+-- a sink could not be made
+pub does-failed_making : (old new : Outside) (name : List ℕ) (count : ℕ) → Rises old.write_faults count
+    → new ≡ record old { write_faults = count; asked = old.asked ++ Make name ∷ [] } → Does old (FailedMaking name ∷ []) new
+does-failed_making old new name count rises after = subst (Does old (FailedMaking name ∷ [])) (sym after) (record {
+  sizes = sym (append-nil old.sizes);
+  held = sym (with_more-nil old.held);
+  sinks = sym (add-zero old.sinks);
+  made = refl;
+  printed = sym (with_more-nil old.printed);
+  events = sym (with_more-nil old.events);
+  read_faults = refl;
+  write_faults = rises;
+  print_faults = refl;
+  failed = refl;
+  asked = refl;
+})
+
+-- a piece was written
+pub does-writing : (old new : Outside) (piece : List ℕ)
+    → new ≡ record old { made = with_piece old.made piece; events = with_last old.events (Wrote (length piece)) } → Does old (Writing piece ∷ []) new
+does-writing old new piece after = subst (Does old (Writing piece ∷ [])) (sym after) (record {
+  sizes = sym (append-nil old.sizes);
+  held = sym (with_more-nil old.held);
+  sinks = sym (add-zero old.sinks);
+  made = refl;
+  printed = sym (with_more-nil old.printed);
+  events = refl;
+  read_faults = refl;
+  write_faults = refl;
+  print_faults = refl;
+  failed = refl;
+  asked = sym (append-nil old.asked);
+})
+
+-- a piece was written, and then the write failed
+pub does-failed_writing : (old new : Outside) (piece : List ℕ) (count : ℕ) → Rises old.write_faults count
+    → new ≡ record old { made = with_piece old.made piece; events = with_last old.events (Wrote (length piece)); write_faults = count }
+    → Does old (FailedWriting piece ∷ []) new
+does-failed_writing old new piece count rises after = subst (Does old (FailedWriting piece ∷ [])) (sym after) (record {
+  sizes = sym (append-nil old.sizes);
+  held = sym (with_more-nil old.held);
+  sinks = sym (add-zero old.sinks);
+  made = refl;
+  printed = sym (with_more-nil old.printed);
+  events = refl;
+  read_faults = refl;
+  write_faults = rises;
+  print_faults = refl;
+  failed = refl;
+  asked = sym (append-nil old.asked);
+})
+
+-- a line was printed
+pub does-printing : (old new : Outside) (line : List ℕ) → new ≡ record old { printed = with_last old.printed line } → Does old (Printing line ∷ []) new
+does-printing old new line after = subst (Does old (Printing line ∷ [])) (sym after) (record {
+  sizes = sym (append-nil old.sizes);
+  held = sym (with_more-nil old.held);
+  sinks = sym (add-zero old.sinks);
+  made = refl;
+  printed = refl;
+  events = sym (with_more-nil old.events);
+  read_faults = refl;
+  write_faults = refl;
+  print_faults = refl;
+  failed = refl;
+  asked = sym (append-nil old.asked);
+})
+
+-- a line could not be printed
+pub does-failed_printing : (old new : Outside) (count prints : ℕ) → Rises old.write_faults count → Rises old.print_faults prints
+    → new ≡ record old { write_faults = count; print_faults = prints } → Does old (FailedPrinting ∷ []) new
+does-failed_printing old new count prints rises more after = subst (Does old (FailedPrinting ∷ [])) (sym after) (record {
+  sizes = sym (append-nil old.sizes);
+  held = sym (with_more-nil old.held);
+  sinks = sym (add-zero old.sinks);
+  made = refl;
+  printed = sym (with_more-nil old.printed);
+  events = sym (with_more-nil old.events);
+  read_faults = refl;
+  write_faults = rises;
+  print_faults = more;
+  failed = refl;
+  asked = sym (append-nil old.asked);
+})
