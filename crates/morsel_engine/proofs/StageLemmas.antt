@@ -1,107 +1,63 @@
--- What a run of writes leaves: pieces one behind the other are one piece.
-use Rattle.std.specs.Prelude.{◌≡◌, ℕ, ◌≤◌, Option, Some, None, List, [], ◌∷◌, ◌++◌, take, refl}
-use Rattle.std.proofs.Common.{sym, ap, subst, ◌∙◌, append_assoc, append-nil, arith}
-use Rattle.morsel_outside.specs.Outside.{Outside, Event, ReadAt, Wrote, Sink, with_last, with_piece, with_sink, append_last}
-use Rattle.std.specs.Prelude.{Err}
+-- What writes leave: pieces one after another are one piece.
+use Rattle.std.specs.Prelude.{◌≡◌, ℕ, ◌≤◌, Err, List, [], ◌∷◌, ◌++◌, take, refl}
+use Rattle.std.specs.List.{fold, flat_map, sum_by}
+use Rattle.std.proofs.Common.{ap, ◌∙◌, subst, sym, append-nil, arith}
+use Rattle.std.proofs.lemmas.List.Concat.{flat_map-append}
 use Rattle.morsel_outside.specs.declared.io.IoErr.TheVariants.{OutOfMemory, Failed}
-use Rattle.morsel_outside.specs.Calls.{Rises, Writes}
-use Rattle.morsel_outside.specs.Asks.{Gains}
-use Rattle.morsel_engine.specs.Stages.{AreWrites, Gained}
+use Rattle.morsel_outside.specs.Outside.{Outside}
+use Rattle.morsel_outside.specs.Actions.{Action, Writing, FailedWriting, Rises, Does, text_by, read_failures, failed_after}
+use Rattle.morsel_outside.specs.Calls.{Writes}
+use Rattle.morsel_outside.proofs.ActionLemmas.{does-append}
+use Rattle.morsel_outside.proofs.DoesLemmas.{does-nothing}
+use Rattle.morsel_outside.proofs.TransferLemmas.{AreTransfers}
+use Rattle.morsel_engine.specs.Stages.{AreWritings, Gained}
 
-append_last-append_last : (sinks : List Sink) (a b : List ℕ) → append_last (append_last sinks a) b ≡ append_last sinks (a ++ b)
-append_last-append_last [] a b = refl
-append_last-append_last (sink ∷ []) a b = ap (λ t. record { name = sink.name; text = t } ∷ []) (append_assoc sink.text a b)
-append_last-append_last (sink ∷ next ∷ []) a b = ap (λ ss. sink ∷ ss) (append_last-append_last (next ∷ []) a b)
-append_last-append_last (sink ∷ next ∷ more ∷ sinks) a b = ap (λ ss. sink ∷ ss) (append_last-append_last (next ∷ more ∷ sinks) a b)
+-- writes are transfers
+pub are_transfers : (actions : List Action) → AreWritings actions → AreTransfers actions
+are_transfers [] h = h
+are_transfers (Writing piece ∷ actions) h = are_transfers actions h
+are_transfers (FailedWriting piece ∷ actions) h = are_transfers actions h
+are_transfers (action ∷ actions) h = absurd h
 
-pub with_piece-with_piece : (made : Option (List Sink)) (a b : List ℕ) → with_piece (with_piece made a) b ≡ with_piece made (a ++ b)
-with_piece-with_piece None a b = refl
-with_piece-with_piece (Some sinks) a b = ap Some (append_last-append_last sinks a b)
+-- writes are no reads that fail
+pub reads_nothing : (actions : List Action) → AreWritings actions → (sum_by read_failures actions ≡ 0) × ((failed : ℕ) → fold failed_after failed actions ≡ failed)
+reads_nothing [] h = (refl, λ failed. refl)
+reads_nothing (Writing piece ∷ actions) h = let r = reads_nothing actions h in (let n = r.0 in omega arith, r.1)
+reads_nothing (FailedWriting piece ∷ actions) h = let r = reads_nothing actions h in (let n = r.0 in omega arith, r.1)
+reads_nothing (action ∷ actions) h = absurd h
 
-append_last-nil : (sinks : List Sink) → append_last sinks [] ≡ sinks
-append_last-nil [] = refl
-append_last-nil (sink ∷ []) = ap (λ t. record { name = sink.name; text = t } ∷ []) (append-nil sink.text)
-append_last-nil (sink ∷ next ∷ sinks) = ap (λ ss. sink ∷ ss) (append_last-nil (next ∷ sinks))
-
-pub with_piece-nil : (made : Option (List Sink)) → with_piece made [] ≡ made
-with_piece-nil None = refl
-with_piece-nil (Some sinks) = ap Some (append_last-nil sinks)
-
-append_last-made : (sinks : List Sink) (name text : List ℕ) → append_last (sinks ++ record { name = name; text = [] } ∷ []) text ≡ sinks ++ record { name = name; text = text } ∷ []
-append_last-made [] name text = refl
-append_last-made (sink ∷ []) name text = refl
-append_last-made (sink ∷ next ∷ sinks) name text = ap (λ ss. sink ∷ ss) (append_last-made (next ∷ sinks) name text)
-
--- a sink that was made empty and then written
-pub with_piece-with_sink : (made : Option (List Sink)) (name text : List ℕ) → with_piece (with_sink made name []) text ≡ with_sink made name text
-with_piece-with_sink None name text = refl
-with_piece-with_sink (Some sinks) name text = ap Some (append_last-made sinks name text)
-
-are_writes-append : (xs ys : List Event) → AreWrites xs → AreWrites ys → AreWrites (xs ++ ys)
-are_writes-append [] ys h k = k
-are_writes-append (ReadAt f a n ∷ xs) ys h k = h
-are_writes-append (Wrote n ∷ xs) ys h k = are_writes-append xs ys h k
-
-pub gains-append : (a b c : Option (List Event)) (xs ys : List Event) → Gains a xs b → Gains b ys c → Gains a (xs ++ ys) c
-gains-append None b c xs ys h k = subst (λ o. Gains o ys c) h k
-gains-append (Some es) b c xs ys h k =
-    let later : Gains (Some (es ++ xs)) ys c = subst (λ o. Gains o ys c) h k in later ∙ ap Some (append_assoc es xs ys)
-
-pub gains-nothing : (a : Option (List Event)) → Gains a [] a
-gains-nothing None = refl
-gains-nothing (Some es) = ap Some (sym (append-nil es))
-
-pub gains-last : (a : Option (List Event)) (event : Event) → Gains a (event ∷ []) (with_last a event)
-gains-last None event = refl
-gains-last (Some es) event = refl
+are_writings-append : (xs ys : List Action) → AreWritings xs → AreWritings ys → AreWritings (xs ++ ys)
+are_writings-append [] ys h k = k
+are_writings-append (Writing piece ∷ xs) ys h k = are_writings-append xs ys h k
+are_writings-append (FailedWriting piece ∷ xs) ys h k = are_writings-append xs ys h k
+are_writings-append (action ∷ xs) ys h k = absurd h
 
 -- nothing was written
 pub gained-nothing : (o : Outside) → Gained o [] o
-gained-nothing o = record {
-  added = [];
-  events = o.events;
-  count = o.write_faults;
-  writes = tt;
-  gains = gains-nothing o.events;
-  no_lower = omega arith;
-  after = ap (λ made. record o { made = made }) (sym (with_piece-nil o.made));
-}
+gained-nothing o = record { actions = []; writings = tt; text_is = refl; does = does-nothing o }
 
--- two texts, one behind the other
+-- two texts, one after the other
 pub gained-append : (a b c : Outside) (t u : List ℕ) → Gained a t b → Gained b u c → Gained a (t ++ u) c
 gained-append a b c t u first second = record {
-  added = first.added ++ second.added;
-  events = second.events;
-  count = second.count;
-  writes = are_writes-append first.added second.added first.writes second.writes;
-  gains = gains-append a.events first.events second.events first.added second.added first.gains
-      (rw (ap (λ o. o.events) first.after) at second.gains);
-  no_lower = let e = ap (λ (o : Outside). o.write_faults) first.after in let n = second.no_lower in let m = first.no_lower in omega arith;
-  after = second.after
-      ∙ ap (λ (o : Outside). record o { made = with_piece o.made u; events = second.events; write_faults = second.count }) first.after
-      ∙ ap (λ made. record a { made = made; events = second.events; write_faults = second.count }) (with_piece-with_piece a.made t u);
+  actions = first.actions ++ second.actions;
+  writings = are_writings-append first.actions second.actions first.writings second.writings;
+  text_is = flat_map-append text_by first.actions second.actions
+      ∙ ap (λ text. text ++ flat_map text_by second.actions) first.text_is ∙ ap (λ text. t ++ text) second.text_is;
+  does = does-append a b c first.actions second.actions first.does second.does;
 }
 
 -- one piece was written
-pub gained-piece : (o : Outside) (piece : List ℕ) (n count : ℕ) → o.write_faults ≤ count → Gained o piece (record o { made = with_piece o.made piece; events = with_last o.events (Wrote n); write_faults = count })
-gained-piece o piece n count later = record {
-  added = Wrote n ∷ [];
-  events = with_last o.events (Wrote n);
-  count = count;
-  writes = tt;
-  gains = gains-last o.events (Wrote n);
-  no_lower = later;
-  after = refl;
-}
+pub gained-piece : (old new : Outside) (piece : List ℕ) → Does old (Writing piece ∷ []) new → Gained old piece new
+gained-piece old new piece does = record { actions = Writing piece ∷ []; writings = tt; text_is = append-nil piece; does = does }
 
--- a write that wanted memory
+-- a write that ran out of memory
 pub writes-short : (old new : Outside) (piece : List ℕ) → Writes old piece (Err OutOfMemory) new → (n : ℕ) × Gained old (take n piece) new
 writes-short old new piece h = (0, subst (λ o. Gained old [] o) (sym h) (gained-nothing old))
 
--- a write that failed behind some bytes
+-- a write that failed after some bytes
 pub writes-failed : (old new : Outside) (piece : List ℕ) → Writes old piece (Err Failed) new → (n : ℕ) × Gained old (take n piece) new × Rises old.write_faults new.write_faults
-writes-failed old new piece (count, taken, rises, within, after) = (
+writes-failed old new piece (taken, within, does) = (
   taken,
-  subst (λ o. Gained old (take taken piece) o) (sym after) (gained-piece old (take taken piece) taken count rises.no_lower),
-  subst (λ (o : Outside). Rises old.write_faults o.write_faults) (sym after) rises,
+  record { actions = FailedWriting (take taken piece) ∷ []; writings = tt; text_is = append-nil (take taken piece); does = does },
+  does.write_faults,
 )

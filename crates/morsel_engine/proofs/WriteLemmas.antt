@@ -1,13 +1,14 @@
 -- The text of rows, written part by part.
-use Rattle.std.specs.Prelude.{◌≡◌, ◌⊎◌, ℕ, zero, suc, ◌+◌, ◌-◌, ◌^◌, ◌<◌, ◌≤◌, Err, List, [], ◌∷◌, ◌++◌, take, drop, refl}
-use Rattle.std.proofs.Common.{sym, ap, subst, ◌∙◌, append_assoc, arith, inl, inr}
+use Rattle.std.specs.Prelude.{◌≡◌, ℕ, zero, suc, ◌+◌, Err, List, [], ◌∷◌, ◌++◌, take, drop, refl}
+use Rattle.std.proofs.Common.{sym, ap, subst, ◌∙◌, append_assoc, arith}
 use Rattle.std.proofs.lemmas.List.{take-append-drop}
 use Rattle.std.proofs.lemmas.List.Concat.{flat_map-append}
 use Rattle.morsel_meaning.specs.declared.fault.Fault.{Fault}
 use Rattle.morsel_meaning.specs.declared.fault.Fault.TheVariants as faults
 use Rattle.morsel_meaning.specs.Values.{Row}
 use Rattle.morsel_outside.specs.Outside.{Outside}
-use Rattle.morsel_outside.specs.Calls.{Rises}
+use Rattle.morsel_outside.specs.Actions.{Rises}
+use Rattle.morsel_outside.proofs.ActionLemmas.{rises_since, rises_by-no_lower}
 use Rattle.morsel_ndjson.specs.Ndjson.{ndjson, json_line}
 use Rattle.morsel_frame.specs.Tables.{rows_between}
 use Rattle.morsel_engine.specs.Stages.{Gained, WritesText}
@@ -52,16 +53,9 @@ front_of_all names rows n len k =
     ∙ sym (ndjson-split names rows (n + len)) in
     (f.0, f.1 ∙ ap (take f.0) whole)
 
-later_rose : (a b c : ℕ) → a ≤ b → (b < c) ⊎ (c ≡ 2 ^ 64 - 1) → (a < c) ⊎ (c ≡ 2 ^ 64 - 1)
-later_rose a b c le (inl h) = inl (omega arith)
-later_rose a b c le (inr h) = inr h
-
--- a count that rose since a later moment rose
+-- a count that rose since some text was written rose
 rises_from : (old mid now : Outside) (text : List ℕ) → Gained old text mid → Rises mid.write_faults now.write_faults → Rises old.write_faults now.write_faults
-rises_from old mid now text g rises =
-    let is : mid.write_faults ≡ g.count = ap (λ (o : Outside). o.write_faults) g.after in
-    let low : old.write_faults ≤ mid.write_faults = let n = g.no_lower in omega arith in
-    record { no_lower = let n = rises.no_lower in omega arith; rose = later_rose old.write_faults mid.write_faults now.write_faults low rises.rose }
+rises_from old mid now text g rises = rises_since _ _ _ (rises_by-no_lower _ _ _ g.does.write_faults) rises
 
 -- the writing of a part stopped
 pub writes-stopped : (old mid now : Outside) (names : List (List ℕ)) (rows : List Row) (n len : ℕ) (fault : Fault) → Gained old (ndjson names (take n rows)) mid

@@ -3,7 +3,7 @@ use Rattle.std.specs.Prelude.{ℕ, Option, Some, None, List, [], get_or}
 use Rattle.morsel_meaning.specs.declared.value.Field.{Field}
 use Rattle.morsel_meaning.specs.Values.{Row}
 use Rattle.morsel_outside.specs.Outside.{Outside}
-use Rattle.morsel_outside.specs.Calls.{Rises}
+use Rattle.morsel_outside.specs.Actions.{Rises}
 use Rattle.morsel_engine.specs.FileRows.{ScansFile}
 
 -- the file's bytes are told, and are rows up to their end

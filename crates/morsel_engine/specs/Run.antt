@@ -4,9 +4,12 @@ use Rattle.morsel_meaning.specs.declared.fault.Fault.{Fault}
 use Rattle.morsel_meaning.specs.declared.fault.Fault.TheVariants.{OutOfMemory, ReadFault, WriteFault, Malformed}
 use Rattle.morsel_meaning.specs.declared.value.Field.{Field}
 use Rattle.morsel_meaning.specs.Values.{Row, names_of}
-use Rattle.morsel_outside.specs.Outside.{Outside, Event, Asked, Open, Make, with_last, with_sink}
-use Rattle.morsel_outside.specs.Calls.{Rises}
-use Rattle.morsel_outside.specs.Asks.{Gains, times_asked}
+use Rattle.morsel_outside.specs.declared.events.IoEvent.{IoEvent}
+use Rattle.morsel_outside.specs.declared.events.Asked.{Asked}
+use Rattle.morsel_outside.specs.declared.events.Asked.TheVariants.{Open, Make}
+use Rattle.morsel_outside.specs.Outside.{Outside, with_more, with_last, with_sink}
+use Rattle.morsel_outside.specs.Actions.{Rises}
+use Rattle.morsel_outside.specs.Asks.{times_asked}
 use Rattle.morsel_ndjson.specs.Ndjson.{ndjson}
 use Rattle.morsel_engine.specs.FileRows.{ScansFile}
 
@@ -30,17 +33,18 @@ abbrev pub IsFirstRefused : Option (List (List ℕ)) → ℕ → List Field → 
 IsFirstRefused None file schema at = Unit {0}
 IsFirstRefused (Some files) file schema at = (rows : List Row) × ScansFile schema (get_or files file []) rows (Some at)
 
--- a front of the text of the rows before the first refused record, where the file's bytes are told
+-- the beginning of the text of the rows before the first refused record, where the file's bytes are told
 abbrev pub IsFrontOfText : Option (List (List ℕ)) → ℕ → List Field → List ℕ → Type 0
 IsFrontOfText None file schema text = Unit {0}
 IsFrontOfText (Some files) file schema text = (rows : List Row) × (refused : Option ℕ) × (n : ℕ)
     × ScansFile schema (get_or files file []) rows refused × (text ≡ take n (ndjson (names_of schema) rows))
 
--- a byte of the file is asked at most once; no byte behind its size, and none of another file
-abbrev pub AsksAtMostOnce : ℕ → ℕ → List Event → Type 0
+-- a byte of the file is asked at most once; no byte past its size, and none of another file
+abbrev pub AsksAtMostOnce : ℕ → ℕ → List IoEvent → Type 0
 AsksAtMostOnce file size events = (source byte : ℕ) → times_asked source byte events ≤ (if source == file && nat_lt byte size then 1 else 0)
 
-abbrev pub AsksEachByte : ℕ → ℕ → List Event → Type 0
+-- each byte of the file is asked once
+abbrev pub AsksEachByte : ℕ → ℕ → List IoEvent → Type 0
 AsksEachByte file size events = (byte : ℕ) → byte < size → times_asked file byte events ≡ 1
 
 -- one file more is open, with the bytes that are held of it
@@ -53,6 +57,16 @@ pub record OpensOne (old new : Outside) : Type 0 where
 abbrev pub ReadsWell : Outside → Outside → Type 0
 ReadsWell old new = (new.read_faults ≡ old.read_faults) × (new.failed ≡ old.failed)
 
+-- the file was opened and then the sink made, and no other file or sink
+pub record HasBegun (old : Outside) (q : Query) (new : Outside) : Type 0 where
+  pub opened : OpensOne old new
+  pub asked : new.asked ≡ old.asked ++ names_asked q
+  pub one_sink : new.sinks ≡ old.sinks + 1
+
+-- the file could not be opened, and no other name was asked for
+abbrev pub StopsAtOpening : Outside → Query → Outside → Type 0
+StopsAtOpening old q new = (new.sizes ≡ old.sizes) × (new.asked ≡ old.asked ++ Open q.file ∷ [])
+
 -- the file was opened, the sink has the text of its rows, and nothing else was made or printed
 pub record Answers (old : Outside) (q : Query) (count : ℕ) (new : Outside) : Type 0 where
   pub rows : List Row
@@ -63,19 +77,21 @@ pub record Answers (old : Outside) (q : Query) (count : ℕ) (new : Outside) : T
   pub read_well : ReadsWell old new
   pub made : new.made ≡ with_sink old.made q.out (ndjson (names_of q.schema) rows)
   pub asked : new.asked ≡ old.asked ++ names_asked q
-  pub events : List Event
-  pub gained : Gains old.events events new.events
+  pub events : List IoEvent
+  pub gained : new.events ≡ with_more old.events events
   pub every_byte : AsksEachByte (length old.sizes) (get_or new.sizes (length old.sizes) 0) events
 
--- when each fault may be answered
+-- when each fault may be answered; a file is read, and a record of it refused, only after the sink was made
 abbrev pub HasCause : Outside → Query → Fault → Outside → Type 0
 HasCause old q OutOfMemory new = Unit {0}
 HasCause old q (ReadFault file) new = (file ≡ 0) × Rises old.read_faults new.read_faults × (new.failed ≡ length old.sizes)
+    × (StopsAtOpening old q new ⊎ HasBegun old q new)
 HasCause old q WriteFault new = Rises old.write_faults new.write_faults
-HasCause old q (Malformed file at) new = (file ≡ 0) × IsFirstRefused new.held (length old.sizes) q.schema at
+HasCause old q (Malformed file at) new = (file ≡ 0) × HasBegun old q new
+    × (at < get_or new.sizes (length old.sizes) 0) × IsFirstRefused new.held (length old.sizes) q.schema at
 HasCause old q fault new = ⊥
 
--- no sink was made, or one whose text is a front of the rows' text
+-- no sink was made, or one whose text is the beginning of the rows' text
 abbrev pub MadeSome : Outside → Query → Outside → Type 0
 MadeSome old q new = (new.made ≡ old.made)
     ⊎ ((new.asked ≡ old.asked ++ names_asked q) × (text : List ℕ)
@@ -89,8 +105,8 @@ AsksSome old q new = (new.asked ≡ old.asked)
 
 -- the reads of a run, whatever it answers
 pub record ReadsAtMostOnce (old : Outside) (new : Outside) : Type 0 where
-  pub events : List Event
-  pub gained : Gains old.events events new.events
+  pub events : List IoEvent
+  pub gained : new.events ≡ with_more old.events events
   pub once : AsksAtMostOnce (length old.sizes) (get_or new.sizes (length old.sizes) 0) events
 
 -- what else a run may change: one file more is open, one sink more was made, a read of the file failed
@@ -99,14 +115,17 @@ pub record Keeps (old new : Outside) : Type 0 where
   pub sinks : (new.sinks ≡ old.sinks) ⊎ (new.sinks ≡ old.sinks + 1)
   pub reads : ReadsWell old new ⊎ (Rises old.read_faults new.read_faults × (new.failed ≡ length old.sizes))
 
+-- what a number of rows says
 abbrev pub Answered : Outside → Query → Result ℕ Fault → Outside → Type 0
 Answered old q (Ok count) new = Answers old q count new
 Answered old q (Err fault) new = Unit {0}
 
+-- what a fault says
 abbrev pub Caused : Outside → Query → Result ℕ Fault → Outside → Type 0
 Caused old q (Ok count) new = Unit {0}
 Caused old q (Err fault) new = HasCause old q fault new
 
+-- what a fault leaves
 abbrev pub AfterFault : Outside → Query → Result ℕ Fault → Outside → Type 0
 AfterFault old q (Ok count) new = Unit {0}
 AfterFault old q (Err fault) new = MadeSome old q new
@@ -120,4 +139,5 @@ pub record Runs (old : Outside) (q : Query) (result : Result ℕ Fault) (new : O
   pub reads : ReadsAtMostOnce old new
   pub keeps : Keeps old new
   pub printed : new.printed ≡ old.printed
+  pub print_faults : new.print_faults ≡ old.print_faults
   pub no_lower : old.write_faults ≤ new.write_faults

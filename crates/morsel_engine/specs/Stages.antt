@@ -1,71 +1,63 @@
--- What stands behind each stage of a run: what the calls to the outside left, and what stayed as it was.
-use Rattle.std.specs.Prelude.{◌≡◌, ℕ, ◌+◌, ◌≤◌, Option, Result, Ok, Err, List, [], ◌∷◌, ◌++◌, length, take, get_or}
+-- What each stage of a run did to the outside.
+use Rattle.std.specs.Prelude.{◌≡◌, ℕ, Result, Ok, Err, List, [], ◌∷◌, length, take, get_or}
+use Rattle.std.specs.List.{flat_map}
 use Rattle.morsel_meaning.specs.declared.fault.Fault.{Fault}
 use Rattle.morsel_meaning.specs.declared.fault.Fault.TheVariants.{OutOfMemory, ReadFault, WriteFault}
-use Rattle.morsel_outside.specs.declared.io.FileNo.{FileNo}
-use Rattle.morsel_outside.specs.Outside.{Outside, Event, ReadAt, Wrote, Open, Make, with_last, with_piece, with_sink}
-use Rattle.morsel_outside.specs.Calls.{Rises, Holds, Opened}
-use Rattle.morsel_outside.specs.Asks.{Gains}
 use Rattle.morsel_meaning.specs.Values.{Table, names_of}
+use Rattle.morsel_outside.specs.declared.io.FileNo.{FileNo}
+use Rattle.morsel_outside.specs.Outside.{Outside}
+use Rattle.morsel_outside.specs.Actions.{Action, FailedOpening, Reading, FailedReading, Making, FailedMaking, Writing, FailedWriting, Rises, Does, text_by}
+use Rattle.morsel_outside.specs.Calls.{Holds, Opened}
 use Rattle.morsel_ndjson.specs.Ndjson.{ndjson}
 
--- a file was opened, or the opening failed
+-- the file was opened, or could not be
 abbrev pub OpensSource : Outside → List ℕ → Result FileNo Fault → Outside → Type 0
 OpensSource old name (Ok file) new = (bytes : List ℕ) × Opened old name file.0 bytes new
 OpensSource old name (Err OutOfMemory) new = new ≡ old
-OpensSource old name (Err (ReadFault number)) new = (number ≡ 0) × (count : ℕ) × Rises old.read_faults count
-    × (new ≡ record old { read_faults = count; failed = length old.sizes; asked = old.asked ++ Open name ∷ [] })
+OpensSource old name (Err (ReadFault number)) new = (number ≡ 0) × Does old (FailedOpening (length old.sizes) name ∷ []) new
 OpensSource old name (Err fault) new = ⊥
 
--- a sink was made, or the making failed
+-- the sink was made, or could not be
 abbrev pub MakesSink : Outside → List ℕ → Result (Unit {0}) Fault → Outside → Type 0
-MakesSink old name (Ok _) new = new ≡ record old {
-  sinks = old.sinks + 1;
-  made = with_sink old.made name [];
-  asked = old.asked ++ Make name ∷ [];
-}
+MakesSink old name (Ok _) new = Does old (Making name ∷ []) new
 MakesSink old name (Err OutOfMemory) new = new ≡ old
-MakesSink old name (Err WriteFault) new = (count : ℕ) × Rises old.write_faults count
-    × (new ≡ record old { write_faults = count; asked = old.asked ++ Make name ∷ [] })
+MakesSink old name (Err WriteFault) new = Does old (FailedMaking name ∷ []) new
 MakesSink old name (Err fault) new = ⊥
 
--- the whole file was asked by one read
+-- the whole file was read, at once
 pub record ReadsWhole (old : Outside) (file : ℕ) (bytes : List ℕ) (new : Outside) : Type 0 where
   pub size : length bytes ≡ get_or old.sizes file 0
   pub held : Holds old.held file 0 bytes
-  pub after : new ≡ record old { events = with_last old.events (ReadAt file 0 (length bytes)) }
+  pub does : Does old (Reading file 0 (length bytes) ∷ []) new
 
 -- not all of the file came
 abbrev pub ReadFails : Outside → ℕ → Fault → Outside → Type 0
 ReadFails old file OutOfMemory new = new ≡ old
-ReadFails old file (ReadFault number) new = (number ≡ 0) × (count : ℕ) × Rises old.read_faults count
-    × (new ≡ record old { events = with_last old.events (ReadAt file 0 (get_or old.sizes file 0)); read_faults = count; failed = file })
+ReadFails old file (ReadFault number) new = (number ≡ 0) × Does old (FailedReading file 0 (get_or old.sizes file 0) ∷ []) new
 ReadFails old file fault new = ⊥
 
--- each event is a write
-abbrev pub AreWrites : List Event → Type 0
-AreWrites [] = Unit {0}
-AreWrites (ReadAt file at len ∷ events) = ⊥
-AreWrites (Wrote len ∷ events) = AreWrites events
+-- each action is a write, some of which may have failed
+abbrev pub AreWritings : List Action → Type 0
+AreWritings [] = Unit {0}
+AreWritings (Writing piece ∷ actions) = AreWritings actions
+AreWritings (FailedWriting piece ∷ actions) = AreWritings actions
+AreWritings (action ∷ actions) = ⊥
 
--- the text of the last sink gained this, and nothing else changed but events and the count of write faults
+-- writes, and nothing else, gave the text of the last sink this more
 pub record Gained (old : Outside) (text : List ℕ) (new : Outside) : Type 0 where
-  pub added : List Event
-  pub events : Option (List Event)
-  pub count : ℕ
-  pub writes : AreWrites added
-  pub gains : Gains old.events added events
-  pub no_lower : old.write_faults ≤ count
-  pub after : new ≡ record old { made = with_piece old.made text; events = events; write_faults = count }
+  pub actions : List Action
+  pub writings : AreWritings actions
+  pub text_is : flat_map text_by actions ≡ text
+  pub does : Does old actions new
 
--- a text was written, or a front of it
+-- a text was written, or the beginning of it
 abbrev pub WritesText : Outside → List ℕ → Result (Unit {0}) Fault → Outside → Type 0
 WritesText old text (Ok _) new = Gained old text new
 WritesText old text (Err OutOfMemory) new = (n : ℕ) × Gained old (take n text) new
 WritesText old text (Err WriteFault) new = (n : ℕ) × Gained old (take n text) new × Rises old.write_faults new.write_faults
 WritesText old text (Err fault) new = ⊥
 
--- the rows of a table were written as NDJSON, this many, or a front of their text
+-- the rows of a table were written as NDJSON, this many, or the beginning of their text
 abbrev pub WritesTable : Outside → Table → Result ℕ Fault → Outside → Type 0
 WritesTable old table (Ok count) new = (count ≡ length table.rows) × Gained old (ndjson (names_of table.schema) table.rows) new
 WritesTable old table (Err fault) new = WritesText old (ndjson (names_of table.schema) table.rows) (Err fault) new

@@ -18,21 +18,21 @@ pub with_more-with_more : {A : Type 0} (items : Option (List A)) (first second :
 with_more-with_more None first second = refl
 with_more-with_more (Some items) first second = ap Some (append_assoc items first second)
 
--- a count that rose after it rose, or rose before
+-- a count that rose since a later moment rose
 rose_twice : (a b c : ℕ) → a ≤ b → (b < c) ⊎ (c ≡ 2 ^ 64 - 1) → (a < c) ⊎ (c ≡ 2 ^ 64 - 1)
 rose_twice a b c le (inl less) = inl (omega arith)
 rose_twice a b c le (inr end) = inr end
 
-pub rises_twice : (a b c : ℕ) → Rises a b → Rises b c → Rises a c
-rises_twice a b c first second = record {
-  no_lower = let m = first.no_lower in let n = second.no_lower in omega arith;
-  rose = rose_twice a b c first.no_lower second.rose;
+pub rises_since : (a b c : ℕ) → a ≤ b → Rises b c → Rises a c
+rises_since a b c before since = record {
+  no_lower = let n = since.no_lower in omega arith;
+  rose = rose_twice a b c before since.rose;
 }
 
 -- a count that rose, and then more failures or none
 rises_then : (n a b c : ℕ) → Rises a b → RisesBy n b c → Rises a c
 rises_then zero a b c first second = subst (λ (x : ℕ). Rises a x) (sym second) first
-rises_then (suc n) a b c first second = rises_twice a b c first second
+rises_then (suc n) a b c first second = rises_since a b c first.no_lower second
 
 -- a count after failures, and then more failures
 pub rises_by-add : (m n a b c : ℕ) → RisesBy m a b → RisesBy n b c → RisesBy (m + n) a c

@@ -1,6 +1,6 @@
 -- What one action leaves, as a change of the outside.
 use Rattle.std.specs.Prelude.{◌≡◌, ℕ, ◌+◌, List, [], ◌∷◌, ◌++◌, length, refl}
-use Rattle.std.proofs.Common.{sym, subst, append-nil, add-zero}
+use Rattle.std.proofs.Common.{ap, ◌∙◌, sym, subst, append-nil, add-zero}
 use Rattle.morsel_outside.specs.declared.events.IoEvent.TheVariants.{ReadAt, Wrote}
 use Rattle.morsel_outside.specs.declared.events.Asked.TheVariants.{Open, Make}
 use Rattle.morsel_outside.specs.Outside.{Outside, with_more, with_last, with_piece, with_sink}
@@ -196,3 +196,28 @@ does-failed_printing old new count prints rises more after = subst (Does old (Fa
   failed = refl;
   asked = sym (append-nil old.asked);
 })
+
+-- an outside that is as another but for what was printed
+alike_but_prints : (old new : Outside) → new.sizes ≡ old.sizes → new.held ≡ old.held → new.sinks ≡ old.sinks → new.made ≡ old.made → new.events ≡ old.events
+    → new.read_faults ≡ old.read_faults → new.failed ≡ old.failed → new.asked ≡ old.asked
+    → new ≡ record old { printed = new.printed; write_faults = new.write_faults; print_faults = new.print_faults }
+alike_but_prints old new sizes held sinks made events read_faults failed asked =
+    ap (λ it. record new { sizes = it }) sizes
+    ∙ ap (λ it. record new { sizes = old.sizes; held = it }) held
+    ∙ ap (λ it. record new { sizes = old.sizes; held = old.held; sinks = it }) sinks
+    ∙ ap (λ it. record new { sizes = old.sizes; held = old.held; sinks = old.sinks; made = it }) made
+    ∙ ap (λ it. record new { sizes = old.sizes; held = old.held; sinks = old.sinks; made = old.made; events = it }) events
+    ∙ ap (λ it. record new { sizes = old.sizes; held = old.held; sinks = old.sinks; made = old.made; events = old.events; read_faults = it }) read_faults
+    ∙ ap (λ it. record new { sizes = old.sizes; held = old.held; sinks = old.sinks; made = old.made; events = old.events; read_faults = old.read_faults; failed = it }) failed
+    ∙ ap (λ it. record new { sizes = old.sizes; held = old.held; sinks = old.sinks; made = old.made; events = old.events; read_faults = old.read_faults; failed = old.failed; asked = it }) asked
+
+-- a print, that failed or not, changes nothing else
+pub printing-change : (old new : Outside) (line : List ℕ) → Does old (Printing line ∷ []) new
+    → new ≡ record old { printed = new.printed; write_faults = new.write_faults; print_faults = new.print_faults }
+printing-change old new line does = alike_but_prints old new (does.sizes ∙ append-nil old.sizes) (does.held ∙ with_more-nil old.held) (does.sinks ∙ add-zero old.sinks)
+    does.made (does.events ∙ with_more-nil old.events) does.read_faults does.failed (does.asked ∙ append-nil old.asked)
+
+pub failed_printing-change : (old new : Outside) → Does old (FailedPrinting ∷ []) new
+    → new ≡ record old { printed = new.printed; write_faults = new.write_faults; print_faults = new.print_faults }
+failed_printing-change old new does = alike_but_prints old new (does.sizes ∙ append-nil old.sizes) (does.held ∙ with_more-nil old.held) (does.sinks ∙ add-zero old.sinks)
+    does.made (does.events ∙ with_more-nil old.events) does.read_faults does.failed (does.asked ∙ append-nil old.asked)

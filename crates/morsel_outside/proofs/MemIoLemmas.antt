@@ -45,7 +45,7 @@ writes-kept old piece (Err Failed) new kept = (
   min (unwrap_or (next_taken old) 0) (length piece),
   omega arith,
   does-failed_writing _ _ (part_taken old piece) _ kept.1
-  (ap told_of kept.2 ∙ told-written old.contents (part_taken old piece) old.read_faults (raised old.write_faults) old.print_faults old.failed),
+      (ap told_of kept.2 ∙ told-written old.contents (part_taken old piece) old.read_faults (raised old.write_faults) old.print_faults old.failed),
 )
 
 -- a line that is kept

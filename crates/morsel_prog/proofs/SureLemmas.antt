@@ -1,7 +1,7 @@
 -- An outside in memory that never fails has no count of faults that rises.
 use Rattle.std.specs.Prelude.{◌≡◌, ◌⊎◌, ◌^◌, ◌-◌, ◌<◌}
 use Rattle.std.proofs.Common.{arith, inl, inr}
-use Rattle.morsel_outside.specs.Calls.{Rises}
+use Rattle.morsel_outside.specs.Actions.{Rises}
 use Rattle.morsel_outside.specs.Memory.{Contents, sure}
 use Rattle.morsel_engine.specs.Complete.{NoneRises}
 

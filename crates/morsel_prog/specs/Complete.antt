@@ -11,6 +11,6 @@ abbrev pub IsValidCommand : Outside → Option Command → Outside → Type 0
 IsValidCommand old None new = ⊥
 IsValidCommand old (Some (ScanFile file schema out)) new = IsValid new.held (length old.sizes) schema
 
--- status 0, or that of want of memory
+-- status 0, or that of `OutOfMemory`
 abbrev pub IsDone : ℕ → Type 0
 IsDone status = (status ≡ 0) ⊎ (status ≡ fault_status faults.OutOfMemory)

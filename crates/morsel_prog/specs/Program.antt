@@ -1,14 +1,17 @@
 -- What the program does with its words: a run, and then the line that tells its answer.
-use Rattle.std.specs.Prelude.{◌≡◌, ◌⊎◌, ℕ, Option, Some, None, Result, Ok, Err, List, decimal}
+use Rattle.std.specs.Prelude.{◌≡◌, ◌⊎◌, ℕ, Option, Some, None, Result, Ok, Err, List, [], ◌∷◌, decimal}
 use Rattle.morsel_meaning.specs.declared.fault.Fault.{Fault}
 use Rattle.morsel_meaning.specs.declared.fault.Fault.TheVariants as faults
 use Rattle.morsel_meaning.specs.declared.value.Field.{Field}
 use Rattle.morsel_meaning.specs.Faults.{fault_line, fault_status}
 use Rattle.morsel_outside.specs.Outside.{Outside, with_last}
-use Rattle.morsel_outside.specs.Calls.{Rises}
+use Rattle.morsel_outside.specs.Actions.{Printing, FailedPrinting, Rises, Does}
+use Rattle.morsel_engine.specs.Complete.{NoneRises}
 use Rattle.morsel_engine.specs.Run.{Query, Runs, Answers, HasCause, MadeSome, AsksSome, ReadsAtMostOnce, ReadsWell, Keeps}
+use Rattle.morsel_prog.specs.Complete.{IsValidCommand, IsDone}
 use Rattle.morsel_prog.specs.Words.{Command, ScanFile}
 
+-- the scan of a command
 abbrev pub query_of : List ℕ → List Field → List ℕ → Query
 query_of file schema out = record { file = file; schema = schema; out = out }
 
@@ -18,34 +21,38 @@ RunsWords old (Some (ScanFile file schema out)) result new = Runs old (query_of 
 RunsWords old None (Ok count) new = ⊥
 RunsWords old None (Err fault) new = (new ≡ old) × ((fault ≡ faults.Usage) ⊎ (fault ≡ faults.OutOfMemory))
 
--- a fault's line was printed; or the outside failed to; or memory was short
+-- a fault's line was printed; or could not be; or memory ran out
 abbrev pub ReportsFault : Outside → Fault → ℕ → Outside → Type 0
 ReportsFault old fault status new =
-    ((status ≡ fault_status fault) × (new ≡ record old { printed = with_last old.printed (fault_line fault) }))
-    ⊎ ((count : ℕ) × (status ≡ fault_status fault) × Rises old.write_faults count × (new ≡ record old { write_faults = count }))
+    ((status ≡ fault_status fault) × Does old (Printing (fault_line fault) ∷ []) new)
+    ⊎ ((status ≡ fault_status fault) × Does old (FailedPrinting ∷ []) new)
     ⊎ ((status ≡ fault_status faults.OutOfMemory) × (new ≡ old))
 
 -- the count was printed, or not
 abbrev pub PrintsCount : Outside → ℕ → Result (Unit {0}) Fault → Outside → Type 0
-PrintsCount old count (Ok _) new = new ≡ record old { printed = with_last old.printed (decimal count) }
+PrintsCount old count (Ok _) new = Does old (Printing (decimal count) ∷ []) new
 PrintsCount old count (Err faults.OutOfMemory) new = new ≡ old
-PrintsCount old count (Err faults.WriteFault) new = (risen : ℕ) × Rises old.write_faults risen × (new ≡ record old { write_faults = risen })
+PrintsCount old count (Err faults.WriteFault) new = Does old (FailedPrinting ∷ []) new
 PrintsCount old count (Err fault) new = ⊥
 
--- the count was printed; or the outside failed to, or memory was short, and that was reported
+-- the count was printed; or could not be, or memory ran out, and that was reported
 abbrev pub ReportsCount : Outside → ℕ → ℕ → Outside → Type 0
 ReportsCount old count status new =
-    ((status ≡ 0) × (new ≡ record old { printed = with_last old.printed (decimal count) }))
-    ⊎ ((risen : ℕ) × Rises old.write_faults risen × ReportsFault (record old { write_faults = risen }) faults.WriteFault status new)
+    ((status ≡ 0) × Does old (Printing (decimal count) ∷ []) new)
+    ⊎ ((failed : Outside) × Does old (FailedPrinting ∷ []) failed × ReportsFault failed faults.WriteFault status new)
     ⊎ ReportsFault old faults.OutOfMemory status new
 
+-- the answer of a run was reported
 abbrev pub Reports : Outside → Result ℕ Fault → ℕ → Outside → Type 0
 Reports old (Ok count) status new = ReportsCount old count status new
 Reports old (Err fault) status new = ReportsFault old fault status new
 
--- a run, and then its report
-abbrev pub RunsAndReports : Outside → Option Command → ℕ → Outside → Type 0
-RunsAndReports old command status new = (ran : Outside) × (result : Result ℕ Fault) × RunsWords old command result ran × Reports ran result status new
+-- a run, which prints nothing, and then the report of what it answered; so a fault of printing comes after the run
+pub record RunsAndReports (old : Outside) (command : Option Command) (status : ℕ) (new : Outside) : Type 0 where
+  pub result : Result ℕ Fault  -- what the run answered
+  pub between : Outside  -- the outside after the run and before its report
+  pub ran : RunsWords old command result between
+  pub reported : Reports between result status new
 
 -- status 0: the words are a command, the sink has the text of all rows, and their number was printed
 abbrev pub AnswersWords : Outside → Option Command → Outside → Type 0
@@ -57,7 +64,7 @@ abbrev pub HasCauseIn : Outside → Option Command → Fault → Outside → Typ
 HasCauseIn old (Some (ScanFile file schema out)) fault new = HasCause old (query_of file schema out) fault new
 HasCauseIn old None fault new = (fault ≡ faults.Usage) ⊎ (fault ≡ faults.OutOfMemory)
 
--- how a status tells a fault: by its line; without a line where printing failed, or memory was short
+-- how a status tells a fault: by its line; without a line where printing failed, or memory ran out
 abbrev pub TellsFault : Outside → Fault → ℕ → Outside → Type 0
 TellsFault old fault status new =
     ((status ≡ fault_status fault) × (new.printed ≡ with_last old.printed (fault_line fault)))
@@ -68,7 +75,7 @@ TellsFault old fault status new =
 abbrev pub CausesWords : Outside → Option Command → ℕ → Outside → Type 0
 CausesWords old command status new = (fault : Fault) × HasCauseIn old command fault new × TellsFault old fault status new
 
--- another status: no sink, or one whose text is a front of the rows' text
+-- another status: no sink, or one whose text is the beginning of the rows' text
 abbrev pub LeavesAfterFault : Outside → Option Command → Outside → Type 0
 LeavesAfterFault old (Some (ScanFile file schema out)) new = MadeSome old (query_of file schema out) new
 LeavesAfterFault old None new = new.made ≡ old.made
@@ -87,3 +94,22 @@ ReadsOnce old None new = new.events ≡ old.events
 abbrev pub KeepsRest : Outside → Option Command → Outside → Type 0
 KeepsRest old (Some (ScanFile file schema out)) new = Keeps old new
 KeepsRest old None new = (new.sizes ≡ old.sizes) × (new.held ≡ old.held) × (new.sinks ≡ old.sinks) × ReadsWell old new
+
+-- the query theorem: what a status says of the outside before and after
+pub record QueryTheorem (old : Outside) (command : Option Command) (status : ℕ) (new : Outside) : Type 0 where
+  -- status 0: the sink has the text of all rows of the file, and their number was printed
+  pub answers : status ≡ 0 → AnswersWords old command new
+  -- every other status tells a fault whose cause holds; `Usage` comes for words that are no command, and for no others
+  pub caused : (status ≡ 0 → ⊥) → CausesWords old command status new
+  -- a command over a valid file ends with status 0, unless a count of faults rose or memory ran out
+  pub complete : IsValidCommand old command new → NoneRises old new → IsDone status
+  -- after a fault no sink was made, or one whose text is the beginning of the text of the rows before the first refused record
+  pub after_fault : (status ≡ 0 → ⊥) → LeavesAfterFault old command new
+  -- the names asked for are the command's, from the first on, and the sink's only where the file was opened
+  pub asks : AsksNames old command new
+  -- no byte of the file is asked twice, and none past its size
+  pub reads : ReadsOnce old command new
+  -- one file more is open, one sink more was made, a read of the file failed: nothing else changed but what the other fields name
+  pub keeps : KeepsRest old command new
+  -- the run comes first, whole, and then its report: the first fault is told, and where only the printing fails the text is whole
+  pub reported : RunsAndReports old command status new

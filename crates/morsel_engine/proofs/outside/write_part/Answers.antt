@@ -1,9 +1,8 @@
-use Rattle.std.proofs.Common.{length, arith}
 use Rattle.morsel_engine.proofs.StageLemmas.{gained-piece, writes-short, writes-failed}
 use Rattle.morsel_engine.proofs.outside.write_part.Goals as goal
 
 pub returns-in-Ok : goal.returns-in-Ok
-returns-in-Ok g c = rw c.in-Ok.ensures (gained-piece (g.H.Io.seen c.args.io.now) c.args.part.now (length c.args.part.now) (g.H.Io.seen c.args.io.now).write_faults (omega arith))
+returns-in-Ok g c = gained-piece _ _ _ c.in-Ok.ensures
 
 pub returns-in-Err-OutOfMemory : goal.returns-in-Err-OutOfMemory
 returns-in-Err-OutOfMemory g c = let e = c.in-Err-OutOfMemory in
