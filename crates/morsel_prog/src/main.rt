@@ -20,6 +20,7 @@ use real_io::RealIo;
 use std::fs::File;
 use std::io::ErrorKind;
 use std::os::fd::IntoRawFd;
+use std::os::unix::fs::FileExt;
 use std::process::ExitCode;
 use std::rt::{Env, Files};
 use std::sync::Wait;
@@ -29,7 +30,7 @@ use std::{env, io};
 /// Takes the descriptors of standard input, output and error where they are closed, so that no file which the program
 /// opens gets one of them, and no line lands in a data file.
 ///
-/// What takes them can't be written, so a line for a closed output fails. It stays open until the program ends.
+/// What takes them can't be written, so a line for a closed output fails. It is left open until the program ends.
 fn take_closed_streams<R: Files>(rt: &R) -> io::Result<()>
 where
     R::File: IntoRawFd,
@@ -42,7 +43,7 @@ where
     Ok(())
 }
 
-/// The words behind the program's name: none where one of them is not UTF-8.
+/// The words after the program's name: none where one of them is not UTF-8.
 fn words_of<R: Env + AllocGlobal>(rt: &R) -> Result<Vec<String>, Fault> {
     let mut words = Vec::new(rt.alloc());
     let args = match env::args(rt) {
@@ -56,17 +57,18 @@ fn words_of<R: Env + AllocGlobal>(rt: &R) -> Result<Vec<String>, Fault> {
     Ok(words)
 }
 
-/// Prints a text, and answers the status.
-fn show(rt: &impl Print, text: &str) -> u8 {
-    match rt.print(text) {
-        Ok(()) => 0,
-        Err(_) => report::status_of(&Fault::WriteFault),
-    }
+/// Prints a text, and answers the status. The reason of a failure goes to standard error, as that of a command's line does.
+fn show<R: Print + Eprint>(rt: &R, text: &str) -> u8 {
+    let Err(error) = rt.print(text) else {
+        return 0;
+    };
+    let _ = eprintln!(rt; "standard output: {error}");
+    report::status_of(&Fault::WriteFault)
 }
 
 fn run<R: Files + Env + Print + Eprint + AllocGlobal + Threads + Wait + Sync>(rt: &R) -> u8
 where
-    R::File: IntoRawFd,
+    R::File: IntoRawFd + FileExt,
 {
     if let Err(error) = take_closed_streams(rt) {
         let _ = eprintln!(rt; "/dev/null: {error}");

@@ -1,7 +1,7 @@
-use Rattle.morsel_prog.proofs.RealIoLemmas.{opens-untold}
+use Rattle.morsel_prog.proofs.RealIoLemmas.{opens-kept}
 use Rattle.morsel_prog.proofs.real_io.RealIoIo.open_source.Goals as goal
 
 pub returns-in-Ok : goal.returns-in-Ok
 returns-in-Ok g c =
     let kept = c.in-Ok-keep_source in
-    opens-untold _ _ kept.file _ _ kept.ensures.untold kept.ensures.number kept.ensures.ok
+    opens-kept _ _ _ _ _ kept.file _ c.open.ensures kept.ensures.untold kept.ensures.number kept.ensures.ok c.keep_descriptor.ensures
