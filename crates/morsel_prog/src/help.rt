@@ -24,9 +24,9 @@ status, and what is printed:
   11   error 1: out of memory            FILE is too large for the memory that there is
   12   error 2: read fault in file 0     FILE could not be opened or read
   13   error 3: write fault              OUT could not be made or written, or a line not printed
-  15   error 5: malformed file 0 at A    the record that begins at byte A of FILE is no CSV or does not fit SCHEMA
-  22   error 12: usage                   the words are no command, or FILE and OUT are one word
-Behind 12 and 13, standard error tells the file and the reason. With any status but 0, what stands in OUT is no answer.
+  15   error 5: malformed file 0 at A    the record that begins at byte A of FILE is not CSV or does not fit SCHEMA
+  22   error 12: usage                   the words are not a command, or FILE and OUT are the same word
+For 12 and 13, standard error tells the file and the reason. With any status but 0, what OUT contains is no answer.
 ";
 
 /// The name, the version, and the toolchain that proved and built it.

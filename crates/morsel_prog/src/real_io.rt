@@ -17,8 +17,8 @@ mod tests;
 use morsel_meaning::{Fault, Name};
 use morsel_outside::{Asked, FileNo, Io, IoErr};
 use reasons::reason_of;
-use sinks::{OpenSink, create};
-use sources::{Source, Version, is_out_of_descriptors, open, open_again};
+use sinks::OpenSink;
+use sources::{Source, Version, is_out_of_descriptors};
 use std::alloc::Global;
 use std::io;
 use std::io::{ErrorKind, Write};
@@ -98,8 +98,8 @@ where
     fn open(&mut self, name: &str) -> io::Result<(R::File, Version)>
         ensures { self.new ≡ self.old }
     {
-        match open(self.rt, name) {
-            Err(error) if self.lets_one_go(&error) => open(self.rt, name),
+        match sources::open(self.rt, name) {
+            Err(error) if self.lets_one_go(&error) => sources::open(self.rt, name),
             opened => opened,
         }
     }
@@ -136,8 +136,10 @@ where
         requires { file < length self.old.sizes }
         ensures { self.new ≡ self.old }
     {
-        match open_again(self.rt, &self.sources[file]) {
-            Err(error) if self.lets_one_go(&error) => open_again(self.rt, &self.sources[file]),
+        match sources::open_again(self.rt, &self.sources[file]) {
+            Err(error) if self.lets_one_go(&error) => {
+                sources::open_again(self.rt, &self.sources[file])
+            }
             opened => opened,
         }
     }
@@ -186,12 +188,10 @@ where
         ensures same { self.new ≡ self.old }
         ensures untold { self.old.made ≡ None }
     {
-        match create(self.rt, name, self.sources.as_slice()) {
-            Err(error) if self.lets_one_go(&error) => create(
-                self.rt,
-                name,
-                self.sources.as_slice(),
-            ),
+        match sinks::create(self.rt, name, self.sources.as_slice()) {
+            Err(error) if self.lets_one_go(&error) => {
+                sinks::create(self.rt, name, self.sources.as_slice())
+            }
             created => created,
         }
     }

@@ -85,7 +85,7 @@ fn look_at<F: OpenFile + FileExt>(file: &F) -> io::Result<Version> {
 /// Opens the file.
 ///
 /// Its kind is asked by its name first, since opening a pipe would wait for the pipe's other end, and once more of what
-/// was opened, since the name may mean another file by then.
+/// was opened, since the name may mean another file by then. A pipe that takes its place in between is waited for.
 pub fn open<R: Files>(rt: &R, name: &str) -> io::Result<(R::File, Version)>
 where
     R::File: FileExt,
