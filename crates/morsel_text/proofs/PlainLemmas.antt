@@ -314,12 +314,12 @@ plain_more total width kinds height rows at columns new before later row so_far 
     read_more total before later (replicate width true) kinds height rows at columns new row so_far (subst P same (gains_all columns row rows new gains)) is
 
 -- a step of reading, from the step of one record
-pub plain_step : (total : Read) (width : ℕ) (kinds ks : List ColType) (o : Options) (used : List Bool) (n k height rows at next : ℕ) (head still : Bool) (rest after : List ℕ)
+pub plain_step : (total : Read) (width : ℕ) (kinds ks : List ColType) (o : Options) (used : List Bool) (n k height rows at next : ℕ) (head awaits_header : Bool) (rest after : List ℕ)
     (columns new : List Values) (row : Option Row) → k ≡ suc n → PlainSo total width kinds height columns (left k o ks used head at rest) → Gains columns row rows new
-    → ((m : ℕ) → left (suc m) o ks used head at rest ≡ row_first at row (left m o ks used still next after))
-    → PlainSo total width kinds (height + rows) new (left n o ks used still next after)
-plain_step total width kinds ks o used n k height rows at next head still rest after columns new row one_more so_far gains step =
-    plain_more total width kinds height rows at columns new (left k o ks used head at rest) (left n o ks used still next after) row so_far gains
+    → ((m : ℕ) → left (suc m) o ks used head at rest ≡ row_first at row (left m o ks used awaits_header next after))
+    → PlainSo total width kinds (height + rows) new (left n o ks used awaits_header next after)
+plain_step total width kinds ks o used n k height rows at next head awaits_header rest after columns new row one_more so_far gains step =
+    plain_more total width kinds height rows at columns new (left k o ks used head at rest) (left n o ks used awaits_header next after) row so_far gains
     (ap (λ m. left m o ks used head at rest) one_more ∙ step n)
 
 pub plain_refused : (file : ℕ) (total : Read) (width : ℕ) (kinds ks : List ColType) (o : Options) (used : List Bool) (n k height at : ℕ) (head : Bool) (rest : List ℕ)

@@ -30,16 +30,16 @@ behind_record o text behind r fit some found =
     let taken = record_taken o r text behind fit is (some_bytes text 0 some) in
     (taken.1.shorter, λ utf8. (utf8_parts o r text behind taken.0 fit taken.1 utf8).1)
 
-pub after_record : (total : Read) (used : List Bool) (ks : List ColType) (o : Options) (height rows at next : ℕ) (head still : Bool) (text rest : List ℕ) (columns new : List Values)
+pub after_record : (total : Read) (used : List Bool) (ks : List ColType) (o : Options) (height rows at next : ℕ) (head awaits_header : Bool) (text rest : List ℕ) (columns new : List Values)
     (row : Option Row) → AreOptions o → length rest < length text → ReadSo total used ks height columns (left (length text) o ks used head at text) → Gains used columns row rows new
-    → ((m : ℕ) → left (suc m) o (column_kinds columns) used head at text ≡ row_first at row (left m o (column_kinds columns) used still next rest))
-    → ReadSo total used ks (height + rows) new (left (length rest) o ks used still next rest)
-after_record total used ks o height rows at next head still text rest columns new row fit shorter so_far gains step =
+    → ((m : ℕ) → left (suc m) o (column_kinds columns) used head at text ≡ row_first at row (left m o (column_kinds columns) used awaits_header next rest))
+    → ReadSo total used ks (height + rows) new (left (length rest) o ks used awaits_header next rest)
+after_record total used ks o height rows at next head awaits_header text rest columns new row fit shorter so_far gains step =
     let n = length text - 1 in
     let one_more : length text ≡ suc n = omega arith in
     subst (λ (r : Read). ReadSo total used ks (height + rows) new r)
-    (ap (read_of used) (reading_up_to-enough n (length rest) o ks still next rest fit (omega arith) (omega arith)))
-    (step_more total used ks o n (length text) height rows at next head still text rest columns new row one_more so_far gains step)
+    (ap (read_of used) (reading_up_to-enough n (length rest) o ks awaits_header next rest fit (omega arith) (omega arith)))
+    (step_more total used ks o n (length text) height rows at next head awaits_header text rest columns new row one_more so_far gains step)
 
 pub after_batch : (total : Read) (used : List Bool) (ks : List ColType) (o : Options) (height rows at : ℕ) (text rest : List ℕ) (columns new : List Values)
     → AreOptions o → IsUtf8 text → ReadSo total used ks height columns (left (length text) o ks used false at text) → PutsRows o used text columns rest rows new
@@ -67,9 +67,9 @@ pub after_turn : (total : Read) (used : List Bool) (ks : List ColType) (o : Opti
     → ReadSo total used ks (height + step.rows) new (left (length step.rest.now) o ks used step.head (at + (length text - length step.rest.now)) step.rest.now)
 after_turn total used ks o file height at head text columns new step fit shorter so_far (inl one) =
     after_record total used ks o height step.rows at (at + (length text - length step.rest.now)) head step.head text step.rest.now columns new one.0 fit shorter so_far one.1 one.2
-after_turn total used ks o file height at head text columns new step fit shorter so_far (inr (behind, still, utf8, puts)) =
+after_turn total used ks o file height at head text columns new step fit shorter so_far (inr (behind, awaits_header, utf8, puts)) =
     let place = at + (length text - length step.rest.now) in
-    subst (λ (h : Bool). ReadSo total used ks (height + step.rows) new (left (length step.rest.now) o ks used h place step.rest.now)) (sym still)
+    subst (λ (h : Bool). ReadSo total used ks (height + step.rows) new (left (length step.rest.now) o ks used h place step.rest.now)) (sym awaits_header)
     (after_batch total used ks o height step.rows at text step.rest.now columns new fit utf8
     (subst (λ (h : Bool). ReadSo total used ks height columns (left (length text) o ks used h at text)) behind so_far) puts)
 

@@ -4,12 +4,12 @@ ghost use Rattle.morsel_text.specs.RawFields.{shown};
 ghost use Rattle.morsel_text.specs.Pushes.{AreTexts, column_kinds};
 ghost use Rattle.morsel_text.specs.Batches.{spread, SplitsBatch, AreTextColumns, MakesColumn, MakesAll, appended, ReadsBatch};
 
-use morsel_grammar::CsvOptions;
 use crate::cells::{Pushed, push_cell};
 use crate::ints::int_column;
 use crate::rows::is_empty;
 use crate::split::{RawField, Split, split_record};
 use morsel_frame::Column;
+use morsel_grammar::CsvOptions;
 use morsel_meaning::{ColType, Fault};
 use std::alloc::Global;
 use std::marker::Model;

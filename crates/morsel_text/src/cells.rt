@@ -5,9 +5,9 @@ ghost use Rattle.morsel_grammar.specs.Cells.{short_number, int_of, bool_of, valu
 ghost use Rattle.morsel_text.specs.RawFields.{shown};
 ghost use Rattle.morsel_text.specs.Pushes.{PushesCell};
 
-use morsel_grammar::CsvOptions;
 use crate::split::{RawField, unquote};
 use morsel_frame::Column;
+use morsel_grammar::CsvOptions;
 use morsel_meaning::ColType;
 use std::str::from_utf8_unchecked;
 

@@ -6,11 +6,11 @@ ghost use Rattle.morsel_text.specs.RawFields.{shown};
 ghost use Rattle.morsel_text.specs.Pushes.{AreTexts};
 ghost use Rattle.morsel_text.specs.Batches.{IsIntCell, MakesColumn};
 
-use morsel_grammar::CsvOptions;
 use crate::batch::Made;
 use crate::cells::int_of;
 use crate::split::{RawField, unquote};
 use morsel_frame::Column;
+use morsel_grammar::CsvOptions;
 use std::alloc::Global;
 use std::str::from_utf8_unchecked;
 

@@ -9,11 +9,11 @@ ghost use Rattle.morsel_grammar.specs.Reading.{reading, row_place};
 ghost use Rattle.morsel_text.specs.RawFields.{shown};
 ghost use Rattle.morsel_text.specs.RowPlaces.{IsKind, SkipsTo, skip_len};
 
-use morsel_grammar::CsvOptions;
 use crate::rows::is_empty;
 use crate::split::{RawField, Split, split_record};
 use crate::text::is_text;
 use morsel_frame::Schema;
+use morsel_grammar::CsvOptions;
 use morsel_meaning::Fault;
 use std::alloc::Global;
 
@@ -113,13 +113,13 @@ pub fn place_of_row(
     let mut fields = Vec::new(alloc);
     let mut rest = bytes;
     let mut place = at;
-    let mut still = head;
+    let mut awaits_header = head;
     let mut before = row;
     for _ in 0..bytes.len() {
         if rest.is_empty() {
             return Ok(None);
         }
-        match skip_record(rest, place, still, schema, options, &mut fields) {
+        match skip_record(rest, place, awaits_header, schema, options, &mut fields) {
             Skip::Row(after) => {
                 if before == 0 {
                     return Ok(Some(place));
@@ -127,13 +127,13 @@ pub fn place_of_row(
                 before -= 1;
                 place += (rest.len() - after.len()) as u64;
                 rest = after;
-                still = false;
+                awaits_header = false;
                 continue;
             }
             Skip::Other(after, head) => {
                 place += (rest.len() - after.len()) as u64;
                 rest = after;
-                still = head;
+                awaits_header = head;
             }
             Skip::Refused => return Ok(None),
             Skip::NoMemory => return Err(Fault::OutOfMemory),

@@ -16,11 +16,11 @@ mod columns;
 mod records;
 mod rows;
 
-use morsel_grammar::CsvOptions;
 use crate::choice::{chosen_fields, columns_of};
 use crate::text::is_text;
 use columns::push_row;
 use morsel_frame::{Column, Frame, Schema};
+use morsel_grammar::CsvOptions;
 use morsel_meaning::{ComputeKind, Fault};
 use records::{PlainField, PlainSplit, is_empty, split};
 use rows::{PlainRow, row};
@@ -102,7 +102,10 @@ fn read_frame(
     };
     let mut columns = columns;
     match read_all(reader, bytes, at, head, &mut columns) {
-        Ok((height, still)) => Ok((Frame::new(reader.alloc, chosen, columns, height), still)),
+        Ok((height, awaits_header)) => Ok((
+            Frame::new(reader.alloc, chosen, columns, height),
+            awaits_header,
+        )),
         Err(fault) => Err(fault),
     }
 }
@@ -126,23 +129,23 @@ fn read_all(
 {
     let mut rest = bytes;
     let mut place = at;
-    let mut still = head;
+    let mut awaits_header = head;
     let mut height = 0;
     for _ in 0..bytes.len() {
         if rest.is_empty() {
-            return Ok((height, still));
+            return Ok((height, awaits_header));
         }
-        match read_record(reader, rest, place, still, columns) {
+        match read_record(reader, rest, place, awaits_header, columns) {
             Ok(step) => {
                 place += (rest.len() - step.rest.len()) as u64;
                 rest = step.rest;
-                still = step.head;
+                awaits_header = step.head;
                 height += step.rows;
             }
             Err(fault) => return Err(fault),
         }
     }
-    Ok((height, still))
+    Ok((height, awaits_header))
 }
 
 /// Reads the record that a text begins with.

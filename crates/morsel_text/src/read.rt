@@ -12,13 +12,13 @@ ghost use Rattle.morsel_text.specs.Pushes.{column_kinds, AreTexts};
 ghost use Rattle.morsel_text.specs.Steps.{RowStepsTo, StepsTo, AreHigh, ReadsAll, ReadsColumns};
 ghost use Rattle.morsel_text.specs.Batches.{TurnsTo};
 
-use morsel_grammar::CsvOptions;
 use crate::batch::{BatchRead, read_batch};
 use crate::choice::{chosen_columns, chosen_fields, columns_of};
 use crate::rows::{RowPushed, is_empty, push_record};
 use crate::split::{RawField, Split, split_record};
 use crate::text::is_text;
 use morsel_frame::{Column, Frame, Schema};
+use morsel_grammar::CsvOptions;
 use morsel_meaning::{ComputeKind, Fault};
 use std::alloc::Global;
 
@@ -208,17 +208,17 @@ fn read_all(
     let mut content = Vec::new(alloc);
     let mut rest = bytes;
     let mut place = at;
-    let mut still = head;
+    let mut awaits_header = head;
     let mut height = 0;
     for _ in 0..bytes.len() {
         if rest.is_empty() {
-            return Ok((height, still));
+            return Ok((height, awaits_header));
         }
         match read_turn(
             alloc,
             rest,
             place,
-            still,
+            awaits_header,
             is_utf8,
             setting,
             columns,
@@ -228,13 +228,13 @@ fn read_all(
             Ok(step) => {
                 place += (rest.len() - step.rest.len()) as u64;
                 rest = step.rest;
-                still = step.head;
+                awaits_header = step.head;
                 height += step.rows;
             }
             Err(fault) => return Err(fault),
         }
     }
-    Ok((height, still))
+    Ok((height, awaits_header))
 }
 
 /// The used columns that were read.
@@ -268,14 +268,14 @@ fn read_columns(
     };
     let mut columns = columns;
     match read_all(alloc, bytes, at, head, setting, &mut columns) {
-        Ok((height, still)) => {
+        Ok((height, awaits_header)) => {
             let Ok(kept) = chosen_columns(alloc, &mut columns, setting.used) else {
                 return Err(Fault::OutOfMemory);
             };
             Ok(ColumnsRead {
                 columns: kept,
                 height,
-                head: still,
+                head: awaits_header,
             })
         }
         Err(fault) => Err(fault),

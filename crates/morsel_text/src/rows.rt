@@ -5,10 +5,10 @@ ghost use Rattle.morsel_grammar.specs.Grammar.{Fields};
 ghost use Rattle.morsel_grammar.specs.Rows.{is_empty, row_of, row_of_nothing};
 ghost use Rattle.morsel_text.specs.Pushes.{with_fields, PushesFields, AreTexts, column_kinds, PushesRow};
 
-use morsel_grammar::CsvOptions;
 use crate::cells::{Pushed, push_cell};
 use crate::split::RawField;
 use morsel_frame::Column;
+use morsel_grammar::CsvOptions;
 
 /// What came of putting a record into columns.
 pub enum RowPushed {

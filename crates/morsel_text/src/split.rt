@@ -8,9 +8,9 @@ ghost use Rattle.morsel_text.specs.RawFields.{IsRun, PassedTo, content_of, shown
 
 mod line;
 
-use morsel_grammar::CsvOptions;
 use line::split_short;
 use memchr::memchr;
+use morsel_grammar::CsvOptions;
 use morsel_meaning::Fault;
 use std::simd::prelude::*;
 

@@ -9,9 +9,9 @@ ghost use Rattle.morsel_grammar.specs.Reading.{used_values};
 ghost use Rattle.morsel_text.specs.Pushes.{AreTexts};
 ghost use Rattle.morsel_text.specs.Plain.{cell_in, cells_with, values_in, GivesRow};
 
-use morsel_grammar::CsvOptions;
 use crate::plain::records::{PlainField, is_empty};
 use morsel_frame::Schema;
+use morsel_grammar::CsvOptions;
 use morsel_meaning::{ColType, Fault, Name, Value};
 use std::alloc::Global;
 use std::str::from_utf8_unchecked;

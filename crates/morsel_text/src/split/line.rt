@@ -6,8 +6,8 @@ ghost use Rattle.morsel_text.specs.RawFields.{FieldsAre};
 ghost use Rattle.morsel_text.specs.Lines.{IsPlainLine, Marks};
 ghost use Rattle.morsel_text.specs.declared.split.Split.TheVariants as splits;
 
-use morsel_grammar::CsvOptions;
 use crate::split::{RawField, last};
+use morsel_grammar::CsvOptions;
 use std::simd::prelude::*;
 
 /// How many bytes are looked at at once.

@@ -23,13 +23,13 @@ returns-in-Err c =
     let ks = column_kinds c.args.columns.now.items in
     let n = length c.loop.rest.now in
     step_refused c.args.setting.now.file _ c.args.setting.now.used.now ks c.args.setting.now.options.now (n - 1) n c.loop.height c.loop.place
-    c.loop.still c.loop.rest.now c.loop.columns.items c.in-Err.fault (search rules) c.loop.invariant.so_far c.in-Err.ensures.turns
+    c.loop.awaits_header c.loop.rest.now c.loop.columns.items c.in-Err.fault (search rules) c.loop.invariant.so_far c.in-Err.ensures.turns
 
 pub loop-preserved : goal.loop-preserved
 loop-preserved c =
     let ks = column_kinds c.args.columns.now.items in
     record {
-      so_far = after_turn _ c.args.setting.now.used.now ks c.args.setting.now.options.now c.args.setting.now.file c.loop.height c.loop.place c.loop.still c.loop.rest.now
+      so_far = after_turn _ c.args.setting.now.used.now ks c.args.setting.now.options.now c.args.setting.now.file c.loop.height c.loop.place c.loop.awaits_header c.loop.rest.now
           c.loop.columns.items c.read_turn.new.columns.items c.in-Ok.step c.requires.fit c.in-Ok.ensures.shorter c.loop.invariant.so_far c.in-Ok.ensures.turns;
       places = omega (arith, c.in-Ok.ensures.shorter);
       height = omega (arith, c.in-Ok.ensures.room);
