@@ -18,7 +18,7 @@ use Rattle.morsel_text.specs.RawFields.{shown}
 use Rattle.morsel_text.specs.Pushes.{AreTexts, column_kinds, with_row}
 use Rattle.morsel_text.specs.Steps.{left}
 use Rattle.morsel_text.specs.Batches.{spread, spread_all, SplitsRows, AreTextColumns, IsColumnOf, AreMade, appended}
-use Rattle.morsel_text.specs.declared.split.RawField.{RawField}
+use Rattle.morsel_text.specs.declared.raw_field.RawField.{RawField}
 use Rattle.morsel_grammar.proofs.RecordLemmas.{IsFound, record_at-read}
 use Rattle.morsel_grammar.proofs.FirstRecordLemmas.{record_taken, bytes_taken, utf8_parts}
 use Rattle.morsel_text.proofs.StepLemmas.{ReadSo, read_more, row_steps, row_read, length-with_row}

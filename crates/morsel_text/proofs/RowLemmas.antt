@@ -15,7 +15,7 @@ use Rattle.morsel_grammar.specs.Reading.{used_values, chosen}
 use Rattle.morsel_text.specs.declared.rows.RowPushed.{RowPushed}
 use Rattle.morsel_text.specs.declared.rows.RowPushed.TheVariants as rows
 use Rattle.morsel_text.specs.RawFields.{shown}
-use Rattle.morsel_text.specs.declared.split.RawField.{RawField}
+use Rattle.morsel_text.specs.declared.raw_field.RawField.{RawField}
 use Rattle.morsel_text.specs.Pushes.{with_cell, in_front, with_fields, AreTexts, column_kinds, with_row, PushesRow}
 
 -- columns in front of those that are found

@@ -10,11 +10,11 @@ use Rattle.morsel_grammar.specs.Split.{record_at}
 use Rattle.morsel_grammar.specs.Reading.{Read, read_of}
 use Rattle.morsel_text.specs.Pushes.{column_kinds}
 use Rattle.morsel_meaning.specs.declared.fault.Fault.{Fault}
-use Rattle.morsel_text.specs.Steps.{left, row_first, Gains, StepsTo}
+use Rattle.morsel_text.specs.Steps.{left, row_first, GainsRow, StepsTo}
 use Rattle.morsel_text.specs.RawFields.{shown}
 use Rattle.morsel_text.specs.Batches.{spread_all, SplitsRows, AreMade, appended, PutsRows, TurnsTo}
-use Rattle.morsel_text.specs.declared.read.Step.{Step}
-use Rattle.morsel_text.specs.declared.split.RawField.{RawField}
+use Rattle.morsel_text.specs.declared.reader.Step.{Step}
+use Rattle.morsel_text.specs.declared.raw_field.RawField.{RawField}
 use Rattle.morsel_grammar.proofs.RecordLemmas.{IsFound, record_at-read}
 use Rattle.morsel_grammar.proofs.FirstRecordLemmas.{record_taken, utf8_parts}
 use Rattle.morsel_grammar.proofs.JoinedLemmas.{reading_up_to-enough}
@@ -31,7 +31,7 @@ behind_record o text behind r fit some found =
     (taken.1.shorter, λ utf8. (utf8_parts o r text behind taken.0 fit taken.1 utf8).1)
 
 pub after_record : (total : Read) (used : List Bool) (ks : List ColType) (o : Options) (height rows at next : ℕ) (head awaits_header : Bool) (text rest : List ℕ) (columns new : List Values)
-    (row : Option Row) → AreOptions o → length rest < length text → ReadSo total used ks height columns (left (length text) o ks used head at text) → Gains used columns row rows new
+    (row : Option Row) → AreOptions o → length rest < length text → ReadSo total used ks height columns (left (length text) o ks used head at text) → GainsRow used columns row rows new
     → ((m : ℕ) → left (suc m) o (column_kinds columns) used head at text ≡ row_first at row (left m o (column_kinds columns) used awaits_header next rest))
     → ReadSo total used ks (height + rows) new (left (length rest) o ks used awaits_header next rest)
 after_record total used ks o height rows at next head awaits_header text rest columns new row fit shorter so_far gains step =
@@ -89,7 +89,7 @@ pub puts_text : (o : Options) (used : List Bool) (text rest : List ℕ) (rows : 
     → IsUtf8 text → IsUtf8 rest
 puts_text o used text rest rows columns new fit (lines, made, counted, some, splits, are, is) utf8 = splits_text o (length columns) text rest lines fit splits utf8
 
-pub step_room : (used : List Bool) (old new : List Values) (row : Option Row) (rows behind all : ℕ) → Gains used old row rows new → behind < all → rows + behind ≤ all
+pub step_room : (used : List Bool) (old new : List Values) (row : Option Row) (rows behind all : ℕ) → GainsRow used old row rows new → behind < all → rows + behind ≤ all
 step_room used old new row rows behind all gains shorter = omega (arith, shorter, gains_one used old new row rows gains)
 
 -- a record that was read is a turn
