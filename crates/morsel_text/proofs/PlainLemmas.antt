@@ -139,7 +139,7 @@ cells_from o (kind ∷ kinds) [] i k f in_kinds in_fields = absurd (omega arith)
 cells_from o (kind ∷ kinds) (g ∷ fields) zero k f in_kinds in_fields = refl
 cells_from o (kind ∷ kinds) (g ∷ fields) (suc i) k f in_kinds in_fields = cells_from o kinds fields i k f (omega arith) (omega arith)
 
--- the cell at a place, and those behind it
+-- the cell at a place, and those after it
 pub cells_at : (o : Options) (kinds : List ColType) (fields : List CsvField) (i : ℕ) (k : ColType) (f : CsvField) → i < length kinds → i < length fields
     → drop i (cells_with o kinds fields) ≡ cell_of o (get_or kinds i k) (get_or fields i f) ∷ drop (i + 1) (cells_with o kinds fields)
 cells_at o kinds fields i k f in_kinds in_fields =

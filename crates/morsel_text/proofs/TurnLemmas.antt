@@ -21,7 +21,7 @@ use Rattle.morsel_grammar.proofs.JoinedLemmas.{reading_up_to-enough}
 use Rattle.morsel_text.proofs.StepLemmas.{ReadSo, step_more, gains_one}
 use Rattle.morsel_text.proofs.BatchLemmas.{some_bytes, splits_len, columns_by, columns_spread, rows_read}
 
--- a record takes bytes, and what stands behind it is text where all is
+-- a record takes bytes, and what follows it is text where all is
 pub behind_record : (o : Options) (text behind : List ℕ) (r : CsvRecord) → AreOptions o → 0 < length text → record_at o text ≡ Some (r, behind)
     → (length behind < length text) × (IsUtf8 text → IsUtf8 behind)
 behind_record o text behind r fit some found =
@@ -73,7 +73,7 @@ after_turn total used ks o file height at head text columns new step fit shorter
     (after_batch total used ks o height step.rows at text step.rest.now columns new fit utf8
     (subst (λ (h : Bool). ReadSo total used ks height columns (left (length text) o ks used h at text)) behind so_far) puts)
 
--- what stands behind the rows of a batch
+-- what follows the rows of a batch
 pub puts_room : (o : Options) (used : List Bool) (text rest : List ℕ) (rows : ℕ) (columns new : List Values) → PutsRows o used text columns rest rows new
     → (rows + length rest ≤ length text) × (length rest < length text)
 puts_room o used text rest rows columns new (lines, made, counted, some, splits, are, is) =

@@ -21,12 +21,12 @@ mod records;
 mod rows;
 
 use crate::choice::{chosen_schema, columns_of};
-use crate::reader::{Reader, Step, ill_typed, not_text};
+use crate::reader::{Reader, Step};
 use crate::text::is_text;
 use columns::push_row;
 use morsel_frame::{Column, Frame, Schema};
 use morsel_grammar::CsvOptions;
-use morsel_meaning::Fault;
+use morsel_meaning::{ComputeKind, Fault};
 use records::{PlainField, PlainSplit, is_empty, split};
 use rows::{PlainRow, row};
 use std::alloc::Global;
@@ -134,7 +134,7 @@ fn read_record<'a>(
     match split(reader.alloc, text, reader.options)? {
         PlainSplit::Fields(fields, rest) => {
             if !is_text(&text[..text.len() - rest.len()]) {
-                return Err(not_text(reader.file, at));
+                return Err(reader.not_computed(ComputeKind::NotUtf8, at));
             }
             if head {
                 return Ok(Step {
@@ -152,7 +152,7 @@ fn read_record<'a>(
         }
         PlainSplit::Comment(rest) => {
             if !is_text(&text[..text.len() - rest.len()]) {
-                return Err(not_text(reader.file, at));
+                return Err(reader.not_computed(ComputeKind::NotUtf8, at));
             }
             Ok(Step {
                 rest,
@@ -160,10 +160,7 @@ fn read_record<'a>(
                 rows: 0,
             })
         }
-        PlainSplit::Broken => Err(Fault::Malformed {
-            file: reader.file,
-            at,
-        }),
+        PlainSplit::Broken => Err(reader.malformed(at)),
     }
 }
 
@@ -193,10 +190,7 @@ fn read_row(
             Ok(1)
         }
         PlainRow::NoRow => Ok(0),
-        PlainRow::Misfit => Err(Fault::Malformed {
-            file: reader.file,
-            at,
-        }),
-        PlainRow::Bad => Err(ill_typed(reader.file, at)),
+        PlainRow::Misfit => Err(reader.malformed(at)),
+        PlainRow::Bad => Err(reader.not_computed(ComputeKind::IllTyped, at)),
     }
 }

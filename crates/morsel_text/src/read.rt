@@ -15,13 +15,13 @@ ghost use Rattle.morsel_text.specs.Batches.{TurnsTo};
 use crate::batch::read_batch;
 use crate::choice::{chosen_columns, chosen_schema, columns_of};
 use crate::raw_field::RawField;
-use crate::reader::{Reader, Step, ill_typed, not_text};
+use crate::reader::{Reader, Step};
 use crate::rows::{RowPushed, is_empty, push_record};
 use crate::split::{Split, split_record};
 use crate::text::is_text;
 use morsel_frame::{Column, Frame, Schema};
 use morsel_grammar::CsvOptions;
-use morsel_meaning::Fault;
+use morsel_meaning::{ComputeKind, Fault};
 use std::alloc::Global;
 
 /// Puts a record of fields that comes after the header, and says how many rows it gave.
@@ -41,11 +41,8 @@ fn read_row(
     match push_record(columns, fields, reader.used, reader.options, content)? {
         RowPushed::Row => Ok(1),
         RowPushed::NoRow => Ok(0),
-        RowPushed::Misfit => Err(Fault::Malformed {
-            file: reader.file,
-            at,
-        }),
-        RowPushed::Bad => Err(ill_typed(reader.file, at)),
+        RowPushed::Misfit => Err(reader.malformed(at)),
+        RowPushed::Bad => Err(reader.not_computed(ComputeKind::IllTyped, at)),
     }
 }
 
@@ -70,7 +67,7 @@ fn read_record<'a>(
     match split_record(text, reader.options, fields)? {
         Split::Fields(rest) => {
             if !is_text(&text[..text.len() - rest.len()]) {
-                return Err(not_text(reader.file, at));
+                return Err(reader.not_computed(ComputeKind::NotUtf8, at));
             }
             if head {
                 return Ok(Step {
@@ -88,7 +85,7 @@ fn read_record<'a>(
         }
         Split::Comment(rest) => {
             if !is_text(&text[..text.len() - rest.len()]) {
-                return Err(not_text(reader.file, at));
+                return Err(reader.not_computed(ComputeKind::NotUtf8, at));
             }
             Ok(Step {
                 rest,
@@ -96,10 +93,7 @@ fn read_record<'a>(
                 rows: 0,
             })
         }
-        Split::Broken => Err(Fault::Malformed {
-            file: reader.file,
-            at,
-        }),
+        Split::Broken => Err(reader.malformed(at)),
     }
 }
 

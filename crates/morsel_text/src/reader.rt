@@ -18,7 +18,30 @@ pub struct Reader<'a> {
     pub options: &'a CsvOptions,
 }
 
-/// A record that was read, or many at once.
+impl<'a> Reader<'a> {
+    /// The fault of what begins at this place and is no record, or one of another number of fields than there are columns.
+    pub fn malformed(&self, at: u64) -> Fault
+        ensures { result ≡ Fault.Malformed self.now.file at }
+    {
+        Fault::Malformed {
+            file: self.file,
+            at,
+        }
+    }
+
+    /// The fault of the record at this place whose values cannot be computed.
+    pub fn not_computed(&self, kind: ComputeKind, at: u64) -> Fault
+        ensures { result ≡ Fault.ComputeError kind self.now.file at }
+    {
+        Fault::ComputeError {
+            kind,
+            file: self.file,
+            at,
+        }
+    }
+}
+
+/// One step of reading: a record that was read, or the rows of a batch.
 #[derive(Clone, Copy)]
 pub struct Step<'a> {
     /// What follows it.
@@ -27,26 +50,4 @@ pub struct Step<'a> {
     pub head: bool,
     /// How many rows it gave.
     pub rows: usize,
-}
-
-/// The fault of a record that is not UTF-8.
-pub fn not_text(file: u32, at: u64) -> Fault
-    ensures { result ≡ Fault.ComputeError ComputeKind.NotUtf8 file at }
-{
-    Fault::ComputeError {
-        kind: ComputeKind::NotUtf8,
-        file,
-        at,
-    }
-}
-
-/// The fault of a record with a used field that does not fit its column's type.
-pub fn ill_typed(file: u32, at: u64) -> Fault
-    ensures { result ≡ Fault.ComputeError ComputeKind.IllTyped file at }
-{
-    Fault::ComputeError {
-        kind: ComputeKind::IllTyped,
-        file,
-        at,
-    }
 }

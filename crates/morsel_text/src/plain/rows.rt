@@ -118,7 +118,7 @@ fn cell(
     }
 }
 
-/// What stands for a field that does not fit its type.
+/// The value of a field that does not fit its type: null where errors are ignored, and otherwise none.
 fn misfit(options: &CsvOptions) -> Option<Value>
     ensures { cell_or_bad options.now.ignore_errors None ≡ cell_in result }
 {
