@@ -12,7 +12,7 @@ use crate::split::unquote;
 use morsel_frame::Column;
 use morsel_grammar::CsvOptions;
 use morsel_meaning::Fault;
-use std::alloc::Global;
+use std::alloc::{AllocError, Global};
 use std::str::from_utf8_unchecked;
 
 /// What a field says in a column of numbers.
@@ -41,15 +41,16 @@ fn number_cell(text: &str, options: &CsvOptions) -> IntCell
 }
 
 /// What a field says, with room for the content of one that contains quotes.
+///
+/// Its fault is the small `AllocError`, since it is called for each cell.
 #[inline(always)]
 fn int_cell(
     field: RawField<'_>,
     options: &CsvOptions,
     content: &mut Vec<u8>,
-) -> Result<IntCell, Fault>
+) -> Result<IntCell, AllocError>
     requires { IsUtf8 (shown field).bytes }
-    ensures cell { IfOk result (λ cell. IsIntCell (cell_of options.now types.Int (shown field.entry)) cell) }
-    ensures out_of_memory { IsOkUnless result Fault.OutOfMemory }
+    ensures { IfOk result (λ cell. IsIntCell (cell_of options.now types.Int (shown field.entry)) cell) }
 {
     match field {
         RawField::Plain(text) => {

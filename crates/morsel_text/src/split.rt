@@ -1,4 +1,7 @@
-//! Records of a CSV text, split into fields that lend the text.
+//! Records of a CSV text, split into fields that are slices of it.
+//!
+//! Out of memory is an `AllocError` here and for each number (`ints`): it has no content, where a `Fault` may own a name,
+//! which would make the loops over records and cells pass more on.
 ghost use Rattle.std.specs.Prelude.{◌≡◌, ◌==◌, ◌+◌, not, ◌≤◌, length, take, drop, IfSome, IfOk, IsOkUnless, option_copied, OnOk};
 ghost use Rattle.std.specs.List.{prefix_len};
 ghost use Rattle.morsel_grammar.specs.Options.{AreOptions};
@@ -12,7 +15,7 @@ use crate::raw_field::{RawField, last};
 use line::split_short;
 use memchr::memchr;
 use morsel_grammar::CsvOptions;
-use morsel_meaning::Fault;
+use std::alloc::AllocError;
 use std::simd::prelude::*;
 
 /// How many bytes are looked at at once.
@@ -111,9 +114,8 @@ fn behind_quotes(text: &[u8], quote: u8) -> Option<&[u8]>
 }
 
 /// Takes the content of a quoted field from the text after its opening quote; no content where it is not closed.
-pub fn unquote(text: &[u8], quote: u8, content: &mut Vec<u8>) -> Result<(), Fault>
-    ensures ok { OnOk result (content.new.items ≡ content_of (quoted_at quote text.now)) }
-    ensures out_of_memory { IsOkUnless result Fault.OutOfMemory }
+pub fn unquote(text: &[u8], quote: u8, content: &mut Vec<u8>) -> Result<(), AllocError>
+    ensures { OnOk result (content.new.items ≡ content_of (quoted_at quote text.now)) }
 {
     content.clear();
     let mut rest = text;
@@ -176,10 +178,9 @@ fn split_fields<'a>(
     text: &'a [u8],
     options: &CsvOptions,
     fields: &mut Vec<RawField<'a>>,
-) -> Result<Split<'a>, Fault>
+) -> Result<Split<'a>, AllocError>
     ensures value { IfOk result (λ split. FieldsAre options.now text.now fields.new.items split) }
     ensures within { IfOk result (λ split. split_len split ≤ length text.now) }
-    ensures out_of_memory { IsOkUnless result Fault.OutOfMemory }
 {
     fields.clear();
     let mut rest = text;
@@ -219,11 +220,10 @@ pub fn split_record<'a>(
     text: &'a [u8],
     options: &CsvOptions,
     fields: &mut Vec<RawField<'a>>,
-) -> Result<Split<'a>, Fault>
+) -> Result<Split<'a>, AllocError>
     ensures value { IfOk result (λ split. SplitsInto options.now text.now fields.new.items split) }
     ensures within { IfOk result (λ split. split_len split ≤ length text.now) }
     ensures fit { AreOptions options.now }
-    ensures out_of_memory { IsOkUnless result Fault.OutOfMemory }
 {
     if let Some(prefix) = options.comment() {
         if let Some(body) = behind_front(text, prefix.as_str().as_bytes()) {
