@@ -55,7 +55,7 @@ behind_front-read [] text = refl
 behind_front-read (p ∷ front) [] = tt
 behind_front-read (p ∷ front) (b ∷ text) = behind_byte p b front text (behind_front front text) (p == b) refl (behind_front-read front text)
 
--- what is found behind a comment's prefix
+-- what is found after a comment's prefix
 abbrev pub IsBodyText : Option (List ℕ) → List ℕ → Option (List ℕ) → Type 0
 IsBodyText prefix text None = (front body : List ℕ) → prefix ≡ Some front → text ≡ front ++ body → ⊥
 IsBodyText prefix text (Some body) = (front : List ℕ) × (prefix ≡ Some front) × (text ≡ front ++ body)
@@ -85,7 +85,7 @@ prefix_without_eol eol (Some (b ∷ bs)) front fit asked =
     let same : b ∷ bs ≡ front = cc in
     let P : List ℕ → Type 0 = λ x. IsWithout eol x in subst P same fit.1
 
--- a front without eol of a text stands before its first eol
+-- a front of a text that has no eol ends before the first eol
 pub front_before : (eol : ℕ) (front body bytes rest : List ℕ) → IsWithout eol front → bytes ++ eol ∷ rest ≡ front ++ body
     → (more : List ℕ) × (bytes ≡ front ++ more)
 front_before eol [] body bytes rest without is = (bytes, refl)

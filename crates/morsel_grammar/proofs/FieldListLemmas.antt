@@ -9,7 +9,7 @@ use Rattle.morsel_grammar.proofs.ByteLemmas.{true_not_false, byte_itself, same_b
 use Rattle.morsel_grammar.proofs.PlainFieldLemmas.{IsStop, stops-separator, stops-eol, IsWithout-front, IsWithout-push, BeginsUnquoted-front, BeginsUnquoted-push}
 use Rattle.morsel_grammar.proofs.RecordEndLemmas.{is_quote-return, field_at-quoted, field_at-plain, field_at-written, IsFieldText, field_at-read, KeepsOrEnds, without_return-cases, last_field-written, last_field-returned}
 
--- what is found behind a field
+-- what is found after a field
 abbrev pub More : Type 0
 More = List ℕ → Option (List CsvField × List ℕ)
 
@@ -90,7 +90,7 @@ next_written o f spelled after more fit spells =
     ap (λ found. fields_then o found more) (field_at-written o f.quoted f.bytes spelled (o.separator ∷ after) fit spells (stops-separator o))
     ∙ then_separator o f after more
 
--- fields that stand in a text are read
+-- fields that a text has are read
 pub fields-written : (n : ℕ) (o : Options) (fields : List CsvField) (text rest : List ℕ) → AreOptions o → AreFields o fields text rest → length text < n
     → fields_up_to n o text ≡ Some (fields, rest)
 fields-written zero o fields text rest fit are enough = absurd (omega arith)

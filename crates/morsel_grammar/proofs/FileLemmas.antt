@@ -11,7 +11,7 @@ use Rattle.morsel_grammar.specs.Cells.{CsvCell}
 use Rattle.morsel_grammar.specs.Split.{is_quote, quoted_at, with_byte, in_quotes, field_at, with_field, fields_then, fields_up_to, fields_record, comment_body, record_then_fields}
 use Rattle.morsel_grammar.specs.Rows.{mark_len, unmarked}
 use Rattle.morsel_grammar.specs.Reading.{Refusal, reading, read_of}
-use Rattle.morsel_grammar.specs.GrammarRows.{still_to_come, BeginsNoRecord, HasRows, RowsOfGrammar, OpensQuotes, EndsWithinQuotes}
+use Rattle.morsel_grammar.specs.GrammarRows.{awaits_header_after, BeginsNoRecord, HasRows, RowsOfGrammar, OpensQuotes, EndsWithinQuotes}
 use Rattle.morsel_grammar.specs.Laws.{ReadsCells, ReadsAllCells, PlacesRows, ReadsRows, ReadsAllRows, RefusesOpenQuotes, ReadsFiles}
 use Rattle.morsel_grammar.proofs.ByteLemmas.{byte_itself, same_byte}
 use Rattle.morsel_grammar.proofs.QuotedFieldLemmas.{other_goes_on, twice_goes_on}
@@ -70,10 +70,10 @@ open_quotes_no_records o text records fit open_quotes split =
     let later = records_behind o open_quotes.0 open_quotes.1 open_quotes.2 records fit open_quotes.5 (subst P open_quotes.4 split) in
     no_records o open_quotes.3 open_quotes.1 later.0 fit open_quotes.6 open_quotes.7 later.2
 
-some_refusal : (o : Options) (kinds : List ColType) (used : List Bool) (head : Bool) (at : ℕ) (text : List ℕ) (rows : List Row) (still : Bool) (found : Option Refusal) → AreOptions o
-    → EndsWithinQuotes o text → RowsOfGrammar o kinds used head at text rows still found → (refusal : Refusal) × (found ≡ Some refusal)
-some_refusal o kinds used head at text rows still None fit open_quotes is = absurd (open_quotes_no_records o text is.1.records fit open_quotes is.1.split)
-some_refusal o kinds used head at text rows still (Some refusal) fit open_quotes is = (refusal, refl)
+some_refusal : (o : Options) (kinds : List ColType) (used : List Bool) (head : Bool) (at : ℕ) (text : List ℕ) (rows : List Row) (awaits_header : Bool) (found : Option Refusal) → AreOptions o
+    → EndsWithinQuotes o text → RowsOfGrammar o kinds used head at text rows awaits_header found → (refusal : Refusal) × (found ≡ Some refusal)
+some_refusal o kinds used head at text rows awaits_header None fit open_quotes is = absurd (open_quotes_no_records o text is.1.records fit open_quotes is.1.split)
+some_refusal o kinds used head at text rows awaits_header (Some refusal) fit open_quotes is = (refusal, refl)
 
 pub refuses_open_quotes : (o : Options) → AreOptions o → RefusesOpenQuotes o
 refuses_open_quotes o fit = λ kinds used head at text open_quotes.
@@ -84,7 +84,7 @@ pub reads_cells : (o : Options) → AreOptions o → ReadsCells o
 reads_cells o fit = λ kinds head at text. reading-cells o kinds head at text fit
 
 pub reads_all_cells : (o : Options) → AreOptions o → ReadsAllCells o
-reads_all_cells o fit = λ kinds head at text rows still has. reading-ends o kinds head at text rows still fit has
+reads_all_cells o fit = λ kinds head at text rows awaits_header has. reading-ends o kinds head at text rows awaits_header fit has
 
 pub places_rows : (o : Options) → AreOptions o → PlacesRows o
 places_rows o fit = λ kinds head at text before place cells after is. (reading-is o kinds [] head at text fit).rows before place cells after is
@@ -93,7 +93,7 @@ pub reads_rows : (o : Options) → AreOptions o → ReadsRows o
 reads_rows o fit = λ kinds used head at text. read_of-rows o kinds used head at text fit
 
 pub reads_all_rows : (o : Options) → AreOptions o → ReadsAllRows o
-reads_all_rows o fit = λ kinds used head at text rows still is. read_of-ends o kinds used head at text is.0 rows still fit is.1 is.2
+reads_all_rows o fit = λ kinds used head at text rows awaits_header is. read_of-ends o kinds used head at text is.0 rows awaits_header fit is.1 is.2
 
 -- the byte order mark is one character
 mark_utf8 : IsUtf8 (239 ∷ 187 ∷ 191 ∷ [])
@@ -104,7 +104,7 @@ encoded_mark : encode 65279 ≡ 239 ∷ 187 ∷ 191 ∷ []
 unfolding encode
 encoded_mark = refl
 
--- a text is UTF-8 exactly where it is so behind its mark
+-- a text is UTF-8 exactly where it is so after its mark
 utf8_marked : (a b c : ℕ) (bytes : List ℕ) (t : Bool) → (a == 239 && (b == 187 && c == 191)) ≡ t
     → IsUtf8 (a ∷ b ∷ c ∷ bytes) ↔ IsUtf8 (drop (if t then 3 else 0) (a ∷ b ∷ c ∷ bytes))
 utf8_marked a b c bytes true is =
@@ -135,14 +135,14 @@ reads_files o fit = λ kinds bytes.
     let at : ℕ = mark_len bytes in (
       λ is.
           let rows_are = is.2.2 in
-          let has : HasRows o kinds o.has_header text is.1 (still_to_come o.has_header is.2.0) = record {
+          let has : HasRows o kinds o.has_header text is.1 (awaits_header_after o.has_header is.2.0) = record {
             utf8 = (utf8_unmarked bytes).0 is.0;
             records = is.2.0;
             split = is.2.1;
             rows_are = is.2.2;
-            still_is = refl;
+            awaits_header_is = refl;
           } in
-          (reading-ends o kinds o.has_header at text is.1 (still_to_come o.has_header is.2.0) fit has).0,
+          (reading-ends o kinds o.has_header at text is.1 (awaits_header_after o.has_header is.2.0) fit has).0,
       λ none.
           let has = (reading-is o kinds [] o.has_header at text fit).done none in
           ((utf8_unmarked bytes).1 has.utf8, map (λ (row : ℕ × List CsvCell). row.1) (reading o kinds o.has_header at text).rows, (has.records, has.split, has.rows_are)),

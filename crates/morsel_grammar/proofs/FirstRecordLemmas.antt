@@ -9,7 +9,7 @@ use Rattle.morsel_grammar.specs.Options.{Options, AreOptions}
 use Rattle.morsel_grammar.specs.Grammar.{CsvField, CsvRecord, Comment, Fields, IsRecord}
 use Rattle.morsel_grammar.specs.Cells.{CsvCell, cell_of}
 use Rattle.morsel_grammar.specs.Rows.{NoRow, IsRow, Misfit, is_empty, is_header, cells_of, row_or_misfit, row_of_nothing, row_of, behind_header, with_first_row, rows_of_records}
-use Rattle.morsel_grammar.specs.GrammarRows.{still_to_come, HasRows, HasRowsBefore, HasOtherWidth}
+use Rattle.morsel_grammar.specs.GrammarRows.{awaits_header_after, HasRows, HasRowsBefore, HasOtherWidth}
 use Rattle.morsel_grammar.proofs.RecordLemmas.{EndsIn, record_ends, takes_bytes}
 
 -- the record's bytes, with its eol byte unless the text ends with it
@@ -89,54 +89,54 @@ pub utf8_whole : (o : Options) (r : CsvRecord) (text next bytes : List ℕ) → 
 utf8_whole o r text next bytes taken first later =
     let P : List ℕ → Type 0 = λ x. IsUtf8 x in subst P (sym taken.split) (IsUtf8-append bytes next first later)
 
--- what a record does to the rows that follow: the header's state before and behind it, and the rows with those that follow
-pub record Adds (o : Options) (kinds : List ColType) (r : CsvRecord) (head still : Bool) (add : List (List CsvCell) → List (List CsvCell)) : Type 0 where
-  pub rows_more : (records : List CsvRecord) (rows : List (List CsvCell)) → rows_of_records o kinds (behind_header still records) ≡ Some rows
+-- what a record does to the rows that follow: the header's state before and after it, and the rows with those that follow
+pub record Adds (o : Options) (kinds : List ColType) (r : CsvRecord) (head awaits_header : Bool) (add : List (List CsvCell) → List (List CsvCell)) : Type 0 where
+  pub rows_more : (records : List CsvRecord) (rows : List (List CsvCell)) → rows_of_records o kinds (behind_header awaits_header records) ≡ Some rows
       → rows_of_records o kinds (behind_header head (r ∷ records)) ≡ Some (add rows)
-  pub still_more : (records : List CsvRecord) → still_to_come head (r ∷ records) ≡ still_to_come still records
+  pub awaits_header_more : (records : List CsvRecord) → awaits_header_after head (r ∷ records) ≡ awaits_header_after awaits_header records
 
 header_behind : (records : List CsvRecord) (t : Bool) → behind_header (not t) records ≡ (if t then records else behind_header true records)
 header_behind records true = refl
 header_behind records false = refl
 
-header_still : (records : List CsvRecord) (t : Bool) → (if t then false else still_to_come true records) ≡ still_to_come (not t) records
-header_still records true = refl
-header_still records false = refl
+header_awaited : (records : List CsvRecord) (t : Bool) → (if t then false else awaits_header_after true records) ≡ awaits_header_after (not t) records
+header_awaited records true = refl
+header_awaited records false = refl
 
 -- up to the header there are no rows
 pub adds_header : (o : Options) (kinds : List ColType) (r : CsvRecord) → Adds o kinds r true (not (is_header r)) (λ rows. rows)
 adds_header o kinds r = record {
   rows_more = λ records rows is. ap (rows_of_records o kinds) (sym (header_behind records (is_header r))) ∙ is;
-  still_more = λ records. header_still records (is_header r);
+  awaits_header_more = λ records. header_awaited records (is_header r);
 }
 
 pub adds_nothing : (o : Options) (kinds : List ColType) (r : CsvRecord) → row_of o kinds r ≡ NoRow → Adds o kinds r false false (λ rows. rows)
 adds_nothing o kinds r none = record {
   rows_more = λ records rows is. ap (λ row. with_first_row row (rows_of_records o kinds records)) none ∙ is;
-  still_more = λ records. refl;
+  awaits_header_more = λ records. refl;
 }
 
 pub adds_row : (o : Options) (kinds : List ColType) (r : CsvRecord) (cells : List CsvCell) → row_of o kinds r ≡ IsRow cells → Adds o kinds r false false (λ rows. cells ∷ rows)
 adds_row o kinds r cells row = record {
   rows_more = λ records rows is. ap (λ row. with_first_row row (rows_of_records o kinds records)) row ∙ ap (with_first_row (IsRow cells)) is;
-  still_more = λ records. refl;
+  awaits_header_more = λ records. refl;
 }
 
 -- the rows of a text are those of its first record and of what follows
-pub rows_more : (o : Options) (kinds : List ColType) (r : CsvRecord) (head still later : Bool) (text next bytes : List ℕ) (add : List (List CsvCell) → List (List CsvCell)) (rows : List (List CsvCell))
-    → IsTaken o r text next bytes → IsUtf8 bytes → Adds o kinds r head still add → HasRows o kinds still next rows later → HasRows o kinds head text (add rows) later
-rows_more o kinds r head still later text next bytes add rows taken utf8 adds has = record {
+pub rows_more : (o : Options) (kinds : List ColType) (r : CsvRecord) (head awaits_header later : Bool) (text next bytes : List ℕ) (add : List (List CsvCell) → List (List CsvCell)) (rows : List (List CsvCell))
+    → IsTaken o r text next bytes → IsUtf8 bytes → Adds o kinds r head awaits_header add → HasRows o kinds awaits_header next rows later → HasRows o kinds head text (add rows) later
+rows_more o kinds r head awaits_header later text next bytes add rows taken utf8 adds has = record {
   utf8 = utf8_whole o r text next bytes taken utf8 has.utf8;
   records = r ∷ has.records;
   split = (taken.some, next, taken.is, has.split);
   rows_are = adds.rows_more has.records rows has.rows_are;
-  still_is = has.still_is ∙ sym (adds.still_more has.records);
+  awaits_header_is = has.awaits_header_is ∙ sym (adds.awaits_header_more has.records);
 }
 
-before_line : (o : Options) (kinds : List ColType) (r : CsvRecord) (head still later : Bool) (at place : ℕ) (text next line rest : List ℕ) (add : List (List CsvCell) → List (List CsvCell)) (rows : List (List CsvCell))
-    → AreOptions o → text ≡ line ++ o.eol ∷ next → ((more : List ℕ) → IsRecord o r (line ++ o.eol ∷ more) more) → IsUtf8 (line ++ o.eol ∷ []) → Adds o kinds r head still add
-    → HasRowsBefore o kinds still (at + (length text - length next)) next place rows later rest → HasRowsBefore o kinds head at text place (add rows) later rest
-before_line o kinds r head still later at place text next line rest add rows fit split again utf8 adds has =
+before_line : (o : Options) (kinds : List ColType) (r : CsvRecord) (head awaits_header later : Bool) (at place : ℕ) (text next line rest : List ℕ) (add : List (List CsvCell) → List (List CsvCell)) (rows : List (List CsvCell))
+    → AreOptions o → text ≡ line ++ o.eol ∷ next → ((more : List ℕ) → IsRecord o r (line ++ o.eol ∷ more) more) → IsUtf8 (line ++ o.eol ∷ []) → Adds o kinds r head awaits_header add
+    → HasRowsBefore o kinds awaits_header (at + (length text - length next)) next place rows later rest → HasRowsBefore o kinds head at text place (add rows) later rest
+before_line o kinds r head awaits_header later at place text next line rest add rows fit split again utf8 adds has =
     let P : List ℕ → Type 0 = λ x. IsUtf8 x in
     let all : length text ≡ length line + suc (length next) = ap length split ∙ length-append line (o.eol ∷ next) in
     let some : length (line ++ o.eol ∷ has.front) ≡ length line + suc (length has.front) = length-append line (o.eol ∷ has.front) in
@@ -149,7 +149,7 @@ before_line o kinds r head still later at place text next line rest add rows fit
       whole = (line, has.front, refl, again has.front, has.whole);
       utf8 = subst P (append_assoc line (o.eol ∷ []) has.front) (IsUtf8-append (line ++ o.eol ∷ []) has.front utf8 has.utf8);
       rows_are = adds.rows_more has.records rows has.rows_are;
-      still_is = has.still_is ∙ sym (adds.still_more has.records);
+      awaits_header_is = has.awaits_header_is ∙ sym (adds.awaits_header_more has.records);
       some_rest = has.some_rest;
     }
 
@@ -157,31 +157,31 @@ nothing_left : (next front rest : List ℕ) → next ≡ [] → next ≡ front +
 nothing_left next [] rest none is = sym is ∙ none
 nothing_left next (b ∷ front) rest none is = let never : [] ≡ b ∷ front ++ rest = sym none ∙ is in cc
 
-before_by_end : (o : Options) (kinds : List ColType) (r : CsvRecord) (head still later : Bool) (at place : ℕ) (text next bytes rest : List ℕ) (add : List (List CsvCell) → List (List CsvCell)) (rows : List (List CsvCell))
-    → AreOptions o → IsTaken o r text next bytes → IsUtf8 bytes → Adds o kinds r head still add → EndsIn o (IsRecord o r) text next
-    → HasRowsBefore o kinds still (at + (length text - length next)) next place rows later rest → HasRowsBefore o kinds head at text place (add rows) later rest
-before_by_end o kinds r head still later at place text next bytes rest add rows fit taken utf8 adds (inl none) has =
+before_by_end : (o : Options) (kinds : List ColType) (r : CsvRecord) (head awaits_header later : Bool) (at place : ℕ) (text next bytes rest : List ℕ) (add : List (List CsvCell) → List (List CsvCell)) (rows : List (List CsvCell))
+    → AreOptions o → IsTaken o r text next bytes → IsUtf8 bytes → Adds o kinds r head awaits_header add → EndsIn o (IsRecord o r) text next
+    → HasRowsBefore o kinds awaits_header (at + (length text - length next)) next place rows later rest → HasRowsBefore o kinds head at text place (add rows) later rest
+before_by_end o kinds r head awaits_header later at place text next bytes rest add rows fit taken utf8 adds (inl none) has =
     absurd (has.some_rest (nothing_left next has.front rest none has.split))
-before_by_end o kinds r head still later at place text next bytes rest add rows fit taken utf8 adds (inr (line, split, again)) has =
+before_by_end o kinds r head awaits_header later at place text next bytes rest add rows fit taken utf8 adds (inr (line, split, again)) has =
     let P : List ℕ → Type 0 = λ x. IsUtf8 x in
     let same : bytes ++ next ≡ (line ++ o.eol ∷ []) ++ next = sym taken.split ∙ split ∙ sym (append_assoc line (o.eol ∷ []) next) in
-    before_line o kinds r head still later at place text next line rest add rows fit split again
+    before_line o kinds r head awaits_header later at place text next line rest add rows fit split again
     (subst P (append_cancel_right bytes (line ++ o.eol ∷ []) next same) utf8) adds has
 
--- the rows before a place behind the first record are those of that record and of what follows
-pub before_more : (o : Options) (kinds : List ColType) (r : CsvRecord) (head still later : Bool) (at place : ℕ) (text next bytes rest : List ℕ) (add : List (List CsvCell) → List (List CsvCell)) (rows : List (List CsvCell))
-    → AreOptions o → IsTaken o r text next bytes → IsUtf8 bytes → Adds o kinds r head still add
-    → HasRowsBefore o kinds still (at + (length text - length next)) next place rows later rest → HasRowsBefore o kinds head at text place (add rows) later rest
-before_more o kinds r head still later at place text next bytes rest add rows fit taken utf8 adds has =
-    before_by_end o kinds r head still later at place text next bytes rest add rows fit taken utf8 adds (record_ends o r text next fit taken.is) has
+-- the rows before a place after the first record are those of that record and of what follows
+pub before_more : (o : Options) (kinds : List ColType) (r : CsvRecord) (head awaits_header later : Bool) (at place : ℕ) (text next bytes rest : List ℕ) (add : List (List CsvCell) → List (List CsvCell)) (rows : List (List CsvCell))
+    → AreOptions o → IsTaken o r text next bytes → IsUtf8 bytes → Adds o kinds r head awaits_header add
+    → HasRowsBefore o kinds awaits_header (at + (length text - length next)) next place rows later rest → HasRowsBefore o kinds head at text place (add rows) later rest
+before_more o kinds r head awaits_header later at place text next bytes rest add rows fit taken utf8 adds has =
+    before_by_end o kinds r head awaits_header later at place text next bytes rest add rows fit taken utf8 adds (record_ends o r text next fit taken.is) has
 
 no_rows : (o : Options) (kinds : List ColType) (head : Bool) → rows_of_records o kinds (behind_header head []) ≡ Some []
 no_rows o kinds true = refl
 no_rows o kinds false = refl
 
-still_as_before : (head : Bool) → head ≡ still_to_come head []
-still_as_before true = refl
-still_as_before false = refl
+awaits_header_as_before : (head : Bool) → head ≡ awaits_header_after head []
+awaits_header_as_before true = refl
+awaits_header_as_before false = refl
 
 -- there is nothing before the beginning
 pub before_first : (o : Options) (kinds : List ColType) (head : Bool) (at : ℕ) (text : List ℕ) → text ≢ [] → HasRowsBefore o kinds head at text at [] head text
@@ -193,7 +193,7 @@ before_first o kinds head at text some = record {
   whole = refl;
   utf8 = IsUtf8-nil;
   rows_are = no_rows o kinds head;
-  still_is = still_as_before head;
+  awaits_header_is = awaits_header_as_before head;
   some_rest = some;
 }
 
@@ -203,7 +203,7 @@ rows_of_nothing o kinds head = record {
   records = [];
   split = refl;
   rows_are = no_rows o kinds head;
-  still_is = still_as_before head;
+  awaits_header_is = awaits_header_as_before head;
 }
 
 -- a record of another width

@@ -20,14 +20,14 @@ abbrev Later : Type 0
 Later = Bool → ℕ → List ℕ → Reading
 
 -- where what follows is read alike, all is
-record_same : (o : Options) (kinds : List ColType) (head : Bool) (at : ℕ) (bytes : List ℕ) (r : CsvRecord) (a b : Bool → Reading) → ((still : Bool) → a still ≡ b still)
+record_same : (o : Options) (kinds : List ColType) (head : Bool) (at : ℕ) (bytes : List ℕ) (r : CsvRecord) (a b : Bool → Reading) → ((awaits_header : Bool) → a awaits_header ≡ b awaits_header)
     → record_then o kinds head at bytes r a ≡ record_then o kinds head at bytes r b
 record_same o kinds true at bytes r a b same = ap (λ (x : Reading). if is_utf8 bytes then x else refuses true at NotUtf8) (same (not (is_header r)))
 record_same o kinds false at bytes r a b same =
     ap (λ (x : Reading). if is_utf8 bytes then row_then false at (row_of o kinds r) x else refuses false at NotUtf8) (same false)
 
 split_same : (o : Options) (kinds : List ColType) (head : Bool) (at : ℕ) (text : List ℕ) (found : Option (CsvRecord × List ℕ)) (a b : Later) → AreOptions o → text ≢ []
-    → record_at o text ≡ found → ((still : Bool) (place : ℕ) (rest : List ℕ) → length rest < length text → a still place rest ≡ b still place rest)
+    → record_at o text ≡ found → ((awaits_header : Bool) (place : ℕ) (rest : List ℕ) → length rest < length text → a awaits_header place rest ≡ b awaits_header place rest)
     → split_then o kinds head at text found a ≡ split_then o kinds head at text found b
 split_same o kinds head at text None a b fit some is same = refl
 split_same o kinds head at text (Some split) a b fit some is same =
@@ -35,8 +35,8 @@ split_same o kinds head at text (Some split) a b fit some is same =
     let begins : IsRecord o split.0 text split.1 = subst P is (record_at-read o text) in
     let all = record_taken o split.0 text split.1 fit begins some in
     let size : ℕ = length text - length split.1 in
-    record_same o kinds head at (take size text) split.0 (λ still. a still (at + size) split.1) (λ still. b still (at + size) split.1)
-    (λ still. same still (at + size) split.1 all.1.shorter)
+    record_same o kinds head at (take size text) split.0 (λ awaits_header. a awaits_header (at + size) split.1) (λ awaits_header. b awaits_header (at + size) split.1)
+    (λ awaits_header. same awaits_header (at + size) split.1 all.1.shorter)
 
 some_text : (b : ℕ) (bs : List ℕ) → b ∷ bs ≢ []
 some_text b bs = λ is. cc
@@ -51,26 +51,26 @@ reading_up_to-enough (suc n) (suc m) o kinds head at [] fit one two = refl
 reading_up_to-enough zero (suc m) o kinds head at (b ∷ bs) fit one two = absurd (omega arith)
 reading_up_to-enough (suc n) zero o kinds head at (b ∷ bs) fit one two = absurd (omega arith)
 reading_up_to-enough (suc n) (suc m) o kinds head at (b ∷ bs) fit one two =
-    split_same o kinds head at (b ∷ bs) (record_at o (b ∷ bs)) (λ still place rest. reading_up_to n o kinds still place rest) (λ still place rest. reading_up_to m o kinds still place rest)
-    fit (some_text b bs) refl (λ still place rest shorter. reading_up_to-enough n m o kinds still place rest fit (omega arith) (omega arith))
+    split_same o kinds head at (b ∷ bs) (record_at o (b ∷ bs)) (λ awaits_header place rest. reading_up_to n o kinds awaits_header place rest) (λ awaits_header place rest. reading_up_to m o kinds awaits_header place rest)
+    fit (some_text b bs) refl (λ awaits_header place rest shorter. reading_up_to-enough n m o kinds awaits_header place rest fit (omega arith) (omega arith))
 
--- reading splits a record off, and goes on behind it
+-- reading splits a record off, and goes on after it
 pub reading-split : (o : Options) (kinds : List ColType) (head : Bool) (at : ℕ) (text : List ℕ) → AreOptions o → text ≢ []
-    → reading o kinds head at text ≡ split_then o kinds head at text (record_at o text) (λ still place rest. reading o kinds still place rest)
+    → reading o kinds head at text ≡ split_then o kinds head at text (record_at o text) (λ awaits_header place rest. reading o kinds awaits_header place rest)
 reading-split o kinds head at [] fit some = absurd (some refl)
 reading-split o kinds head at (b ∷ bs) fit some =
-    split_same o kinds head at (b ∷ bs) (record_at o (b ∷ bs)) (λ still place rest. reading_up_to (length bs) o kinds still place rest) (λ still place rest. reading o kinds still place rest)
-    fit some refl (λ still place rest shorter. reading_up_to-enough (length bs) (length rest) o kinds still place rest fit (omega arith) (omega arith))
+    split_same o kinds head at (b ∷ bs) (record_at o (b ∷ bs)) (λ awaits_header place rest. reading_up_to (length bs) o kinds awaits_header place rest) (λ awaits_header place rest. reading o kinds awaits_header place rest)
+    fit some refl (λ awaits_header place rest shorter. reading_up_to-enough (length bs) (length rest) o kinds awaits_header place rest fit (omega arith) (omega arith))
 
 -- reading a text that begins with a record
 pub reading-record : (o : Options) (kinds : List ColType) (head : Bool) (at : ℕ) (r : CsvRecord) (text next bytes : List ℕ) → AreOptions o → IsTaken o r text next bytes
-    → reading o kinds head at text ≡ record_then o kinds head at bytes r (λ still. reading o kinds still (at + length bytes) next)
+    → reading o kinds head at text ≡ record_then o kinds head at bytes r (λ awaits_header. reading o kinds awaits_header (at + length bytes) next)
 reading-record o kinds head at r text next bytes fit taken =
-    let later : Later = λ still place rest. reading o kinds still place rest in
+    let later : Later = λ awaits_header place rest. reading o kinds awaits_header place rest in
     reading-split o kinds head at text fit taken.some
     ∙ ap (λ found. split_then o kinds head at text found later) (record_at-written o r text next fit taken.is)
-    ∙ ap (λ x. record_then o kinds head at x r (λ still. later still (at + (length text - length next)) next)) (bytes_taken o r text next bytes taken)
-    ∙ ap (λ n. record_then o kinds head at bytes r (λ still. later still (at + n) next)) taken.size
+    ∙ ap (λ x. record_then o kinds head at x r (λ awaits_header. later awaits_header (at + (length text - length next)) next)) (bytes_taken o r text next bytes taken)
+    ∙ ap (λ n. record_then o kinds head at bytes r (λ awaits_header. later awaits_header (at + n) next)) taken.size
 
 line_taken : (o : Options) (r : CsvRecord) (text line next : List ℕ) → IsRecord o r text next → text ≡ line ++ o.eol ∷ next → IsTaken o r text next (line ++ o.eol ∷ [])
 line_taken o r text line next is split =
@@ -108,16 +108,16 @@ joined_utf8 o kinds head at r first later false = refl
 
 -- a record, and then the rest in two pieces
 joined_record : (o : Options) (kinds : List ColType) (head : Bool) (at : ℕ) (bytes : List ℕ) (r : CsvRecord) (first later : Bool → Reading)
-    → joined (record_then o kinds head at bytes r first) later ≡ record_then o kinds head at bytes r (λ still. joined (first still) later)
+    → joined (record_then o kinds head at bytes r first) later ≡ record_then o kinds head at bytes r (λ awaits_header. joined (first awaits_header) later)
 joined_record o kinds head at bytes r first later = joined_utf8 o kinds head at r first later (is_utf8 bytes)
 
 joined_nothing : (o : Options) (kinds : List ColType) (head : Bool) (at : ℕ) (front rest : List ℕ) → front ≡ []
-    → reading o kinds head at (front ++ rest) ≡ joined (reading o kinds head at front) (λ still. reading o kinds still (at + length front) rest)
+    → reading o kinds head at (front ++ rest) ≡ joined (reading o kinds head at front) (λ awaits_header. reading o kinds awaits_header (at + length front) rest)
 joined_nothing o kinds head at [] rest none = let same : at ≡ at + 0 = omega arith in ap (λ place. reading o kinds head place rest) same
 joined_nothing o kinds head at (b ∷ front) rest none = cc
 
 pub reading-joined : (o : Options) (kinds : List ColType) (head : Bool) (at : ℕ) (front rest : List ℕ) (records : List CsvRecord) → AreOptions o → AreWholeRecords o front records
-    → reading o kinds head at (front ++ rest) ≡ joined (reading o kinds head at front) (λ still. reading o kinds still (at + length front) rest)
+    → reading o kinds head at (front ++ rest) ≡ joined (reading o kinds head at front) (λ awaits_header. reading o kinds awaits_header (at + length front) rest)
 reading-joined o kinds head at front rest [] fit whole = joined_nothing o kinds head at front rest whole
 reading-joined o kinds head at front rest (r ∷ records) fit whole =
     let line : List ℕ = whole.0 in
@@ -131,11 +131,11 @@ reading-joined o kinds head at front rest (r ∷ records) fit whole =
     let one : length bytes ≡ length line + 1 = length-append line (o.eol ∷ []) in
     let there : place + length next ≡ at + length front = omega arith in
     reading-record o kinds head at r (front ++ rest) (next ++ rest) bytes fit (line_taken o r (front ++ rest) line (next ++ rest) is split)
-    ∙ record_same o kinds head at bytes r (λ still. reading o kinds still place (next ++ rest))
-    (λ still. joined (reading o kinds still place next) (λ later. reading o kinds later (at + length front) rest))
-    (λ still. reading-joined o kinds still place next rest records fit whole.4
-    ∙ ap (λ n. joined (reading o kinds still place next) (λ later. reading o kinds later n rest)) there)
-    ∙ sym (joined_record o kinds head at bytes r (λ still. reading o kinds still place next) (λ later. reading o kinds later (at + length front) rest))
+    ∙ record_same o kinds head at bytes r (λ awaits_header. reading o kinds awaits_header place (next ++ rest))
+    (λ awaits_header. joined (reading o kinds awaits_header place next) (λ later. reading o kinds later (at + length front) rest))
+    (λ awaits_header. reading-joined o kinds awaits_header place next rest records fit whole.4
+    ∙ ap (λ n. joined (reading o kinds awaits_header place next) (λ later. reading o kinds later n rest)) there)
+    ∙ sym (joined_record o kinds head at bytes r (λ awaits_header. reading o kinds awaits_header place next) (λ later. reading o kinds later (at + length front) rest))
     ∙ ap (λ (x : Reading). joined x (λ later. reading o kinds later (at + length front) rest))
     (sym (reading-record o kinds head at r front next bytes fit (line_taken o r front line next whole.3 whole.2)))
 

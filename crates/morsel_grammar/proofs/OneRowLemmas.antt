@@ -1,4 +1,4 @@
--- The place of the row behind so many rows.
+-- The place of the row after so many rows.
 use Rattle.std.proofs.Common.{◌≡◌, ℕ, ◌+◌, ap, sym, subst, refl, ◌∙◌, inl, inr, arith}
 use Rattle.std.proofs.lemmas.List.{append-nil, length-map}
 use Rattle.std.specs.Prelude.{Bool, true, false, ◌⊎◌, if◌then◌else◌, Option, Some, None, List, [], ◌∷◌, ◌++◌, length}
@@ -17,7 +17,7 @@ use Rattle.morsel_grammar.proofs.ReadingLemmas.{reading-ends}
 use Rattle.morsel_grammar.proofs.JoinedLemmas.{reading-record, reading-joined}
 use Rattle.morsel_grammar.proofs.OneEndLemmas.{records_whole}
 
--- behind so many rows a row was read at the place, or its record was refused there
+-- after so many rows a row was read at the place, or its record was refused there
 abbrev pub StandsAt : Reading → ℕ → ℕ → Type 0
 StandsAt r n place = ((before : List (ℕ × List CsvCell)) × (cells : List CsvCell) × (after : List (ℕ × List CsvCell)) × (r.rows ≡ before ++ (place, cells) ∷ after) × (length before ≡ n))
     ⊎ ((length r.rows ≡ n) × (r.refusal ≡ Some (record { at = place; flaw = NotUtf8 })))
@@ -57,7 +57,7 @@ stands_at o kinds head at text before place cells fit (rest, r, after, behind, i
       records = behind.records;
       split = records_whole o front behind.records fit behind.whole;
       rows_are = behind.rows_are;
-      still_is = behind.still_is;
+      awaits_header_is = behind.awaits_header_is;
     } in
     let first = reading-ends o kinds head at front before false fit has in
     let all = record_taken o r rest after fit is behind.some_rest in
@@ -68,13 +68,13 @@ stands_at o kinds head at text before place cells fit (rest, r, after, behind, i
     let Q : Reading → Type 0 = λ x. StandsAt x (length before) here in
     let S : ℕ → Type 0 = λ n. StandsAt (reading o kinds head at text) (length before) n in
     let stands = subst P (sym (reading-record o kinds false here r rest after all.0 fit all.1))
-    (stands_row o kinds here all.0 r cells (λ still. reading o kinds still (here + length all.0) after) row) in
+    (stands_row o kinds here all.0 r cells (λ awaits_header. reading o kinds awaits_header (here + length all.0) after) row) in
     let same = ap (reading o kinds head at) behind.split ∙ reading-joined o kinds head at front rest behind.records fit behind.whole in
     subst S (sym behind.place_is) (subst Q (sym same)
-    (stands_behind (reading o kinds head at front).rows (reading o kinds head at front).head (reading o kinds head at front).refusal (λ still. reading o kinds still here rest)
+    (stands_behind (reading o kinds head at front).rows (reading o kinds head at front).head (reading o kinds head at front).refusal (λ awaits_header. reading o kinds awaits_header here rest)
     (length before) here first.0 first.2 width stands))
 
--- two rows behind as many rows
+-- two rows after as many rows
 same_middle : (rows others : List (ℕ × List CsvCell)) (row other : ℕ × List CsvCell) (after more : List (ℕ × List CsvCell)) → length rows ≡ length others
     → rows ++ row ∷ after ≡ others ++ other ∷ more → row ≡ other
 same_middle [] [] row other after more count is = cc

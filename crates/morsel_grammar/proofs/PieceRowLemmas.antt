@@ -14,7 +14,7 @@ use Rattle.morsel_grammar.specs.Joined.{joined_at, joined, joined_read_at, joine
 use Rattle.morsel_grammar.proofs.ByteLemmas.{true_not_false}
 use Rattle.morsel_grammar.proofs.JoinedLemmas.{reading-joined}
 
--- the header does not come twice, and no row stands before it
+-- the header does not come twice, and no row comes before it
 pub record IsPast (head : Bool) (r : Reading) : Type 0 where
   pub kept : head ≡ false → r.head ≡ false
   pub behind_rows : (row : ℕ × List CsvCell) (rows : List (ℕ × List CsvCell)) → r.rows ≡ row ∷ rows → r.head ≡ false
@@ -30,29 +30,29 @@ past_row at NoRow later is = is
 past_row at (IsRow cells) later is = record { kept = is.kept; behind_rows = λ row rows same. is.kept refl }
 past_row at Misfit later is = past_refusal false at Malformed
 
-past_header : (still : Bool) (later : Reading) → IsPast still later → IsPast true later
-past_header still later is = record { kept = λ never. true_not_false true refl never; behind_rows = is.behind_rows }
+past_header : (awaits_header : Bool) (later : Reading) → IsPast awaits_header later → IsPast true later
+past_header awaits_header later is = record { kept = λ never. true_not_false true refl never; behind_rows = is.behind_rows }
 
-past_utf8 : (o : Options) (kinds : List ColType) (head : Bool) (at : ℕ) (r : CsvRecord) (later : Bool → Reading) (t : Bool) → ((still : Bool) → IsPast still (later still))
+past_utf8 : (o : Options) (kinds : List ColType) (head : Bool) (at : ℕ) (r : CsvRecord) (later : Bool → Reading) (t : Bool) → ((awaits_header : Bool) → IsPast awaits_header (later awaits_header))
     → IsPast head (if t then (if head then later (not (is_header r)) else row_then false at (row_of o kinds r) (later false)) else refuses head at NotUtf8)
 past_utf8 o kinds true at r later true is = past_header (not (is_header r)) (later (not (is_header r))) (is (not (is_header r)))
 past_utf8 o kinds false at r later true is = past_row at (row_of o kinds r) (later false) (is false)
 past_utf8 o kinds head at r later false is = past_refusal head at NotUtf8
 
 past_split : (o : Options) (kinds : List ColType) (head : Bool) (at : ℕ) (text : List ℕ) (found : Option (CsvRecord × List ℕ)) (later : Bool → ℕ → List ℕ → Reading)
-    → ((still : Bool) (place : ℕ) (rest : List ℕ) → IsPast still (later still place rest)) → IsPast head (split_then o kinds head at text found later)
+    → ((awaits_header : Bool) (place : ℕ) (rest : List ℕ) → IsPast awaits_header (later awaits_header place rest)) → IsPast head (split_then o kinds head at text found later)
 past_split o kinds head at text None later is = past_refusal head at Malformed
 past_split o kinds head at text (Some split) later is =
     let size : ℕ = length text - length split.1 in
-    past_utf8 o kinds head at split.0 (λ still. later still (at + size) split.1) (is_utf8 (take size text)) (λ still. is still (at + size) split.1)
+    past_utf8 o kinds head at split.0 (λ awaits_header. later awaits_header (at + size) split.1) (is_utf8 (take size text)) (λ awaits_header. is awaits_header (at + size) split.1)
 
 pub reading_up_to-past : (n : ℕ) (o : Options) (kinds : List ColType) (head : Bool) (at : ℕ) (text : List ℕ) → IsPast head (reading_up_to n o kinds head at text)
 reading_up_to-past zero o kinds head at [] = past_end head
 reading_up_to-past (suc n) o kinds head at [] = past_end head
 reading_up_to-past zero o kinds head at (b ∷ bs) = past_end head
 reading_up_to-past (suc n) o kinds head at (b ∷ bs) =
-    past_split o kinds head at (b ∷ bs) (record_at o (b ∷ bs)) (λ still place rest. reading_up_to n o kinds still place rest)
-    (λ still place rest. reading_up_to-past n o kinds still place rest)
+    past_split o kinds head at (b ∷ bs) (record_at o (b ∷ bs)) (λ awaits_header place rest. reading_up_to n o kinds awaits_header place rest)
+    (λ awaits_header place rest. reading_up_to-past n o kinds awaits_header place rest)
 
 pub reading-past : (o : Options) (kinds : List ColType) (head : Bool) (at : ℕ) (text : List ℕ) → IsPast head (reading o kinds head at text)
 reading-past o kinds head at text = reading_up_to-past (length text) o kinds head at text
@@ -89,26 +89,26 @@ refused_used used head (row ∷ rows) refusal later =
     refused_value head row.0 (used_values used row.1) (used_rows used head rows (Some refusal)) later (refused_used used head rows refusal later)
 
 by_rows : (used : List Bool) (rows : List (ℕ × List CsvCell)) (head : Bool) (later : Bool → Reading)
-    → ((row : ℕ × List CsvCell) (more : List (ℕ × List CsvCell)) → rows ≡ row ∷ more → head ≡ false) → ((still : Bool) → IsPast still (later still))
-    → used_rows used (later head).head (rows ++ (later head).rows) (later head).refusal ≡ joined_read (used_rows used head rows None) (λ still. read_of used (later still))
+    → ((row : ℕ × List CsvCell) (more : List (ℕ × List CsvCell)) → rows ≡ row ∷ more → head ≡ false) → ((awaits_header : Bool) → IsPast awaits_header (later awaits_header))
+    → used_rows used (later head).head (rows ++ (later head).rows) (later head).refusal ≡ joined_read (used_rows used head rows None) (λ awaits_header. read_of used (later awaits_header))
 by_rows used [] head later behind is = refl
 by_rows used (row ∷ rows) head later behind is =
     let past : head ≡ false = behind row rows refl in
-    joined_used used head (later head).head (row ∷ rows) (later head).rows (later head).refusal (λ still. read_of used (later still)) ((is head).kept past ∙ sym past) refl
+    joined_used used head (later head).head (row ∷ rows) (later head).rows (later head).refusal (λ awaits_header. read_of used (later awaits_header)) ((is head).kept past ∙ sym past) refl
 
 by_refusal : (used : List Bool) (rows : List (ℕ × List CsvCell)) (head : Bool) (refusal : Option Refusal) (later : Bool → Reading)
-    → ((row : ℕ × List CsvCell) (more : List (ℕ × List CsvCell)) → rows ≡ row ∷ more → head ≡ false) → ((still : Bool) → IsPast still (later still))
-    → read_of used (joined_at rows head refusal later) ≡ joined_read (used_rows used head rows refusal) (λ still. read_of used (later still))
+    → ((row : ℕ × List CsvCell) (more : List (ℕ × List CsvCell)) → rows ≡ row ∷ more → head ≡ false) → ((awaits_header : Bool) → IsPast awaits_header (later awaits_header))
+    → read_of used (joined_at rows head refusal later) ≡ joined_read (used_rows used head rows refusal) (λ awaits_header. read_of used (later awaits_header))
 by_refusal used rows head None later behind is = by_rows used rows head later behind is
-by_refusal used rows head (Some refusal) later behind is = refused_used used head rows refusal (λ still. read_of used (later still))
+by_refusal used rows head (Some refusal) later behind is = refused_used used head rows refusal (λ awaits_header. read_of used (later awaits_header))
 
 -- the used columns' rows of two pieces are joined as the cells are
-pub read_of-joined : (used : List Bool) (head : Bool) (first : Reading) (later : Bool → Reading) → IsPast head first → ((still : Bool) → IsPast still (later still))
-    → read_of used (joined first later) ≡ joined_read (read_of used first) (λ still. read_of used (later still))
+pub read_of-joined : (used : List Bool) (head : Bool) (first : Reading) (later : Bool → Reading) → IsPast head first → ((awaits_header : Bool) → IsPast awaits_header (later awaits_header))
+    → read_of used (joined first later) ≡ joined_read (read_of used first) (λ awaits_header. read_of used (later awaits_header))
 read_of-joined used head first later past is = by_refusal used first.rows first.head first.refusal later past.behind_rows is
 
 pub reads_rows_of_pieces : (o : Options) → AreOptions o → ReadsRowsOfPieces o
 reads_rows_of_pieces o fit = λ kinds used head at front rest records whole.
     ap (read_of used) (reading-joined o kinds head at front rest records fit whole)
-    ∙ read_of-joined used head (reading o kinds head at front) (λ still. reading o kinds still (at + length front) rest)
-    (reading-past o kinds head at front) (λ still. reading-past o kinds still (at + length front) rest)
+    ∙ read_of-joined used head (reading o kinds head at front) (λ awaits_header. reading o kinds awaits_header (at + length front) rest)
+    (reading-past o kinds head at front) (λ awaits_header. reading-past o kinds awaits_header (at + length front) rest)

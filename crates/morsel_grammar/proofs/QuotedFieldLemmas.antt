@@ -25,7 +25,7 @@ written_byte q b bytes after true is later = twice_goes_on q b (doubled q bytes 
     ∙ ap (λ (x : ℕ). let found : List ℕ × List ℕ = (x ∷ bytes, after) in Some found) (sym (same_byte b q is))
 written_byte q b bytes after false other later = other_goes_on q b (doubled q bytes ++ q ∷ after) other ∙ ap (with_byte b) later
 
--- content that is written with each quote twice, and a lone quote behind it, is read back
+-- content that is written with each quote twice, and a lone quote after it, is read back
 pub quoted_at-written : (q : ℕ) (bytes after : List ℕ) → begins q after ≡ false → quoted_at q (doubled q bytes ++ q ∷ after) ≡ Some (bytes, after)
 quoted_at-written q [] after lone = closes q after lone
 quoted_at-written q (b ∷ bytes) after lone = written_byte q b bytes after (b == q) refl (quoted_at-written q bytes after lone)
@@ -57,7 +57,7 @@ read_two q b c bs behind next true true b_is c_is later other =
 read_two q b c bs behind next true false b_is c_is later other = (ap (λ (x : ℕ). x ∷ c ∷ bs) (same_byte b q b_is), c_is)
 read_two q b c bs behind next false u b_is c_is later other = read_other q b (c ∷ bs) next b_is other
 
--- what is read behind an opening quote is written so
+-- what is read after an opening quote is written so
 pub quoted_at-read : (q : ℕ) (text : List ℕ) → IsQuotedText q text (quoted_at q text)
 quoted_at-read q [] = tt
 quoted_at-read q (b ∷ []) = read_last q b (b == q) refl

@@ -10,7 +10,7 @@ use Rattle.morsel_grammar.specs.Cells.{CsvCell}
 use Rattle.morsel_grammar.specs.Rows.{RowOf, NoRow, IsRow, Misfit, is_header, row_of, behind_header, with_first_row, rows_of_records}
 use Rattle.morsel_grammar.specs.Split.{record_at}
 use Rattle.morsel_grammar.specs.Reading.{Flaw, Malformed, NotUtf8, Refusal, Reading, ends, refuses, with_cells, row_then, record_then, split_then, reading_up_to, reading}
-use Rattle.morsel_grammar.specs.GrammarRows.{still_to_come, HasRows, HasFlaw, IsRefusedAt, HasRowAt, CellsOfGrammar}
+use Rattle.morsel_grammar.specs.GrammarRows.{awaits_header_after, HasRows, HasFlaw, IsRefusedAt, HasRowAt, CellsOfGrammar}
 use Rattle.morsel_grammar.proofs.ByteLemmas.{true_not_false}
 use Rattle.morsel_grammar.proofs.RecordLemmas.{IsFound, record_at-read, record_at-written, refuses_by_grammar, one_list}
 use Rattle.morsel_grammar.proofs.FirstRecordLemmas.{IsTaken, bytes_taken, record_taken, utf8_parts, Adds, adds_header, adds_nothing, adds_row, rows_more, before_more, before_first, rows_of_nothing, misfit_width}
@@ -52,16 +52,16 @@ ended o kinds used head at = record {
 }
 
 -- a record that is no row
-passed : (o : Options) (kinds : List ColType) (used : List Bool) (head still : Bool) (at : ℕ) (text next bytes : List ℕ) (r : CsvRecord) (later : Reading)
-    → AreOptions o → IsTaken o r text next bytes → IsUtf8 bytes → Adds o kinds r head still (λ rows. rows)
-    → IsReading o kinds used still (at + (length text - length next)) next later → IsReading o kinds used head at text later
-passed o kinds used head still at text next bytes r later fit taken utf8 adds is = record {
-  done = λ none. rows_more o kinds r head still later.head text next bytes (λ rows. rows) (cells_in later.rows) taken utf8 adds (is.done none);
+passed : (o : Options) (kinds : List ColType) (used : List Bool) (head awaits_header : Bool) (at : ℕ) (text next bytes : List ℕ) (r : CsvRecord) (later : Reading)
+    → AreOptions o → IsTaken o r text next bytes → IsUtf8 bytes → Adds o kinds r head awaits_header (λ rows. rows)
+    → IsReading o kinds used awaits_header (at + (length text - length next)) next later → IsReading o kinds used head at text later
+passed o kinds used head awaits_header at text next bytes r later fit taken utf8 adds is = record {
+  done = λ none. rows_more o kinds r head awaits_header later.head text next bytes (λ rows. rows) (cells_in later.rows) taken utf8 adds (is.done none);
   stopped = λ refusal one.
       let at_end = is.stopped refusal one in (
         at_end.0,
         at_end.1,
-        before_more o kinds r head still at_end.0 at refusal.at text next bytes at_end.1 (λ rows. rows) (cells_in later.rows) fit taken utf8 adds at_end.2,
+        before_more o kinds r head awaits_header at_end.0 at refusal.at text next bytes at_end.1 (λ rows. rows) (cells_in later.rows) fit taken utf8 adds at_end.2,
         at_end.3,
       );
   rows = λ before place cells after one.
@@ -69,7 +69,7 @@ passed o kinds used head still at text next bytes r later fit taken utf8 adds is
         row.0,
         row.1,
         row.2,
-        before_more o kinds r head still false at place text next bytes row.0 (λ rows. rows) (cells_in before) fit taken utf8 adds row.3,
+        before_more o kinds r head awaits_header false at place text next bytes row.0 (λ rows. rows) (cells_in before) fit taken utf8 adds row.3,
         row.4,
         row.5,
       );
@@ -127,7 +127,7 @@ by_row o kinds used at text next bytes r Misfit later fit taken utf8 row is =
 
 by_utf8 : (o : Options) (kinds : List ColType) (used : List Bool) (head : Bool) (at : ℕ) (text next bytes : List ℕ) (r : CsvRecord) (later : Bool → Reading) (t : Bool)
     → AreOptions o → IsTaken o r text next bytes → is_utf8 bytes ≡ t
-    → ((still : Bool) → IsReading o kinds used still (at + (length text - length next)) next (later still))
+    → ((awaits_header : Bool) → IsReading o kinds used awaits_header (at + (length text - length next)) next (later awaits_header))
     → IsReading o kinds used head at text (if t then (if head then later (not (is_header r)) else row_then false at (row_of o kinds r) (later false)) else refuses head at NotUtf8)
 by_utf8 o kinds used true at text next bytes r later true fit taken utf8 is =
     passed o kinds used true (not (is_header r)) at text next bytes r (later (not (is_header r))) fit taken (IsUtf8-from_is_utf8 bytes utf8)
@@ -144,7 +144,7 @@ Later = Bool → ℕ → List ℕ → Reading
 
 by_record : (o : Options) (kinds : List ColType) (used : List Bool) (head : Bool) (at : ℕ) (text : List ℕ) (found : Option (CsvRecord × List ℕ)) (later : Later)
     → AreOptions o → text ≢ [] → record_at o text ≡ found
-    → ((still : Bool) (place : ℕ) (rest : List ℕ) → length rest < length text → IsReading o kinds used still place rest (later still place rest))
+    → ((awaits_header : Bool) (place : ℕ) (rest : List ℕ) → length rest < length text → IsReading o kinds used awaits_header place rest (later awaits_header place rest))
     → IsReading o kinds used head at text (split_then o kinds head at text found later)
 by_record o kinds used head at text None later fit some is shorter =
     refused o kinds used head at text Malformed some (inl ((refuses_by_grammar o fit text).0 is))
@@ -153,10 +153,10 @@ by_record o kinds used head at text (Some split) later fit some is shorter =
     let begins : IsRecord o split.0 text split.1 = subst P is (record_at-read o text) in
     let all = record_taken o split.0 text split.1 fit begins some in
     let Q : List ℕ → Type 0 = λ bytes. IsReading o kinds used head at text
-    (record_then o kinds head at bytes split.0 (λ still. later still (at + (length text - length split.1)) split.1)) in
+    (record_then o kinds head at bytes split.0 (λ awaits_header. later awaits_header (at + (length text - length split.1)) split.1)) in
     subst Q (sym (bytes_taken o split.0 text split.1 all.0 all.1))
-    (by_utf8 o kinds used head at text split.1 all.0 split.0 (λ still. later still (at + (length text - length split.1)) split.1) (is_utf8 all.0) fit all.1 refl
-    (λ still. shorter still (at + (length text - length split.1)) split.1 all.1.shorter))
+    (by_utf8 o kinds used head at text split.1 all.0 split.0 (λ awaits_header. later awaits_header (at + (length text - length split.1)) split.1) (is_utf8 all.0) fit all.1 refl
+    (λ awaits_header. shorter awaits_header (at + (length text - length split.1)) split.1 all.1.shorter))
 
 some_text : (b : ℕ) (bs : List ℕ) → b ∷ bs ≢ []
 some_text b bs = λ is. cc
@@ -167,8 +167,8 @@ reading_up_to-is zero o kinds used head at [] fit enough = ended o kinds used he
 reading_up_to-is (suc n) o kinds used head at [] fit enough = ended o kinds used head at
 reading_up_to-is zero o kinds used head at (b ∷ bs) fit enough = absurd (omega arith)
 reading_up_to-is (suc n) o kinds used head at (b ∷ bs) fit enough =
-    by_record o kinds used head at (b ∷ bs) (record_at o (b ∷ bs)) (λ still next rest. reading_up_to n o kinds still next rest) fit (some_text b bs) refl
-    (λ still place rest shorter. reading_up_to-is n o kinds used still place rest fit (omega arith))
+    by_record o kinds used head at (b ∷ bs) (record_at o (b ∷ bs)) (λ awaits_header next rest. reading_up_to n o kinds awaits_header next rest) fit (some_text b bs) refl
+    (λ awaits_header place rest shorter. reading_up_to-is n o kinds used awaits_header place rest fit (omega arith))
 
 pub reading-is : (o : Options) (kinds : List ColType) (used : List Bool) (head : Bool) (at : ℕ) (text : List ℕ) → AreOptions o
     → IsReading o kinds used head at text (reading o kinds head at text)
@@ -200,7 +200,7 @@ header_rows o kinds records false rows is = is
 
 head_kept : (o : Options) (kinds : List ColType) (head : Bool) (at : ℕ) (r : CsvRecord) (records : List CsvRecord) (rows : List (List CsvCell)) (later : Bool → Reading)
     → rows_of_records o kinds (behind_header head (r ∷ records)) ≡ Some rows
-    → ((still : Bool) (before : List (List CsvCell)) → rows_of_records o kinds (behind_header still records) ≡ Some before → (later still).refusal ≡ None)
+    → ((awaits_header : Bool) (before : List (List CsvCell)) → rows_of_records o kinds (behind_header awaits_header records) ≡ Some before → (later awaits_header).refusal ≡ None)
     → (if head then later (not (is_header r)) else row_then false at (row_of o kinds r) (later false)).refusal ≡ None
 head_kept o kinds true at r records rows later is ends = ends (not (is_header r)) rows (header_rows o kinds records (is_header r) rows is)
 head_kept o kinds false at r records rows later is ends =
@@ -221,32 +221,32 @@ reading_up_to-ends (suc n) o kinds head at (b ∷ bs) [] rows fit enough utf8 sp
 reading_up_to-ends (suc n) o kinds head at (b ∷ bs) (r ∷ records) rows fit enough utf8 split is =
     let text : List ℕ = b ∷ bs in
     let next : List ℕ = split.1 in
-    let later : Later = λ still place rest. reading_up_to n o kinds still place rest in
+    let later : Later = λ awaits_header place rest. reading_up_to n o kinds awaits_header place rest in
     let all = record_taken o r text next fit split.2 split.0 in
     let parts = utf8_parts o r text next all.0 fit all.1 utf8 in
     let shorter : length next < length text = all.1.shorter in
     let place : ℕ = at + (length text - length next) in
-    let kept : (record_then o kinds head at all.0 r (λ still. later still place next)).refusal ≡ None =
-    utf8_kept o kinds head at all.0 r (λ still. later still place next) parts.0
-    (head_kept o kinds head at r records rows (λ still. later still place next) is
-    (λ still before is_before. reading_up_to-ends n o kinds still place next records before fit (omega arith) parts.1 split.3 is_before)) in
+    let kept : (record_then o kinds head at all.0 r (λ awaits_header. later awaits_header place next)).refusal ≡ None =
+    utf8_kept o kinds head at all.0 r (λ awaits_header. later awaits_header place next) parts.0
+    (head_kept o kinds head at r records rows (λ awaits_header. later awaits_header place next) is
+    (λ awaits_header before is_before. reading_up_to-ends n o kinds awaits_header place next records before fit (omega arith) parts.1 split.3 is_before)) in
     ap (λ found. (split_then o kinds head at text found later).refusal) (record_at-written o r text next fit split.2)
-    ∙ ap (λ bytes. (record_then o kinds head at bytes r (λ still. later still place next)).refusal) (bytes_taken o r text next all.0 all.1)
+    ∙ ap (λ bytes. (record_then o kinds head at bytes r (λ awaits_header. later awaits_header place next)).refusal) (bytes_taken o r text next all.0 all.1)
     ∙ kept
 
 -- two answers of the grammar are one
-rows_same : (o : Options) (kinds : List ColType) (head : Bool) (text : List ℕ) (rows others : List (List CsvCell)) (still other : Bool) → AreOptions o
-    → HasRows o kinds head text rows still → HasRows o kinds head text others other → (rows ≡ others) × (still ≡ other)
-rows_same o kinds head text rows others still other fit is also =
+rows_same : (o : Options) (kinds : List ColType) (head : Bool) (text : List ℕ) (rows others : List (List CsvCell)) (awaits_header other : Bool) → AreOptions o
+    → HasRows o kinds head text rows awaits_header → HasRows o kinds head text others other → (rows ≡ others) × (awaits_header ≡ other)
+rows_same o kinds head text rows others awaits_header other fit is also =
     let same : is.records ≡ also.records = one_list o fit text is.records also.records is.split also.split in
     let found : Some rows ≡ Some others = sym is.rows_are ∙ ap (λ records. rows_of_records o kinds (behind_header head records)) same ∙ also.rows_are in
-    (cc, is.still_is ∙ ap (still_to_come head) same ∙ sym also.still_is)
+    (cc, is.awaits_header_is ∙ ap (awaits_header_after head) same ∙ sym also.awaits_header_is)
 
-pub reading-ends : (o : Options) (kinds : List ColType) (head : Bool) (at : ℕ) (text : List ℕ) (rows : List (List CsvCell)) (still : Bool) → AreOptions o
-    → HasRows o kinds head text rows still
-    → (let r = reading o kinds head at text in (r.refusal ≡ None) × (cells_in r.rows ≡ rows) × (r.head ≡ still))
-reading-ends o kinds head at text rows still fit is =
+pub reading-ends : (o : Options) (kinds : List ColType) (head : Bool) (at : ℕ) (text : List ℕ) (rows : List (List CsvCell)) (awaits_header : Bool) → AreOptions o
+    → HasRows o kinds head text rows awaits_header
+    → (let r = reading o kinds head at text in (r.refusal ≡ None) × (cells_in r.rows ≡ rows) × (r.head ≡ awaits_header))
+reading-ends o kinds head at text rows awaits_header fit is =
     let r = reading o kinds head at text in
     let none : r.refusal ≡ None = reading_up_to-ends (length text) o kinds head at text is.records rows fit (omega arith) is.utf8 is.split is.rows_are in
-    let same = rows_same o kinds head text (cells_in r.rows) rows r.head still fit ((reading-is o kinds [] head at text fit).done none) is in
+    let same = rows_same o kinds head text (cells_in r.rows) rows r.head awaits_header fit ((reading-is o kinds [] head at text fit).done none) is in
     (none, same.0, same.1)

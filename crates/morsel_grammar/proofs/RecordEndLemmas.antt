@@ -38,7 +38,7 @@ field_at-first o b bs t is = ap (λ t. if t then in_quotes (quoted_at b bs) else
 quote_itself : (o : Options) (q : ℕ) → o.quote ≡ Some q → is_quote o.quote q ≡ true
 quote_itself o q asked = ap (λ (x : Option ℕ). is_quote x q) asked ∙ byte_itself q
 
--- a quoted field that stands in a text is read, unless another quote follows
+-- a quoted field that a text has is read, unless another quote follows
 pub field_at-quoted : (o : Options) (q : ℕ) (bytes spelled after : List ℕ) → o.quote ≡ Some q → spelled ≡ q ∷ doubled q bytes ++ q ∷ []
     → begins q after ≡ false → field_at o (spelled ++ after) ≡ Some (record { quoted = true; bytes = bytes }, after)
 field_at-quoted o q bytes spelled after asked is lone =
@@ -47,7 +47,7 @@ field_at-quoted o q bytes spelled after asked is lone =
     ∙ field_at-first o q (doubled q bytes ++ q ∷ after) true (quote_itself o q asked)
     ∙ ap in_quotes (quoted_at-written q bytes after lone)
 
--- an unquoted field that stands in a text is read, where it ends
+-- an unquoted field that a text has is read, where it ends
 pub field_at-plain : (o : Options) (bytes after : List ℕ) → AreOptions o → IsPlain o bytes → IsStop o after
     → field_at o (bytes ++ after) ≡ Some (record { quoted = false; bytes = bytes }, after)
 field_at-plain o [] [] fit plain stop = refl

@@ -14,18 +14,18 @@ use Rattle.morsel_grammar.proofs.UsedRowLemmas.{values_in, read_of-rows, read_of
 
 -- the fault of a refusal by the grammar
 abbrev FaultBy : ℕ → Options → List Field → List Bool → Bool → ℕ → List ℕ → Fault → Type 0
-FaultBy file o schema used head at text fault = (refusal : Refusal) × (rows : List Row) × (still : Bool)
-    × (fault ≡ flaw_fault file refusal.at refusal.flaw) × RowsOfGrammar o (kinds_of schema) used head at text rows still (Some refusal)
+FaultBy file o schema used head at text fault = (refusal : Refusal) × (rows : List Row) × (awaits_header : Bool)
+    × (fault ≡ flaw_fault file refusal.at refusal.flaw) × RowsOfGrammar o (kinds_of schema) used head at text rows awaits_header (Some refusal)
 
-by_refusal : (file : ℕ) (o : Options) (schema : List Field) (used : List Bool) (head : Bool) (at : ℕ) (text : List ℕ) (rows : List Row) (still : Bool) (found : Option Refusal) (fault : Fault)
-    → RowsOfGrammar o (kinds_of schema) used head at text rows still found → refusal_fault file found ≡ Some fault → FaultBy file o schema used head at text fault
-by_refusal file o schema used head at text rows still None fault is refused = cc
-by_refusal file o schema used head at text rows still (Some refusal) fault is refused = (refusal, rows, still, cc, is)
+by_refusal : (file : ℕ) (o : Options) (schema : List Field) (used : List Bool) (head : Bool) (at : ℕ) (text : List ℕ) (rows : List Row) (awaits_header : Bool) (found : Option Refusal) (fault : Fault)
+    → RowsOfGrammar o (kinds_of schema) used head at text rows awaits_header found → refusal_fault file found ≡ Some fault → FaultBy file o schema used head at text fault
+by_refusal file o schema used head at text rows awaits_header None fault is refused = cc
+by_refusal file o schema used head at text rows awaits_header (Some refusal) fault is refused = (refusal, rows, awaits_header, cc, is)
 
-fault_of_grammar : (file : ℕ) (o : Options) (schema : List Field) (used : List Bool) (head : Bool) (at : ℕ) (text : List ℕ) (rows : List Row) (still : Bool) (found : Option Refusal) (fault : Fault)
-    → RowsOfGrammar o (kinds_of schema) used head at text rows still found → IsRefused file found fault → IsFaultOfGrammar file o schema used head at text fault
-fault_of_grammar file o schema used head at text rows still found faults.OutOfMemory is refused = tt
-fault_of_grammar file o schema used head at text rows still found fault is refused = by_refusal file o schema used head at text rows still found fault is refused
+fault_of_grammar : (file : ℕ) (o : Options) (schema : List Field) (used : List Bool) (head : Bool) (at : ℕ) (text : List ℕ) (rows : List Row) (awaits_header : Bool) (found : Option Refusal) (fault : Fault)
+    → RowsOfGrammar o (kinds_of schema) used head at text rows awaits_header found → IsRefused file found fault → IsFaultOfGrammar file o schema used head at text fault
+fault_of_grammar file o schema used head at text rows awaits_header found faults.OutOfMemory is refused = tt
+fault_of_grammar file o schema used head at text rows awaits_header found fault is refused = by_refusal file o schema used head at text rows awaits_header found fault is refused
 
 of_grammar : (file : ℕ) (o : Options) (schema : List Field) (used : List Bool) (head : Bool) (at : ℕ) (text : List ℕ) (read : Read) (result : Result (Table × Bool) Fault)
     → RowsOfGrammar o (kinds_of schema) used head at text (values_in read.rows) read.head read.refusal → ReadsRecords file schema used read result
@@ -46,12 +46,12 @@ no_refusal : (file : ℕ) (found : Option Refusal) (fault : Fault) → found ≡
 no_refusal file found faults.OutOfMemory none refused = refl
 no_refusal file found fault none refused = let never : refusal_fault file None ≡ Some fault = ap (refusal_fault file) (sym none) ∙ refused in cc
 
-all_rows : (file : ℕ) (schema : List Field) (used : List Bool) (read : Read) (rows : List Row) (still : Bool) (result : Result (Table × Bool) Fault)
-    → read.refusal ≡ None → values_in read.rows ≡ rows → read.head ≡ still → ReadsRecords file schema used read result → IsReadUnlessOutOfMemory rows still result
-all_rows file schema used read rows still (Ok answer) none same same_still answers = (answers.2 ∙ same, answers.3 ∙ same_still)
-all_rows file schema used read rows still (Err fault) none same same_still answers = no_refusal file read.refusal fault none answers
+all_rows : (file : ℕ) (schema : List Field) (used : List Bool) (read : Read) (rows : List Row) (awaits_header : Bool) (result : Result (Table × Bool) Fault)
+    → read.refusal ≡ None → values_in read.rows ≡ rows → read.head ≡ awaits_header → ReadsRecords file schema used read result → IsReadUnlessOutOfMemory rows awaits_header result
+all_rows file schema used read rows awaits_header (Ok answer) none same same_awaits_header answers = (answers.2 ∙ same, answers.3 ∙ same_awaits_header)
+all_rows file schema used read rows awaits_header (Err fault) none same same_awaits_header answers = no_refusal file read.refusal fault none answers
 
 pub answers_all_rows : (o : Options) → AreOptions o → AnswersAllRows o
-answers_all_rows o fit = λ file schema used head at text rows still result answers is.
-    let whole = read_of-ends o (kinds_of schema) used head at text is.0 rows still fit is.1 is.2 in
-    all_rows file schema used (read_of used (reading o (kinds_of schema) head at text)) rows still result whole.0 whole.1 whole.2 answers
+answers_all_rows o fit = λ file schema used head at text rows awaits_header result answers is.
+    let whole = read_of-ends o (kinds_of schema) used head at text is.0 rows awaits_header fit is.1 is.2 in
+    all_rows file schema used (read_of used (reading o (kinds_of schema) head at text)) rows awaits_header result whole.0 whole.1 whole.2 answers

@@ -41,10 +41,10 @@ used_rows-takes used head (row ∷ rows) refusal =
 read_all : (o : Options) (kinds : List ColType) (used : List Bool) (head : Bool) (at : ℕ) (text : List ℕ) (r : Reading) (read : Read) (refusal : Option Refusal)
     → r.refusal ≡ refusal → IsReading o kinds used head at text r → values_of used (cells_in r.rows) ≡ Some (values_in read.rows) → read.head ≡ r.head
     → RowsOfGrammar o kinds used head at text (values_in read.rows) read.head refusal
-read_all o kinds used head at text r read None none is values still =
+read_all o kinds used head at text r read None none is values awaits_header =
     let P : Bool → Type 0 = λ x. HasRows o kinds head text (cells_in r.rows) x in
-    (cells_in r.rows, subst P (sym still) (is.done none), values)
-read_all o kinds used head at text r read (Some refusal) one is values still = (cells_in r.rows, is.stopped refusal one, values)
+    (cells_in r.rows, subst P (sym awaits_header) (is.done none), values)
+read_all o kinds used head at text r read (Some refusal) one is values awaits_header = (cells_in r.rows, is.stopped refusal one, values)
 
 read_taken : (o : Options) (kinds : List ColType) (used : List Bool) (head : Bool) (at : ℕ) (text : List ℕ) (r : Reading) (read : Read) → IsReading o kinds used head at text r
     → (TakesAll used r.head r.rows r.refusal read) ⊎ (TakesBefore used r.rows read)
@@ -87,11 +87,11 @@ ends_taken used r read cells rows none same values (inr some) =
     cc
 
 -- a text whose rows are of the grammar is read to its end
-pub read_of-ends : (o : Options) (kinds : List ColType) (used : List Bool) (head : Bool) (at : ℕ) (text : List ℕ) (cells : List (List CsvCell)) (rows : List Row) (still : Bool) → AreOptions o
-    → HasRows o kinds head text cells still → values_of used cells ≡ Some rows
-    → (let read = read_of used (reading o kinds head at text) in (read.refusal ≡ None) × (values_in read.rows ≡ rows) × (read.head ≡ still))
-read_of-ends o kinds used head at text cells rows still fit has values =
+pub read_of-ends : (o : Options) (kinds : List ColType) (used : List Bool) (head : Bool) (at : ℕ) (text : List ℕ) (cells : List (List CsvCell)) (rows : List Row) (awaits_header : Bool) → AreOptions o
+    → HasRows o kinds head text cells awaits_header → values_of used cells ≡ Some rows
+    → (let read = read_of used (reading o kinds head at text) in (read.refusal ≡ None) × (values_in read.rows ≡ rows) × (read.head ≡ awaits_header))
+read_of-ends o kinds used head at text cells rows awaits_header fit has values =
     let r = reading o kinds head at text in
-    let whole = reading-ends o kinds head at text cells still fit has in
+    let whole = reading-ends o kinds head at text cells awaits_header fit has in
     let taken = ends_taken used r (read_of used r) cells rows whole.0 whole.1 values (used_rows-takes used r.head r.rows r.refusal) in
     (taken.0, taken.1, taken.2 ∙ whole.2)

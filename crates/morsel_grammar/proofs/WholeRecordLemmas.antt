@@ -162,7 +162,7 @@ records_behind o front rest (r ∷ a) (s ∷ all) fit whole split =
     let more : all ≡ a ++ later.0 = later.1 in
     (later.0, cc, later.2)
 
--- records behind whole records are records of all
+-- records after whole records are records of all
 pub records_joined : (o : Options) (front rest : List ℕ) (a b : List CsvRecord) → AreOptions o → AreWholeRecords o front a → Records o rest b → Records o (front ++ rest) (a ++ b)
 records_joined o front rest [] b fit none split = let P : List ℕ → Type 0 = λ x. Records o (x ++ rest) b in subst P (sym none) split
 records_joined o front rest (r ∷ a) b fit whole split =

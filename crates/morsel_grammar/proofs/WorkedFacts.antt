@@ -22,7 +22,7 @@ quoted bytes = record { quoted = true; bytes = bytes }
 abbrev read : List CsvField → List ℕ → Option (CsvRecord × List ℕ)
 read fields rest = let found : CsvRecord × List ℕ = (Fields fields, rest) in Some found
 
--- with comments behind a number sign, and with byte 13 as eol
+-- with comments after a number sign, and with byte 13 as eol
 abbrev commented : Options
 commented = record standard { comment = Some (35 ∷ []) }
 
@@ -93,12 +93,12 @@ pub signed_and_ill_typed : row_of standard (types.Int ∷ types.Bool ∷ []) (Fi
     ≡ IsRow (Good (values.Int (pos 7)) ∷ Bad ∷ [])
 signed_and_ill_typed = refl
 
--- comments and empty records may stand before the header
+-- comments and empty records may come before the header
 pub header_behind_comment : behind_header true (Comment (codes "x") ∷ Fields (plain [] ∷ []) ∷ Fields (plain (codes "a") ∷ []) ∷ Fields (plain (codes "1") ∷ []) ∷ [])
     ≡ Fields (plain (codes "1") ∷ []) ∷ []
 header_behind_comment = refl
 
--- behind a header, a row, an empty record and a row, an open quote is refused where its record begins
+-- after a header, a row, an empty record and a row, an open quote is refused where its record begins
 pub refused_at_its_place : reading standard (types.Int ∷ types.Int ∷ []) true 0 (codes "a,b\n1,2\n\n3,\n\"4")
     ≡ record {
       rows = (4, Good (values.Int (pos 1)) ∷ Good (values.Int (pos 2)) ∷ []) ∷ (9, Good (values.Int (pos 3)) ∷ Good values.Null ∷ []) ∷ [];

@@ -29,6 +29,7 @@ abbrev pub short_number : List ℕ → Option ℕ
 short_number digits = if all_ascii_digits digits && (nat_lt 0 (length digits) && nat_lt (length digits) 19)
     then Some (digits_value 10 digits) else None
 
+-- the number with its sign, where `true` is a minus
 abbrev pub signed : Bool → Option ℕ → Option ℤ
 signed negative None = None
 signed true (Some n) = Some (neg_ℤ (pos n))
@@ -46,10 +47,12 @@ bool_of text = if same_text text (codes "true") || (same_text text (codes "True"
     else (if same_text text (codes "false") || (same_text text (codes "False") || same_text text (codes "FALSE")) then Some false
     else None)
 
+-- a number as a value, where there is one
 abbrev pub int_value : Option ℤ → Option Value
 int_value None = None
 int_value (Some n) = Some (values.Int n)
 
+-- a truth value as a value, where there is one
 abbrev pub bool_value : Option Bool → Option Value
 bool_value None = None
 bool_value (Some b) = Some (values.Bool b)
@@ -60,6 +63,7 @@ value_written types.Int text = int_value (int_of text)
 value_written types.Bool text = bool_value (bool_of text)
 value_written types.Text text = Some (values.Text text)
 
+-- the cell of a value, where there is one; without one, null where errors are ignored, and bad where they are not
 abbrev pub cell_or_bad : Bool → Option Value → CsvCell
 cell_or_bad ignore_errors (Some v) = Good v
 cell_or_bad true None = Good values.Null

@@ -2,27 +2,28 @@
 use Rattle.std.specs.Prelude.{◌≡◌, ◌≢◌, ◌⊎◌, ℕ, Bool, true, false, Option, Some, None, List, [], ◌∷◌, ◌++◌, ◌==◌, if◌then◌else◌}
 use Rattle.morsel_grammar.specs.Options.{Options, IsWithout}
 
--- a field's content, and whether it stands in quotes
+-- a field's content, and whether it is in quotes
 pub record CsvField : Type 0 where
   pub quoted : Bool
   pub bytes : List ℕ
 
+-- a record: a comment, or a list of fields
 pub data CsvRecord : Type 0 where
   Comment : List ℕ → CsvRecord  -- what follows the prefix
   Fields : List CsvField → CsvRecord
 
--- with each quote twice
+-- the content with each quote twice
 abbrev pub doubled : ℕ → List ℕ → List ℕ
 doubled quote [] = []
 doubled quote (b ∷ bs) = if b == quote then b ∷ b ∷ doubled quote bs else b ∷ doubled quote bs
 
--- the first byte is not the quote
+-- the content does not begin with the quote
 abbrev pub BeginsUnquoted : Option ℕ → List ℕ → Type 0
 BeginsUnquoted None bytes = Unit {0}
 BeginsUnquoted (Some quote) [] = Unit {0}
 BeginsUnquoted (Some quote) (b ∷ bs) = b ≢ quote
 
--- what may stand without quotes
+-- content that may be written without quotes
 pub record IsPlain (o : Options) (bytes : List ℕ) : Type 0 where
   pub no_separator : IsWithout o.separator bytes
   pub no_eol : IsWithout o.eol bytes
@@ -43,7 +44,7 @@ EndsInReturn (b ∷ c ∷ bs) = EndsInReturn (c ∷ bs)
 abbrev pub IsLineEnd : Options → List ℕ → List ℕ → Type 0
 IsLineEnd o end rest = (end ≡ o.eol ∷ rest) ⊎ ((end ≡ []) × (rest ≡ []))
 
--- the end of a record behind its last field. Where eol is 10, a byte 13 directly before it and outside quotes belongs to it
+-- the end of a record after its last field. Where eol is 10, a byte 13 directly before it and outside quotes belongs to it
 abbrev pub IsEnd : Options → CsvField → List ℕ → List ℕ → Type 0
 IsEnd o last end rest = ((o.eol ≡ 10) × (after : List ℕ) × (end ≡ 13 ∷ after) × IsLineEnd o after rest)
     ⊎ (IsLineEnd o end rest × (o.eol ≡ 10 → last.quoted ≡ false → EndsInReturn last.bytes → ⊥))
@@ -60,7 +61,7 @@ AreFields o (f ∷ g ∷ fields) text rest = (spelled : List ℕ) × (after : Li
 abbrev pub BeginsComment : Options → List ℕ → Type 0
 BeginsComment o text = (prefix : List ℕ) × (body : List ℕ) × (o.comment ≡ Some prefix) × (text ≡ prefix ++ body)
 
--- a comment runs to the next eol byte or to the end of the text, whatever quotes it holds
+-- a comment runs to the next eol byte or to the end of the text, whatever quotes it contains
 pub record IsComment (o : Options) (body text rest : List ℕ) : Type 0 where
   pub prefix : List ℕ
   pub end : List ℕ

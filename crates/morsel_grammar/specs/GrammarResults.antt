@@ -9,11 +9,11 @@ use Rattle.morsel_grammar.specs.Reading.{Refusal, reading, read_of, chosen}
 use Rattle.morsel_grammar.specs.Results.{flaw_fault, ReadsRecords}
 use Rattle.morsel_grammar.specs.GrammarRows.{RowsOfGrammar}
 
--- the fault of the first record that the grammar refuses, or at any time want of memory
+-- the fault of the first record that the grammar refuses, or at any time out of memory
 abbrev pub IsFaultOfGrammar : ℕ → Options → List Field → List Bool → Bool → ℕ → List ℕ → Fault → Type 0
 IsFaultOfGrammar file o schema used head at text faults.OutOfMemory = Unit {0}
-IsFaultOfGrammar file o schema used head at text fault = (refusal : Refusal) × (rows : List Row) × (still : Bool)
-    × (fault ≡ flaw_fault file refusal.at refusal.flaw) × RowsOfGrammar o (kinds_of schema) used head at text rows still (Some refusal)
+IsFaultOfGrammar file o schema used head at text fault = (refusal : Refusal) × (rows : List Row) × (awaits_header : Bool)
+    × (fault ≡ flaw_fault file refusal.at refusal.flaw) × RowsOfGrammar o (kinds_of schema) used head at text rows awaits_header (Some refusal)
 
 -- the rows of the used columns by the grammar and whether the header is still to come, or the fault of the record that it refuses
 abbrev pub ReadsOfGrammar : ℕ → Options → List Field → List Bool → Bool → ℕ → List ℕ → Result (Table × Bool) Fault → Type 0
@@ -21,10 +21,10 @@ ReadsOfGrammar file o schema used head at text (Ok answer) = (answer.0.schema �
     × RowsOfGrammar o (kinds_of schema) used head at text answer.0.rows answer.1 None
 ReadsOfGrammar file o schema used head at text (Err fault) = IsFaultOfGrammar file o schema used head at text fault
 
--- these rows, or want of memory
+-- these rows, or out of memory
 abbrev pub IsReadUnlessOutOfMemory : List Row → Bool → Result (Table × Bool) Fault → Type 0
-IsReadUnlessOutOfMemory rows still (Ok answer) = (answer.0.rows ≡ rows) × (answer.1 ≡ still)
-IsReadUnlessOutOfMemory rows still (Err fault) = fault ≡ faults.OutOfMemory
+IsReadUnlessOutOfMemory rows awaits_header (Ok answer) = (answer.0.rows ≡ rows) × (answer.1 ≡ awaits_header)
+IsReadUnlessOutOfMemory rows awaits_header (Err fault) = fault ≡ faults.OutOfMemory
 
 -- a reader's answer is the grammar's
 abbrev pub AnswersByGrammar : Options → Type 0
@@ -34,6 +34,6 @@ AnswersByGrammar o = (file : ℕ) (schema : List Field) (used : List Bool) (head
 
 -- a reader of a text that has rows by the grammar answers these, unless memory is out
 abbrev pub AnswersAllRows : Options → Type 0
-AnswersAllRows o = (file : ℕ) (schema : List Field) (used : List Bool) (head : Bool) (at : ℕ) (text : List ℕ) (rows : List Row) (still : Bool) (result : Result (Table × Bool) Fault)
+AnswersAllRows o = (file : ℕ) (schema : List Field) (used : List Bool) (head : Bool) (at : ℕ) (text : List ℕ) (rows : List Row) (awaits_header : Bool) (result : Result (Table × Bool) Fault)
     → ReadsRecords file schema used (read_of used (reading o (kinds_of schema) head at text)) result
-    → RowsOfGrammar o (kinds_of schema) used head at text rows still None → IsReadUnlessOutOfMemory rows still result
+    → RowsOfGrammar o (kinds_of schema) used head at text rows awaits_header None → IsReadUnlessOutOfMemory rows awaits_header result

@@ -14,32 +14,32 @@ AreWholeRecords o text [] = text ≡ []
 AreWholeRecords o text (r ∷ records) = (line : List ℕ) × (rest : List ℕ) × (text ≡ line ++ o.eol ∷ rest)
     × IsRecord o r text rest × AreWholeRecords o rest records
 
--- whether the header is still to come behind these records
-abbrev pub still_to_come : Bool → List CsvRecord → Bool
-still_to_come false records = false
-still_to_come true [] = true
-still_to_come true (r ∷ records) = if is_header r then false else still_to_come true records
+-- whether the header is still to come after these records, where it was or was not before them
+abbrev pub awaits_header_after : Bool → List CsvRecord → Bool
+awaits_header_after false records = false
+awaits_header_after true [] = true
+awaits_header_after true (r ∷ records) = if is_header r then false else awaits_header_after true records
 
 -- the values of the used columns, row by row, where none of their cells is bad
 abbrev pub values_of : List Bool → List (List CsvCell) → Option (List Row)
 values_of used [] = Some []
-values_of used (cells ∷ rows) = with_values (used_values used cells) (values_of used rows)
+values_of used (cells ∷ rows) = values_first (used_values used cells) (values_of used rows)
   where
-    with_values : Option Row → Option (List Row) → Option (List Row)
-    with_values None rows = None
-    with_values (Some row) None = None
-    with_values (Some row) (Some rows) = Some (row ∷ rows)
+    values_first : Option Row → Option (List Row) → Option (List Row)
+    values_first None rows = None
+    values_first (Some row) None = None
+    values_first (Some row) (Some rows) = Some (row ∷ rows)
 
--- the text is UTF-8 and a list of records, and these are the rows behind its header
-pub record HasRows (o : Options) (kinds : List ColType) (head : Bool) (text : List ℕ) (rows : List (List CsvCell)) (still : Bool) : Type 0 where
+-- the text is UTF-8 and a list of records, and these are the rows after its header
+pub record HasRows (o : Options) (kinds : List ColType) (head : Bool) (text : List ℕ) (rows : List (List CsvCell)) (awaits_header : Bool) : Type 0 where
   pub utf8 : IsUtf8 text
   pub records : List CsvRecord
   pub split : Records o text records
   pub rows_are : rows_of_records o kinds (behind_header head records) ≡ Some rows
-  pub still_is : still ≡ still_to_come head records
+  pub awaits_header_is : awaits_header ≡ awaits_header_after head records
 
 -- the bytes before a place of the text, which begins at place `at`, are UTF-8 and whole records; these are their rows, and this is the rest
-pub record HasRowsBefore (o : Options) (kinds : List ColType) (head : Bool) (at : ℕ) (text : List ℕ) (place : ℕ) (rows : List (List CsvCell)) (still : Bool) (rest : List ℕ) : Type 0 where
+pub record HasRowsBefore (o : Options) (kinds : List ColType) (head : Bool) (at : ℕ) (text : List ℕ) (place : ℕ) (rows : List (List CsvCell)) (awaits_header : Bool) (rest : List ℕ) : Type 0 where
   pub front : List ℕ
   pub records : List CsvRecord
   pub split : text ≡ front ++ rest
@@ -47,7 +47,7 @@ pub record HasRowsBefore (o : Options) (kinds : List ColType) (head : Bool) (at 
   pub whole : AreWholeRecords o front records
   pub utf8 : IsUtf8 front
   pub rows_are : rows_of_records o kinds (behind_header head records) ≡ Some rows
-  pub still_is : still ≡ still_to_come head records
+  pub awaits_header_is : awaits_header ≡ awaits_header_after head records
   pub some_rest : rest ≢ []
 
 -- no record begins here
@@ -65,35 +65,35 @@ HasBadCell o kinds used r = (cells : List CsvCell) × (row_of o kinds r ≡ IsRo
 
 -- what begins here is refused: no whole record or one of another width; a record that is not UTF-8; one with a bad cell
 abbrev pub HasFlaw : Options → List ColType → List Bool → Bool → List ℕ → Flaw → Type 0
-HasFlaw o kinds used still text Malformed = BeginsNoRecord o text
-    ⊎ ((r : CsvRecord) × (rest : List ℕ) × IsRecord o r text rest × (still ≡ false) × HasOtherWidth kinds r)
-HasFlaw o kinds used still text NotUtf8 = (r : CsvRecord) × (bytes : List ℕ) × (rest : List ℕ)
+HasFlaw o kinds used awaits_header text Malformed = BeginsNoRecord o text
+    ⊎ ((r : CsvRecord) × (rest : List ℕ) × IsRecord o r text rest × (awaits_header ≡ false) × HasOtherWidth kinds r)
+HasFlaw o kinds used awaits_header text NotUtf8 = (r : CsvRecord) × (bytes : List ℕ) × (rest : List ℕ)
     × IsRecord o r text rest × (text ≡ bytes ++ rest) × (IsUtf8 bytes → ⊥)
-HasFlaw o kinds used still text IllTyped = (r : CsvRecord) × (rest : List ℕ) × IsRecord o r text rest × (still ≡ false) × HasBadCell o kinds used r
+HasFlaw o kinds used awaits_header text IllTyped = (r : CsvRecord) × (rest : List ℕ) × IsRecord o r text rest × (awaits_header ≡ false) × HasBadCell o kinds used r
 
 -- what begins at the place is refused, and nothing before it is
 abbrev pub IsRefusedAt : Options → List ColType → List Bool → Bool → ℕ → List ℕ → List (List CsvCell) → Refusal → Type 0
-IsRefusedAt o kinds used head at text rows refusal = (still : Bool) × (rest : List ℕ)
-    × HasRowsBefore o kinds head at text refusal.at rows still rest × HasFlaw o kinds used still rest refusal.flaw
+IsRefusedAt o kinds used head at text rows refusal = (awaits_header : Bool) × (rest : List ℕ)
+    × HasRowsBefore o kinds head at text refusal.at rows awaits_header rest × HasFlaw o kinds used awaits_header rest refusal.flaw
 
--- a row of these cells begins at the place, behind these rows
+-- a row of these cells begins at the place, after these rows
 abbrev pub HasRowAt : Options → List ColType → Bool → ℕ → List ℕ → List (List CsvCell) → ℕ → List CsvCell → Type 0
 HasRowAt o kinds head at text before place cells = (rest : List ℕ) × (r : CsvRecord) × (after : List ℕ)
     × HasRowsBefore o kinds head at text place before false rest × IsRecord o r rest after × (row_of o kinds r ≡ IsRow cells)
 
 -- rows of cells up to the end of the text, or up to a record that is refused
 abbrev pub CellsOfGrammar : Options → List ColType → Bool → ℕ → List ℕ → List (List CsvCell) → Bool → Option Refusal → Type 0
-CellsOfGrammar o kinds head at text rows still None = HasRows o kinds head text rows still
-CellsOfGrammar o kinds head at text rows still (Some refusal) = IsRefusedAt o kinds [] head at text rows refusal
+CellsOfGrammar o kinds head at text rows awaits_header None = HasRows o kinds head text rows awaits_header
+CellsOfGrammar o kinds head at text rows awaits_header (Some refusal) = IsRefusedAt o kinds [] head at text rows refusal
 
 -- the used columns' rows up to the end of the text, or up to a record that is refused
 abbrev pub RowsOfGrammar : Options → List ColType → List Bool → Bool → ℕ → List ℕ → List Row → Bool → Option Refusal → Type 0
-RowsOfGrammar o kinds used head at text rows still None = (cells : List (List CsvCell))
-    × HasRows o kinds head text cells still × (values_of used cells ≡ Some rows)
-RowsOfGrammar o kinds used head at text rows still (Some refusal) = (cells : List (List CsvCell))
+RowsOfGrammar o kinds used head at text rows awaits_header None = (cells : List (List CsvCell))
+    × HasRows o kinds head text cells awaits_header × (values_of used cells ≡ Some rows)
+RowsOfGrammar o kinds used head at text rows awaits_header (Some refusal) = (cells : List (List CsvCell))
     × IsRefusedAt o kinds used head at text cells refusal × (values_of used cells ≡ Some rows)
 
--- fields with a separator behind each, and then an opening quote and content up to the end of the text
+-- fields with a separator after each, and then an opening quote and content up to the end of the text
 abbrev pub OpensQuotes : Options → List CsvField → List ℕ → Type 0
 OpensQuotes o [] text = (quote : ℕ) × (content : List ℕ) × (o.quote ≡ Some quote) × (text ≡ quote ∷ doubled quote content)
 OpensQuotes o (f ∷ fields) text = (spelled : List ℕ) × (after : List ℕ)

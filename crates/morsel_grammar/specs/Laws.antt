@@ -42,7 +42,7 @@ abbrev pub StandsWhateverFollows : Options → Type 0
 StandsWhateverFollows o = (text : List ℕ) (r : CsvRecord) (line rest : List ℕ) → IsRecord o r text rest → text ≡ line ++ o.eol ∷ rest
     → (more : List ℕ) → IsRecord o r (line ++ o.eol ∷ more) more
 
--- behind whole records a text is split by itself
+-- after whole records a text is split as if they were not there
 abbrev pub SplitsBehindWhole : Options → Type 0
 SplitsBehindWhole o = (front rest : List ℕ) (whole records : List CsvRecord) → AreWholeRecords o front whole
     → Records o (front ++ rest) (whole ++ records) ↔ Records o rest records
@@ -54,8 +54,8 @@ ReadsCells o = (kinds : List ColType) (head : Bool) (at : ℕ) (text : List ℕ)
 
 -- a text that has rows by the grammar is read to its end
 abbrev pub ReadsAllCells : Options → Type 0
-ReadsAllCells o = (kinds : List ColType) (head : Bool) (at : ℕ) (text : List ℕ) (rows : List (List CsvCell)) (still : Bool) → HasRows o kinds head text rows still
-    → (let r = reading o kinds head at text in (r.refusal ≡ None) × (map (λ (row : ℕ × List CsvCell). row.1) r.rows ≡ rows) × (r.head ≡ still))
+ReadsAllCells o = (kinds : List ColType) (head : Bool) (at : ℕ) (text : List ℕ) (rows : List (List CsvCell)) (awaits_header : Bool) → HasRows o kinds head text rows awaits_header
+    → (let r = reading o kinds head at text in (r.refusal ≡ None) × (map (λ (row : ℕ × List CsvCell). row.1) r.rows ≡ rows) × (r.head ≡ awaits_header))
 
 -- each row has the place where its record begins
 abbrev pub PlacesRows : Options → Type 0
@@ -71,17 +71,17 @@ ReadsRows o = (kinds : List ColType) (used : List Bool) (head : Bool) (at : ℕ)
 
 -- a text that has rows by the grammar, with no bad cell in a used column, is read to its end
 abbrev pub ReadsAllRows : Options → Type 0
-ReadsAllRows o = (kinds : List ColType) (used : List Bool) (head : Bool) (at : ℕ) (text : List ℕ) (rows : List Row) (still : Bool)
-    → RowsOfGrammar o kinds used head at text rows still None
+ReadsAllRows o = (kinds : List ColType) (used : List Bool) (head : Bool) (at : ℕ) (text : List ℕ) (rows : List Row) (awaits_header : Bool)
+    → RowsOfGrammar o kinds used head at text rows awaits_header None
     → (let read = read_of used (reading o kinds head at text) in
-    (read.refusal ≡ None) × (map (λ (row : ℕ × Row). row.1) read.rows ≡ rows) × (read.head ≡ still))
+    (read.refusal ≡ None) × (map (λ (row : ℕ × Row). row.1) read.rows ≡ rows) × (read.head ≡ awaits_header))
 
 -- a text that ends within a quoted field is refused
 abbrev pub RefusesOpenQuotes : Options → Type 0
 RefusesOpenQuotes o = (kinds : List ColType) (used : List Bool) (head : Bool) (at : ℕ) (text : List ℕ) → EndsWithinQuotes o text
     → (refusal : Refusal) × ((read_of used (reading o kinds head at text)).refusal ≡ Some refusal)
 
--- a file is of the grammar exactly where no record behind its mark is refused
+-- a file is of the grammar exactly where no record after its mark is refused
 abbrev pub ReadsFiles : Options → Type 0
 ReadsFiles o = (kinds : List ColType) (bytes : List ℕ)
     → IsOfGrammar o kinds bytes ↔ ((reading o kinds o.has_header (mark_len bytes) (unmarked bytes)).refusal ≡ None)

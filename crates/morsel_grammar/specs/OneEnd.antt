@@ -7,6 +7,7 @@ use Rattle.morsel_grammar.specs.Reading.{Refusal}
 use Rattle.morsel_grammar.specs.Cells.{CsvCell}
 use Rattle.morsel_grammar.specs.GrammarRows.{RowsOfGrammar, HasRowAt}
 
+-- the place of the record that is refused, where one is
 abbrev pub place_in : Option Refusal → Option ℕ
 place_in None = None
 place_in (Some refusal) = Some refusal.at
@@ -14,11 +15,11 @@ place_in (Some refusal) = Some refusal.at
 -- a text has one list of rows, up to its end or up to a record that is refused, and that record has one place
 abbrev pub EndsOnce : Options → Type 0
 EndsOnce o = (kinds : List ColType) (used : List Bool) (head : Bool) (at : ℕ) (text : List ℕ)
-    (rows others : List Row) (still other : Bool) (refusal found : Option Refusal)
-    → RowsOfGrammar o kinds used head at text rows still refusal → RowsOfGrammar o kinds used head at text others other found
+    (rows others : List Row) (awaits_header other : Bool) (refusal found : Option Refusal)
+    → RowsOfGrammar o kinds used head at text rows awaits_header refusal → RowsOfGrammar o kinds used head at text others other found
     → (rows ≡ others) × (place_in refusal ≡ place_in found)
 
--- behind so many rows there begins a row at one place
+-- after so many rows, the next row begins at one place
 abbrev pub StandsOnce : Options → Type 0
 StandsOnce o = (kinds : List ColType) (head : Bool) (at : ℕ) (text : List ℕ) (before others : List (List CsvCell)) (place other : ℕ) (cells more : List CsvCell)
     → HasRowAt o kinds head at text before place cells → HasRowAt o kinds head at text others other more → length before ≡ length others → place ≡ other

@@ -27,12 +27,15 @@ pub record Reading : Type 0 where
   pub head : Bool
   pub refusal : Option Refusal
 
+-- no more rows, and no record is refused
 abbrev pub ends : Bool → Reading
 ends head = record { rows = []; head = head; refusal = None }
 
+-- no more rows: the record at this place is refused
 abbrev pub refuses : Bool → ℕ → Flaw → Reading
 refuses head at flaw = record { rows = []; head = head; refusal = Some (record { at = at; flaw = flaw }) }
 
+-- a row at a place, and then what is read later
 abbrev pub with_cells : ℕ → List CsvCell → Reading → Reading
 with_cells at cells later = record later { rows = (at, cells) ∷ later.rows }
 
@@ -54,14 +57,14 @@ abbrev pub split_then : Options → List ColType → Bool → ℕ → List ℕ �
 split_then o kinds head at text None later = refuses head at Malformed
 split_then o kinds head at text (Some split) later =
     let size = length text - length split.1 in
-    record_then o kinds head at (take size text) split.0 (λ still. later still (at + size) split.1)
+    record_then o kinds head at (take size text) split.0 (λ awaits_header. later awaits_header (at + size) split.1)
 
 -- at most `n` records of the text, which begins at a place
 abbrev pub reading_up_to : ℕ → Options → List ColType → Bool → ℕ → List ℕ → Reading
 reading_up_to n o kinds head at [] = ends head
 reading_up_to zero o kinds head at (b ∷ bs) = ends head
 reading_up_to (suc n) o kinds head at (b ∷ bs) =
-    split_then o kinds head at (b ∷ bs) (record_at o (b ∷ bs)) (λ still next rest. reading_up_to n o kinds still next rest)
+    split_then o kinds head at (b ∷ bs) (record_at o (b ∷ bs)) (λ awaits_header next rest. reading_up_to n o kinds awaits_header next rest)
 
 -- a text is read record by record, each of at least one byte; `head` says that the header is still to come
 abbrev pub reading : Options → List ColType → Bool → ℕ → List ℕ → Reading
@@ -85,10 +88,12 @@ pub record Read : Type 0 where
   pub head : Bool
   pub refusal : Option Refusal
 
+-- the row at a place, and then what is read later; without a row, the record at the place is refused
 abbrev pub value_then : Bool → ℕ → Option Row → Read → Read
 value_then head at None later = record { rows = []; head = head; refusal = Some (record { at = at; flaw = IllTyped }) }
 value_then head at (Some row) later = record later { rows = (at, row) ∷ later.rows }
 
+-- rows of cells, as rows of the values in the used columns, up to the first that has a bad cell there
 abbrev pub used_rows : List Bool → Bool → List (ℕ × List CsvCell) → Option Refusal → Read
 used_rows used head [] refusal = record { rows = []; head = head; refusal = refusal }
 used_rows used head (row ∷ rows) refusal = value_then head row.0 (used_values used row.1) (used_rows used head rows refusal)

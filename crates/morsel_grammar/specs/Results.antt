@@ -13,11 +13,12 @@ flaw_fault file at Malformed = faults.Malformed file at
 flaw_fault file at NotUtf8 = faults.ComputeError kinds.NotUtf8 file at
 flaw_fault file at IllTyped = faults.ComputeError kinds.IllTyped file at
 
+-- the fault of the record that is refused, where one is
 abbrev pub refusal_fault : ℕ → Option Refusal → Option Fault
 refusal_fault file None = None
 refusal_fault file (Some refusal) = Some (flaw_fault file refusal.at refusal.flaw)
 
--- the fault that refuses a record, or at any time want of memory
+-- the fault that refuses a record, or at any time out of memory
 abbrev pub IsRefused : ℕ → Option Refusal → Fault → Type 0
 IsRefused file refusal faults.OutOfMemory = Unit {0}
 IsRefused file refusal fault = refusal_fault file refusal ≡ Some fault

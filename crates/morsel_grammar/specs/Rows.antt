@@ -23,12 +23,13 @@ abbrev pub cells_of : Options → List ColType → List CsvField → Option (Lis
 cells_of o [] [] = Some []
 cells_of o [] (f ∷ fields) = None
 cells_of o (kind ∷ kinds) [] = None
-cells_of o (kind ∷ kinds) (f ∷ fields) = with_cell (cell_of o kind f) (cells_of o kinds fields)
+cells_of o (kind ∷ kinds) (f ∷ fields) = cell_first (cell_of o kind f) (cells_of o kinds fields)
   where
-    with_cell : CsvCell → Option (List CsvCell) → Option (List CsvCell)
-    with_cell cell None = None
-    with_cell cell (Some cells) = Some (cell ∷ cells)
+    cell_first : CsvCell → Option (List CsvCell) → Option (List CsvCell)
+    cell_first cell None = None
+    cell_first cell (Some cells) = Some (cell ∷ cells)
 
+-- the row of these cells, where there are as many fields as columns
 abbrev pub row_or_misfit : Option (List CsvCell) → RowOf
 row_or_misfit None = Misfit
 row_or_misfit (Some cells) = IsRow cells
@@ -38,6 +39,7 @@ abbrev pub row_of_nothing : List ColType → RowOf
 row_of_nothing (kind ∷ []) = IsRow (Good values.Null ∷ [])
 row_of_nothing kinds = NoRow
 
+-- a comment is no row; fields are a row where there are as many as columns
 abbrev pub row_of : Options → List ColType → CsvRecord → RowOf
 row_of o kinds (Comment body) = NoRow
 row_of o kinds (Fields fields) = if is_empty fields then row_of_nothing kinds else row_or_misfit (cells_of o kinds fields)
@@ -47,12 +49,13 @@ abbrev pub is_header : CsvRecord → Bool
 is_header (Comment body) = false
 is_header (Fields fields) = not (is_empty fields)
 
--- the records behind the header, where it is still to come
+-- the records after the header, where it is still to come
 abbrev pub behind_header : Bool → List CsvRecord → List CsvRecord
 behind_header false records = records
 behind_header true [] = []
 behind_header true (r ∷ records) = if is_header r then records else behind_header true records
 
+-- the row of a record, where it has one, and then the rows of those that follow
 abbrev pub with_first_row : RowOf → Option (List (List CsvCell)) → Option (List (List CsvCell))
 with_first_row NoRow rows = rows
 with_first_row (IsRow cells) None = None
@@ -64,15 +67,16 @@ abbrev pub rows_of_records : Options → List ColType → List CsvRecord → Opt
 rows_of_records o kinds [] = Some []
 rows_of_records o kinds (r ∷ records) = with_first_row (row_of o kinds r) (rows_of_records o kinds records)
 
--- behind the byte order mark
+-- how many bytes the byte order mark takes, where the text begins with it
 abbrev pub mark_len : List ℕ → ℕ
 mark_len (a ∷ b ∷ c ∷ bytes) = if a == 239 && (b == 187 && c == 191) then 3 else 0
 mark_len bytes = 0
 
+-- the text after its byte order mark
 abbrev pub unmarked : List ℕ → List ℕ
 unmarked bytes = drop (mark_len bytes) bytes
 
--- the rows of a whole text behind its mark
+-- the rows of a whole text after its mark
 abbrev pub CsvRows : Options → List ColType → List ℕ → List (List CsvCell) → Type 0
 CsvRows o kinds text rows = (records : List CsvRecord) × Records o text records
     × (rows_of_records o kinds (behind_header o.has_header records) ≡ Some rows)

@@ -47,7 +47,7 @@ pub fn what_follows_changes_no_record()
     ensures { (o : Options) → AreOptions o → StandsWhateverFollows o }
 {}
 
-/// Behind whole records a text is split as if they were not there.
+/// After whole records a text is split as if they were not there.
 #[tactic(auto, using(crate::proofs::WholeRecordLemmas::splits_behind_whole))]
 pub fn a_text_is_split_behind_whole_records()
     ensures { (o : Options) → AreOptions o → SplitsBehindWhole o }
@@ -87,13 +87,13 @@ pub fn open_quotes_are_refused()
     ensures { (o : Options) → AreOptions o → RefusesOpenQuotes o }
 {}
 
-/// A file is of the grammar exactly where no record behind its mark is refused.
+/// A file is of the grammar exactly where no record after its mark is refused.
 #[tactic(auto, using(crate::proofs::FileLemmas::reads_files))]
 pub fn a_file_of_the_grammar_is_one_that_is_read()
     ensures { (o : Options) → AreOptions o → ReadsFiles o }
 {}
 
-/// A text that is cut behind whole records is read piece by piece.
+/// A text that is cut after whole records is read piece by piece.
 #[tactic(auto, using(crate::proofs::JoinedLemmas::reads_pieces))]
 pub fn a_text_is_read_piece_by_piece()
     ensures { (o : Options) → AreOptions o → ReadsPieces o }
@@ -105,12 +105,12 @@ pub fn readers_answer_by_the_grammar()
     ensures { (o : Options) → AreOptions o → AnswersByGrammar o }
 {}
 
-/// A reader of a text to which the grammar gives rows answers these, unless memory is out.
+/// A reader of a text to which the grammar gives rows answers these, unless it runs out of memory.
 pub fn readers_answer_all_rows()
     ensures { (o : Options) → AreOptions o → AnswersAllRows o }
 {}
 
-/// The used columns of a text that is cut behind whole records are read piece by piece.
+/// The used columns of a text that is cut after whole records are read piece by piece.
 #[tactic(auto, using(crate::proofs::PieceRowLemmas::reads_rows_of_pieces))]
 pub fn used_columns_are_read_piece_by_piece()
     ensures { (o : Options) → AreOptions o → ReadsRowsOfPieces o }
@@ -121,7 +121,7 @@ pub fn a_text_ends_at_one_place()
     ensures { (o : Options) → AreOptions o → EndsOnce o }
 {}
 
-/// Behind so many rows there begins a row at one place.
+/// After so many rows, the next row begins at one place.
 pub fn so_many_rows_end_at_one_place()
     ensures { (o : Options) → AreOptions o → StandsOnce o }
 {}

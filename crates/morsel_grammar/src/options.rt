@@ -72,7 +72,7 @@ impl CsvOptions {
         self.separator
     }
 
-    /// The byte round a quoted field, where there is one.
+    /// The byte around a quoted field, where there is one.
     #[inline(always)]
     pub fn quote(&self) -> Option<u8>
         ensures { result ≡ self.now.quote }
@@ -80,7 +80,7 @@ impl CsvOptions {
         self.quote
     }
 
-    /// The byte behind a record.
+    /// The byte that ends a record.
     #[inline(always)]
     pub fn eol(&self) -> u8
         ensures { result ≡ self.now.eol }

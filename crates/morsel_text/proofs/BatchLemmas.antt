@@ -18,7 +18,7 @@ use Rattle.morsel_text.specs.RawFields.{shown}
 use Rattle.morsel_text.specs.Pushes.{AreTexts, column_kinds, with_row}
 use Rattle.morsel_text.specs.Steps.{left}
 use Rattle.morsel_text.specs.Batches.{spread, spread_all, SplitsRows, AreTextColumns, IsColumnOf, AreMade, appended}
-use Rattle.morsel_text.specs.declared.split.RawField.{RawField}
+use Rattle.morsel_text.specs.declared.raw_field.RawField.{RawField}
 use Rattle.morsel_grammar.proofs.RecordLemmas.{IsFound, record_at-read}
 use Rattle.morsel_grammar.proofs.FirstRecordLemmas.{record_taken, bytes_taken, utf8_parts}
 use Rattle.morsel_text.proofs.StepLemmas.{ReadSo, read_more, row_steps, row_read, length-with_row}
@@ -65,7 +65,7 @@ pub no_texts : (width : ℕ) → AreTextColumns (replicate width [])
 no_texts zero = tt
 no_texts (suc width) = (tt, no_texts width)
 
--- what stands behind a record, where the text is UTF-8
+-- what follows a record, where the text is UTF-8
 pub text_behind : (o : Options) (text behind : List ℕ) (r : CsvRecord) → AreOptions o → text ≢ [] → record_at o text ≡ Some (r, behind) → IsUtf8 text
     → (is_utf8 (take (length text - length behind) text) ≡ true) × IsUtf8 behind × (length behind < length text)
 text_behind o text behind r fit some found utf8 =
@@ -135,7 +135,7 @@ columns_spread width rows =
 
 -- ---- the first row of columns that were made
 
--- the values and cells of a row of fields, and the columns behind it
+-- the values and cells of a row of fields, and the columns after it
 pub record FirstRow (o : Options) (used : List Bool) (columns : List Values) (fields : List RawField) (batch : List (List RawField)) (made : List Values) : Type 0 where
   pub cells : List CsvCell
   pub row : Row

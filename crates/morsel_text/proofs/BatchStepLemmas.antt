@@ -14,7 +14,7 @@ use Rattle.morsel_grammar.specs.Split.{record_at}
 use Rattle.morsel_text.specs.RawFields.{shown}
 use Rattle.morsel_text.specs.Pushes.{AreTexts, column_kinds, with_cell}
 use Rattle.morsel_text.specs.Batches.{spread, spread_all, SplitsBatch, AreTextColumns, IsColumnOf, AreMade, appended}
-use Rattle.morsel_text.specs.declared.split.RawField.{RawField}
+use Rattle.morsel_text.specs.declared.raw_field.RawField.{RawField}
 use Rattle.morsel_text.proofs.BatchLemmas.{splits_more, spread_more, length-spread}
 
 -- a record more is split off

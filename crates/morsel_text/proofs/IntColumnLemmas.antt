@@ -10,7 +10,7 @@ use Rattle.morsel_grammar.specs.Options.{Options}
 use Rattle.morsel_grammar.specs.Cells.{CsvCell, Good, cell_of}
 use Rattle.morsel_text.specs.RawFields.{shown}
 use Rattle.morsel_text.specs.Batches.{IsColumnOf}
-use Rattle.morsel_text.specs.declared.split.RawField.{RawField}
+use Rattle.morsel_text.specs.declared.raw_field.RawField.{RawField}
 
 masked_more : (valid : List Bool) (vs : List Value) (b : Bool) (v : Value) → length valid ≡ length vs → masked (valid ++ b ∷ []) (vs ++ v ∷ []) ≡ masked valid vs ++ (if b then v else values.Null) ∷ []
 masked_more [] [] b v same = refl

@@ -9,7 +9,7 @@ use Rattle.morsel_grammar.specs.Split.{stops, plain_at}
 use Rattle.morsel_text.specs.RawFields.{PassedTo, IsRun}
 use Rattle.morsel_text.proofs.SplitLemmas.{plain_stop}
 
--- how many of 16 bytes from a place stand before the first that is this one
+-- how many of 16 bytes from a place come before the first that is this one
 abbrev pub Counts : ℕ → List ℕ → ℕ → ℕ → Type 0
 Counts byte text at r = r ≡ prefix_len (λ x. not (x == byte)) (chunk at 16 text)
 

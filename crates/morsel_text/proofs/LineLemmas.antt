@@ -51,14 +51,14 @@ first_marked test text n bits marked fits below within = by (cases_eq bits 0)
     by (inl none) = absurd (omega (arith, ap (trailing_zeros w64) none, trailing_of_zero 64))
     by (inr some) = from_one _ (sym (marked _ below) ∙ (bit_at-trailing_zeros w64 bits (omega arith) fits).1)
 
--- the marks of what stands behind a byte
+-- the marks of what follows a byte
 pub marks_behind : (test : ℕ → Bool) (text : List ℕ) (n bits s : ℕ) → Marks test text n bits → s ≤ n → Marks test (drop s text) (n - s) (bits / 2 ^ s)
 marks_behind test text n bits s marked within = λ k below.
     ap (λ (m : ℕ). m % 2) (shr-shr bits s k)
     ∙ marked (s + k) (omega arith)
     ∙ ap (λ (x : ℕ). let r : ℕ = if test x then 1 else 0 in r) (sym (get_or-drop s text k 0))
 
--- a line without quotes ends at the first mark of an eol, where the first mark of a quote stands behind it
+-- a line without quotes ends at the first mark of an eol, where the first mark of a quote comes after it
 pub line_found : (o : Options) (text : List ℕ) (eols quotes : ℕ) → 64 ≤ length text → Marks (λ b. b == o.eol) text 64 eols → Marks (is_quote o.quote) text 64 quotes
     → eols < 2 ^ 64 → quotes < 2 ^ 64 → trailing_zeros w64 eols < trailing_zeros w64 quotes → IsPlainLine o text (trailing_zeros w64 eols)
 line_found o text eols quotes room ends quoted fit_ends fit_quotes before =
@@ -70,7 +70,7 @@ line_found o text eols quotes room ends quoted fit_ends fit_quotes before =
       unquoted = λ k below. none_marked (is_quote o.quote) text 64 quotes quoted fit_quotes k (omega arith) (omega arith);
     }
 
--- what stands behind a byte of a line is a line
+-- what follows a byte of a line is a line
 pub line_behind : (o : Options) (text : List ℕ) (len s : ℕ) → IsPlainLine o text len → s ≤ len → IsPlainLine o (drop s text) (len - s)
 line_behind o text len s line within = record {
   within = omega (arith, length-drop s text, line.within);

@@ -53,7 +53,7 @@ skip_row n o ks head at text rest r found some is utf8 behind kind =
     ap (λ h. reading_up_to (suc n) o ks h at text) behind ∙ row_reading n o ks at text rest r some is utf8
     ∙ ap (λ k. row_then false at k (reading_up_to n o ks false (at + (length text - length rest)) rest)) kind
 
--- where a row stands among what is read from here on
+-- where a row is among what is read from here on
 pub place_next : (total : Option ℕ) (row : ℕ) (before later : Reading) (at : ℕ) (cells : List CsvCell) → before ≡ with_cells at cells later → row_place before.rows (suc row) ≡ total
     → row_place later.rows row ≡ total
 place_next total row before later at cells is so_far = sym (ap (λ (r : Reading). row_place r.rows (suc row)) is) ∙ so_far

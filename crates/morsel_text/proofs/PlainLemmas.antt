@@ -1,5 +1,5 @@
 -- The plain reader: its fields and rows, and how columns gain them.
-use Rattle.std.proofs.Common.{◌≡◌, ℕ, zero, suc, ◌+◌, ◌-◌, ◌<◌, ◌≤◌, ◌∙◌, sym, ap, refl, arith, subst, Bool, true, false, List, [], ◌∷◌, ◌++◌, length, take, drop, set, get_or, map, replicate, append_assoc, add-one}
+use Rattle.std.proofs.Common.{◌≡◌, ℕ, zero, suc, ◌+◌, ◌<◌, ◌≤◌, ◌∙◌, sym, ap, refl, arith, subst, Bool, true, false, List, [], ◌∷◌, ◌++◌, length, take, drop, set, get_or, map, replicate, append_assoc, add-one}
 use Rattle.std.proofs.lemmas.List.{drop_more, drop_all, take_more_set, drop-set-lt, append-nil, length-replicate, length-map}
 use Rattle.std.specs.Prelude.{Option, Some, None, if◌then◌else◌}
 use Rattle.std.specs.List.{slice_get}
@@ -16,14 +16,13 @@ use Rattle.morsel_grammar.specs.Options.{Options}
 use Rattle.morsel_grammar.specs.Grammar.{CsvField, CsvRecord, Fields}
 use Rattle.morsel_grammar.specs.Cells.{CsvCell, Good, Bad, int_value, bool_value, int_of, bool_of, value_written, cell_or_bad, cell_of}
 use Rattle.morsel_grammar.specs.Rows.{NoRow, IsRow, is_empty, cells_of, row_or_misfit, row_of_nothing, row_of}
-use Rattle.morsel_grammar.specs.Split.{with_field, fields_then, fields_up_to, field_at, record_at}
+use Rattle.morsel_grammar.specs.Split.{record_at}
 use Rattle.morsel_grammar.specs.Reading.{Read, ends, read_of, used_values, chosen}
 use Rattle.morsel_grammar.specs.Results.{IsRefused}
 use Rattle.morsel_text.specs.Pushes.{column_kinds, with_row}
 use Rattle.morsel_text.specs.Steps as steps
 use Rattle.morsel_text.specs.Steps.{left, row_first, AreHigh, empty_columns}
-use Rattle.morsel_text.specs.Plain.{cells_with, with_values, with_front, next_of, GivesRow, Gains}
-use Rattle.morsel_text.specs.declared.plain.records.PlainNext.{PlainNext}
+use Rattle.morsel_text.specs.Plain.{cells_with, with_values, GivesRow, GainsValues}
 use Rattle.morsel_text.specs.declared.plain.rows.PlainRow.{PlainRow}
 use Rattle.morsel_text.proofs.StepLemmas.{ReadSo, read_more, read_start, read_refused}
 
@@ -32,22 +31,6 @@ pub plain_record : (o : Options) (text rest : List ℕ) (fields slice : List Csv
     → record_at o text ≡ Some (Fields slice, rest)
 plain_record o text rest fields slice same is =
     is ∙ ap (λ (fs : List CsvField). let p : CsvRecord × List ℕ = (Fields fs, rest) in Some p) (sym same)
-
--- fields in front of a field and what follows it
-pub with_front-field : (front : List CsvField) (f : CsvField) (found : Option (List CsvField × List ℕ))
-    → with_front front (with_field f found) ≡ with_front (front ++ f ∷ []) found
-with_front-field front f None = refl
-with_front-field front f (Some found) = rw append_assoc
-
-pub fields_next : (o : Options) (front : List CsvField) (n i : ℕ) (rest : List ℕ) (f : CsvField) (after : List ℕ) (r : PlainNext) → i < n
-    → field_at o rest ≡ Some (f, after)
-    → ((g : CsvField) (more : List ℕ → Option (List CsvField × List ℕ)) → fields_then o (Some (g, after)) more ≡ next_of o g more r)
-    → with_front front (fields_up_to (n - i) o rest) ≡ with_front front (next_of o f (λ r. fields_up_to (n - (i + 1)) o r) r)
-fields_next o front n i rest f after r more is follows =
-    let one : n - i ≡ suc (n - (i + 1)) = omega arith in
-    ap (λ k. with_front front (fields_up_to k o rest)) one
-    ∙ ap (λ found. with_front front (fields_then o found (λ r. fields_up_to (n - (i + 1)) o r))) is
-    ∙ ap (with_front front) (follows f (λ r. fields_up_to (n - (i + 1)) o r))
 
 -- a value that a text says is of the type
 value_typed : (kind : ColType) (text : List ℕ) (v : Value) → value_written kind text ≡ Some v → IsOfType kind v
@@ -156,7 +139,7 @@ cells_from o (kind ∷ kinds) [] i k f in_kinds in_fields = absurd (omega arith)
 cells_from o (kind ∷ kinds) (g ∷ fields) zero k f in_kinds in_fields = refl
 cells_from o (kind ∷ kinds) (g ∷ fields) (suc i) k f in_kinds in_fields = cells_from o kinds fields i k f (omega arith) (omega arith)
 
--- the cell at a place, and those behind it
+-- the cell at a place, and those after it
 pub cells_at : (o : Options) (kinds : List ColType) (fields : List CsvField) (i : ℕ) (k : ColType) (f : CsvField) → i < length kinds → i < length fields
     → drop i (cells_with o kinds fields) ≡ cell_of o (get_or kinds i k) (get_or fields i f) ∷ drop (i + 1) (cells_with o kinds fields)
 cells_at o kinds fields i k f in_kinds in_fields =
@@ -298,7 +281,7 @@ with_row-trues (column ∷ columns) [] = refl
 with_row-trues (column ∷ columns) (v ∷ row) =
     let new : Values = record column { values = column.values ++ v ∷ [] } in ap (λ cs. new ∷ cs) (with_row-trues columns row)
 
-gains_all : (old : List Values) (row : Option Row) (rows : ℕ) (new : List Values) → Gains old row rows new → steps.Gains (replicate (length old) true) old row rows new
+gains_all : (old : List Values) (row : Option Row) (rows : ℕ) (new : List Values) → GainsValues old row rows new → steps.GainsRow (replicate (length old) true) old row rows new
 gains_all old None rows new gains = gains
 gains_all old (Some row) rows new (one, width, is) = (one, width ∙ sym (ap length (chosen-trues old)), is ∙ sym (with_row-trues old row))
 
@@ -307,19 +290,19 @@ abbrev pub PlainSo : Read → ℕ → List ColType → ℕ → List Values → R
 PlainSo total width kinds height columns later = ReadSo total (replicate width true) kinds height columns later
 
 pub plain_more : (total : Read) (width : ℕ) (kinds : List ColType) (height rows at : ℕ) (columns new : List Values) (before later : Read) (row : Option Row)
-    → PlainSo total width kinds height columns before → Gains columns row rows new → before ≡ row_first at row later → PlainSo total width kinds (height + rows) new later
+    → PlainSo total width kinds height columns before → GainsValues columns row rows new → before ≡ row_first at row later → PlainSo total width kinds (height + rows) new later
 plain_more total width kinds height rows at columns new before later row so_far gains is =
     let same : length columns ≡ width = sym so_far.width ∙ length-replicate width true in
-    let P : ℕ → Type 0 = λ n. steps.Gains (replicate n true) columns row rows new in
+    let P : ℕ → Type 0 = λ n. steps.GainsRow (replicate n true) columns row rows new in
     read_more total before later (replicate width true) kinds height rows at columns new row so_far (subst P same (gains_all columns row rows new gains)) is
 
 -- a step of reading, from the step of one record
-pub plain_step : (total : Read) (width : ℕ) (kinds ks : List ColType) (o : Options) (used : List Bool) (n k height rows at next : ℕ) (head still : Bool) (rest after : List ℕ)
-    (columns new : List Values) (row : Option Row) → k ≡ suc n → PlainSo total width kinds height columns (left k o ks used head at rest) → Gains columns row rows new
-    → ((m : ℕ) → left (suc m) o ks used head at rest ≡ row_first at row (left m o ks used still next after))
-    → PlainSo total width kinds (height + rows) new (left n o ks used still next after)
-plain_step total width kinds ks o used n k height rows at next head still rest after columns new row one_more so_far gains step =
-    plain_more total width kinds height rows at columns new (left k o ks used head at rest) (left n o ks used still next after) row so_far gains
+pub plain_step : (total : Read) (width : ℕ) (kinds ks : List ColType) (o : Options) (used : List Bool) (n k height rows at next : ℕ) (head awaits_header : Bool) (rest after : List ℕ)
+    (columns new : List Values) (row : Option Row) → k ≡ suc n → PlainSo total width kinds height columns (left k o ks used head at rest) → GainsValues columns row rows new
+    → ((m : ℕ) → left (suc m) o ks used head at rest ≡ row_first at row (left m o ks used awaits_header next after))
+    → PlainSo total width kinds (height + rows) new (left n o ks used awaits_header next after)
+plain_step total width kinds ks o used n k height rows at next head awaits_header rest after columns new row one_more so_far gains step =
+    plain_more total width kinds height rows at columns new (left k o ks used head at rest) (left n o ks used awaits_header next after) row so_far gains
     (ap (λ m. left m o ks used head at rest) one_more ∙ step n)
 
 pub plain_refused : (file : ℕ) (total : Read) (width : ℕ) (kinds ks : List ColType) (o : Options) (used : List Bool) (n k height at : ℕ) (head : Bool) (rest : List ℕ)
@@ -335,7 +318,7 @@ pub plain_start : (total : Read) (columns : List Values) → AreHigh 0 columns �
 plain_start total columns high =
     read_start total (replicate (length columns) true) columns (subst (AreHigh 0) (sym (chosen-trues columns)) high) (length-replicate (length columns) true)
 
--- behind the last
+-- after the last
 pub left_nil : (n : ℕ) (o : Options) (ks : List ColType) (used : List Bool) (head : Bool) (at : ℕ) (text : List ℕ) → length text ≡ 0 → left n o ks used head at text ≡ read_of used (ends head)
 left_nil zero o ks used head at [] none = refl
 left_nil (suc n) o ks used head at [] none = refl
@@ -360,7 +343,7 @@ plain_end total width kinds used height columns head later so_far is =
       so_far.kinds,
     )
 
-pub gains_one : (old new : List Values) (row : Option Row) (rows : ℕ) → Gains old row rows new → rows ≤ 1
+pub gains_one : (old new : List Values) (row : Option Row) (rows : ℕ) → GainsValues old row rows new → rows ≤ 1
 gains_one old new None rows gains = omega (arith, gains.0)
 gains_one old new (Some row) rows gains = omega (arith, gains.0)
 

@@ -15,7 +15,7 @@ use Rattle.morsel_grammar.specs.Reading.{used_values, chosen}
 use Rattle.morsel_text.specs.declared.rows.RowPushed.{RowPushed}
 use Rattle.morsel_text.specs.declared.rows.RowPushed.TheVariants as rows
 use Rattle.morsel_text.specs.RawFields.{shown}
-use Rattle.morsel_text.specs.declared.split.RawField.{RawField}
+use Rattle.morsel_text.specs.declared.raw_field.RawField.{RawField}
 use Rattle.morsel_text.specs.Pushes.{with_cell, in_front, with_fields, AreTexts, column_kinds, with_row, PushesRow}
 
 -- columns in front of those that are found
@@ -27,7 +27,7 @@ fronted-in_front : (front : List Values) (column : Values) (found : Option (List
 fronted-in_front front column None = refl
 fronted-in_front front column (Some columns) = rw append_assoc
 
--- the first i fields stand in their columns, and the columns behind them are as they were
+-- the first i fields are in their columns, and the columns after them are as they were
 abbrev pub fields_from : Options → List Bool → List Values → List CsvField → ℕ → Option (List Values)
 fields_from o used columns fields i = fronted (take i columns) (with_fields o (drop i used) (drop i columns) (drop i fields))
 
@@ -201,7 +201,7 @@ null_unused (false ∷ v ∷ used) (c ∷ columns) one same is_u = absurd (omega
 null_unused (false ∷ []) (c ∷ d ∷ columns) one same is_u = absurd (omega arith)
 null_unused (false ∷ []) (c ∷ []) one same is_u = (Good values.Null ∷ [], [], refl, refl, refl, refl)
 
--- the same of fields as they stand in the text
+-- the same of fields as they are written in the text
 field_shown : (fields : List RawField) (i : ℕ) (d : RawField) → i < length fields → get_or (map shown fields) i (shown (get_or fields i d)) ≡ shown (get_or fields i d)
 field_shown fields i d within = get_or-map shown fields i d (shown (get_or fields i d)) within
 

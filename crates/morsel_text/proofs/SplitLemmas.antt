@@ -6,10 +6,10 @@ use Rattle.std.proofs.lemmas.List.{map_push}
 use Rattle.std.specs.Prelude.{Option, Some, None}
 use Rattle.morsel_grammar.specs.Options.{Options}
 use Rattle.morsel_grammar.specs.Grammar.{CsvField, CsvRecord, Comment}
-use Rattle.morsel_grammar.specs.Split.{stops, plain_at, with_byte, quoted_at, field_at, last_field, without_return, line_at, behind_front, with_field, fields_then, fields_up_to, comment_body, record_then_fields, record_at, begins}
+use Rattle.morsel_grammar.specs.Split.{stops, plain_at, with_byte, quoted_at, field_at, without_return, line_at, behind_front, with_field, fields_then, fields_up_to, comment_body, record_then_fields, record_at, begins}
 use Rattle.morsel_text.specs.RawFields.{PassedTo, shown, next_of, with_front}
-use Rattle.morsel_text.specs.declared.split.RawField.{RawField}
-use Rattle.morsel_text.specs.declared.split.Next.{Next}
+use Rattle.morsel_text.specs.declared.raw_field.RawField.{RawField}
+use Rattle.morsel_text.specs.declared.parts.Next.{Next}
 
 plain_first : (o : Options) (b : ℕ) (bs : List ℕ) → stops o b ≡ false → plain_at o (b ∷ bs) ≡ (b ∷ (plain_at o bs).0, (plain_at o bs).1)
 plain_first o b bs goes = rw goes
@@ -28,14 +28,14 @@ plain_stop o (b ∷ bs) (suc n) within passed ends =
     plain_first o b bs (passed 0 (omega arith))
     ∙ ap (λ (found : List ℕ × List ℕ). let r : List ℕ × List ℕ = (b ∷ found.0, found.1) in r) (plain_stop o bs n (omega arith) (passed_behind o b bs n passed) ends)
 
--- or with the text
+-- or at the end of the text
 pub plain_all : (o : Options) (text : List ℕ) → PassedTo o text (length text) → plain_at o text ≡ (take (length text) text, drop (length text) text)
 plain_all o [] passed = refl
 plain_all o (b ∷ bs) passed =
     plain_first o b bs (passed 0 (omega arith))
     ∙ ap (λ (found : List ℕ × List ℕ). let r : List ℕ × List ℕ = (b ∷ found.0, found.1) in r) (plain_all o bs (passed_behind o b bs (length bs) passed))
 
--- behind an opening quote
+-- after an opening quote
 pub quoted_other : (q b : ℕ) (bs : List ℕ) → (b == q) ≡ false → quoted_at q (b ∷ bs) ≡ with_byte b (quoted_at q bs)
 quoted_other q b [] other = rw other
 quoted_other q b (c ∷ bs) other = rw other
@@ -123,15 +123,6 @@ pub line_lone : (eol : ℕ) (text : List ℕ) (at next : ℕ) (rest : List ℕ) 
 line_lone eol text at next rest one_more rest_is within none is =
     rest_is ∙ ap (λ n. drop n text) one_more ∙ sym (line_first eol text at within none is)
 
--- the last field of a record
-pub last_field-keeps : (o : Options) (text : List ℕ) (i : ℕ) → o.eol ≡ 10 → length text ≡ suc i → get_or text i 0 ≢ 13
-    → (let f : CsvField = record { quoted = false; bytes = text } in f ≡ last_field o f)
-last_field-keeps o text i eol size other = rw (eq-eqb o.eol 10 eol, without_return-keeps text i size other) refl
-
-pub last_field-drops : (o : Options) (text : List ℕ) (i : ℕ) → o.eol ≡ 10 → length text ≡ suc i → get_or text i 0 ≡ 13
-    → (let f : CsvField = record { quoted = false; bytes = text } in let g : CsvField = record { quoted = false; bytes = take i text } in g ≡ last_field o f)
-last_field-drops o text i eol size is = rw (eq-eqb o.eol 10 eol, without_return-drops text i size is) refl
-
 -- the fields so far, and then those of what is left, are the fields of the text
 pub with_front-field : (front : List CsvField) (f : CsvField) (found : Option (List CsvField × List ℕ))
     → with_front front (with_field f found) ≡ with_front (front ++ f ∷ []) found
@@ -162,7 +153,7 @@ comment_found o text prefix body rest eol asked begins eol_is rest_is =
           (ap (λ e. (line_at e body).1) (sym eol_is) ∙ sym rest_is),
     )
 
--- content in front of what is found behind it
+-- content before the content that is found after it
 abbrev pub with_content : List ℕ → Option (List ℕ × List ℕ) → Option (List ℕ × List ℕ)
 with_content front None = None
 with_content front (Some found) = Some (front ++ found.0, found.1)

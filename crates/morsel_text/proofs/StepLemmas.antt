@@ -18,9 +18,9 @@ use Rattle.morsel_grammar.specs.Split.{record_at}
 use Rattle.morsel_grammar.specs.Reading.{Reading, Read, Refusal, NotUtf8, refuses, row_then, record_then, split_then, reading_up_to, read_of, used_values, chosen}
 use Rattle.morsel_grammar.specs.Results.{IsRefused}
 use Rattle.morsel_text.specs.RawFields.{shown}
-use Rattle.morsel_text.specs.declared.split.RawField.{RawField}
+use Rattle.morsel_text.specs.declared.raw_field.RawField.{RawField}
 use Rattle.morsel_text.specs.Pushes.{column_kinds, with_row}
-use Rattle.morsel_text.specs.Steps.{left, row_first, Gains, AreHigh, empty_columns}
+use Rattle.morsel_text.specs.Steps.{left, row_first, GainsRow, AreHigh, empty_columns}
 
 -- a record's row
 pub row_read : (used : List Bool) (at : ℕ) (found : RowOf) (cells : List CsvCell) (row : Row) → found ≡ IsRow cells → used_values used cells ≡ Some row
@@ -29,17 +29,17 @@ row_read used at found cells row is values = λ later. rw (is, values)
 
 -- the first record of what is left
 pub left_some : (n : ℕ) (o : Options) (ks : List ColType) (head : Bool) (at : ℕ) (text : List ℕ) → 0 < length text
-    → reading_up_to (suc n) o ks head at text ≡ split_then o ks head at text (record_at o text) (λ still next rest. reading_up_to n o ks still next rest)
+    → reading_up_to (suc n) o ks head at text ≡ split_then o ks head at text (record_at o text) (λ awaits_header next rest. reading_up_to n o ks awaits_header next rest)
 left_some n o ks head at [] some = absurd (omega arith)
 left_some n o ks head at (b ∷ bs) some = refl
 
 pub left_record : (n : ℕ) (o : Options) (ks : List ColType) (head : Bool) (at : ℕ) (text rest : List ℕ) (r : CsvRecord) → 0 < length text → record_at o text ≡ Some (r, rest)
     → reading_up_to (suc n) o ks head at text
-    ≡ record_then o ks head at (take (length text - length rest) text) r (λ still. reading_up_to n o ks still (at + (length text - length rest)) rest)
+    ≡ record_then o ks head at (take (length text - length rest) text) r (λ awaits_header. reading_up_to n o ks awaits_header (at + (length text - length rest)) rest)
 left_record n o ks head at text rest r some is =
-    left_some n o ks head at text some ∙ ap (λ found. split_then o ks head at text found (λ still next rest. reading_up_to n o ks still next rest)) is
+    left_some n o ks head at text some ∙ ap (λ found. split_then o ks head at text found (λ awaits_header next rest. reading_up_to n o ks awaits_header next rest)) is
 
--- a header, or what stands before it
+-- a header, or what comes before it
 pub head_reading : (n : ℕ) (o : Options) (ks : List ColType) (at : ℕ) (text rest : List ℕ) (r : CsvRecord) → 0 < length text → record_at o text ≡ Some (r, rest)
     → is_utf8 (take (length text - length rest) text) ≡ true
     → reading_up_to (suc n) o ks true at text ≡ reading_up_to n o ks (not (is_header r)) (at + (length text - length rest)) rest
@@ -47,7 +47,7 @@ head_reading n o ks at text rest r some is utf8 =
     left_record n o ks true at text rest r some is
     ∙ ap (λ t. if t then reading_up_to n o ks (not (is_header r)) (at + (length text - length rest)) rest else refuses true at NotUtf8) utf8
 
--- a record behind the header
+-- a record after the header
 pub row_reading : (n : ℕ) (o : Options) (ks : List ColType) (at : ℕ) (text rest : List ℕ) (r : CsvRecord) → 0 < length text → record_at o text ≡ Some (r, rest)
     → is_utf8 (take (length text - length rest) text) ≡ true
     → reading_up_to (suc n) o ks false at text ≡ row_then false at (row_of o ks r) (reading_up_to n o ks false (at + (length text - length rest)) rest)
@@ -159,7 +159,7 @@ follows_row total before later rows at row so_far is = record {
 }
 
 pub read_more : (total before later : Read) (used : List Bool) (ks : List ColType) (height rows at : ℕ) (columns new : List Values) (row : Option Row)
-    → ReadSo total used ks height columns before → Gains used columns row rows new → before ≡ row_first at row later → ReadSo total used ks (height + rows) new later
+    → ReadSo total used ks height columns before → GainsRow used columns row rows new → before ≡ row_first at row later → ReadSo total used ks (height + rows) new later
 read_more total before later used ks height rows at columns new None so_far gains is =
     let same_height : height + rows ≡ height = omega (arith, gains.0) in
     subst (λ (h : ℕ). ReadSo total used ks h new later) (sym same_height)
@@ -226,15 +226,15 @@ fit-chosen height (true ∷ used) (f ∷ fields) (column ∷ columns) same high 
 fit-chosen height (false ∷ used) (f ∷ fields) (column ∷ columns) same high = fit-chosen height used fields columns (cc) high
 
 -- a step of reading, from the step of one record
-pub step_more : (total : Read) (used : List Bool) (ks : List ColType) (o : Options) (n k height rows at next : ℕ) (head still : Bool) (rest after : List ℕ) (columns new : List Values)
-    (row : Option Row) → k ≡ suc n → ReadSo total used ks height columns (left k o ks used head at rest) → Gains used columns row rows new
-    → ((m : ℕ) → left (suc m) o (column_kinds columns) used head at rest ≡ row_first at row (left m o (column_kinds columns) used still next after))
-    → ReadSo total used ks (height + rows) new (left n o ks used still next after)
-step_more total used ks o n k height rows at next head still rest after columns new row one_more so_far gains step =
-    read_more total (left k o ks used head at rest) (left n o ks used still next after) used ks height rows at columns new row so_far gains
+pub step_more : (total : Read) (used : List Bool) (ks : List ColType) (o : Options) (n k height rows at next : ℕ) (head awaits_header : Bool) (rest after : List ℕ) (columns new : List Values)
+    (row : Option Row) → k ≡ suc n → ReadSo total used ks height columns (left k o ks used head at rest) → GainsRow used columns row rows new
+    → ((m : ℕ) → left (suc m) o (column_kinds columns) used head at rest ≡ row_first at row (left m o (column_kinds columns) used awaits_header next after))
+    → ReadSo total used ks (height + rows) new (left n o ks used awaits_header next after)
+step_more total used ks o n k height rows at next head awaits_header rest after columns new row one_more so_far gains step =
+    read_more total (left k o ks used head at rest) (left n o ks used awaits_header next after) used ks height rows at columns new row so_far gains
     (ap (λ m. left m o ks used head at rest) one_more
     ∙ ap (λ types. left (suc n) o types used head at rest) (sym so_far.kinds)
-    ∙ step n ∙ ap (λ types. row_first at row (left n o types used still next after)) so_far.kinds)
+    ∙ step n ∙ ap (λ types. row_first at row (left n o types used awaits_header next after)) so_far.kinds)
 
 pub step_refused : (file : ℕ) (total : Read) (used : List Bool) (ks : List ColType) (o : Options) (n k height at : ℕ) (head : Bool) (rest : List ℕ) (columns : List Values) (fault : Fault)
     → k ≡ suc n → ReadSo total used ks height columns (left k o ks used head at rest)
@@ -245,6 +245,6 @@ step_refused file total used ks o n k height at head rest columns fault one_more
     read_refused file total (left k o ks used head at rest) used ks columns height fault so_far
     (subst P (sym (ap (λ m. left m o ks used head at rest) one_more ∙ ap (λ types. left (suc n) o types used head at rest) (sym so_far.kinds))) (step n))
 
-pub gains_one : (used : List Bool) (old new : List Values) (row : Option Row) (rows : ℕ) → Gains used old row rows new → rows ≤ 1
+pub gains_one : (used : List Bool) (old new : List Values) (row : Option Row) (rows : ℕ) → GainsRow used old row rows new → rows ≤ 1
 gains_one used old new None rows gains = omega (arith, gains.0)
 gains_one used old new (Some row) rows gains = omega (arith, gains.0)

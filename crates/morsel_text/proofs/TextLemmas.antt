@@ -33,7 +33,7 @@ utf8_byte b ys ascii utf8 = IsUtf8-append (b ∷ []) ys (IsUtf8-from_ascii (b �
     one zero = ascii
     one (suc i) = omega arith
 
--- what stands between quotes, and how its content is text
+-- what is between quotes, and how its content is text
 record Inner (bs rest content : List ℕ) : Type 0 where
   raw : List ℕ
   is : bs ≡ raw ++ rest
@@ -195,7 +195,7 @@ last_field-text o f utf8 = by (not f.quoted && o.eol == 10) refl
     by true is = rw is (without_return-text f.bytes utf8)
     by false other = rw other utf8
 
--- the record ends behind its last field and so many bytes
+-- the record ends after its last field and so many bytes
 ended_front : (o : Options) (text end behind rest : List ℕ) (f : CsvField) (fields : List CsvField) (field : FieldFront text (end ++ behind) f)
     → ((raw : List ℕ) → IsUtf8 (raw ++ end) → IsUtf8 raw) → ended o f behind ≡ Some (fields, rest) → Front text rest fields
 ended_front o text end behind rest f fields field cut found =
@@ -215,7 +215,7 @@ with_field-some f (Some x) fields rest is =
     let same : (let p : List CsvField × List ℕ = (all, x.1) in p ≡ (fields, rest)) = some_same _ _ is in
     (x.0, ap (λ (r : List ℕ). let p : List CsvField × List ℕ = (x.0, r) in Some p) (ap (λ p. p.1) same), sym (ap (λ p. p.0) same))
 
--- fields behind a separator
+-- fields after a separator
 more_front : (text after rest : List ℕ) (b : ℕ) (f : CsvField) (later fields : List CsvField) → b < 128 → FieldFront text (b ∷ after) f → fields ≡ f ∷ later
     → Front after rest later → Front text rest fields
 more_front text after rest b f later fields ascii field is front = record {
@@ -238,7 +238,7 @@ returned_front o text (b ∷ behind) rest f fields field found = by (b == o.eol)
         (let end : returned o f (b ∷ behind) ≡ ended o f behind = rw is in sym end ∙ found)
     by false other = absurd (let none : returned o f (b ∷ behind) ≡ None = rw other in cc)
 
--- what stands behind a field
+-- what follows a field
 after_field : (o : Options) (text behind rest : List ℕ) (b : ℕ) (f : CsvField) (fields : List CsvField) (more : List ℕ → Option (List CsvField × List ℕ)) (t u v : Bool)
     → AreOptions o → (b == o.separator) ≡ t → (b == o.eol) ≡ u → (b == 13 && o.eol == 10) ≡ v
     → ((later : List CsvField) → more behind ≡ Some (later, rest) → Front behind rest later)

@@ -10,18 +10,18 @@ use Rattle.morsel_grammar.specs.Split.{record_at}
 use Rattle.morsel_grammar.specs.Reading.{Read, read_of}
 use Rattle.morsel_text.specs.Pushes.{column_kinds}
 use Rattle.morsel_meaning.specs.declared.fault.Fault.{Fault}
-use Rattle.morsel_text.specs.Steps.{left, row_first, Gains, StepsTo}
+use Rattle.morsel_text.specs.Steps.{left, row_first, GainsRow, StepsTo}
 use Rattle.morsel_text.specs.RawFields.{shown}
 use Rattle.morsel_text.specs.Batches.{spread_all, SplitsRows, AreMade, appended, PutsRows, TurnsTo}
-use Rattle.morsel_text.specs.declared.read.Step.{Step}
-use Rattle.morsel_text.specs.declared.split.RawField.{RawField}
+use Rattle.morsel_text.specs.declared.reader.Step.{Step}
+use Rattle.morsel_text.specs.declared.raw_field.RawField.{RawField}
 use Rattle.morsel_grammar.proofs.RecordLemmas.{IsFound, record_at-read}
 use Rattle.morsel_grammar.proofs.FirstRecordLemmas.{record_taken, utf8_parts}
 use Rattle.morsel_grammar.proofs.JoinedLemmas.{reading_up_to-enough}
 use Rattle.morsel_text.proofs.StepLemmas.{ReadSo, step_more, gains_one}
 use Rattle.morsel_text.proofs.BatchLemmas.{some_bytes, splits_len, columns_by, columns_spread, rows_read}
 
--- a record takes bytes, and what stands behind it is text where all is
+-- a record takes bytes, and what follows it is text where all is
 pub behind_record : (o : Options) (text behind : List ℕ) (r : CsvRecord) → AreOptions o → 0 < length text → record_at o text ≡ Some (r, behind)
     → (length behind < length text) × (IsUtf8 text → IsUtf8 behind)
 behind_record o text behind r fit some found =
@@ -30,16 +30,16 @@ behind_record o text behind r fit some found =
     let taken = record_taken o r text behind fit is (some_bytes text 0 some) in
     (taken.1.shorter, λ utf8. (utf8_parts o r text behind taken.0 fit taken.1 utf8).1)
 
-pub after_record : (total : Read) (used : List Bool) (ks : List ColType) (o : Options) (height rows at next : ℕ) (head still : Bool) (text rest : List ℕ) (columns new : List Values)
-    (row : Option Row) → AreOptions o → length rest < length text → ReadSo total used ks height columns (left (length text) o ks used head at text) → Gains used columns row rows new
-    → ((m : ℕ) → left (suc m) o (column_kinds columns) used head at text ≡ row_first at row (left m o (column_kinds columns) used still next rest))
-    → ReadSo total used ks (height + rows) new (left (length rest) o ks used still next rest)
-after_record total used ks o height rows at next head still text rest columns new row fit shorter so_far gains step =
+pub after_record : (total : Read) (used : List Bool) (ks : List ColType) (o : Options) (height rows at next : ℕ) (head awaits_header : Bool) (text rest : List ℕ) (columns new : List Values)
+    (row : Option Row) → AreOptions o → length rest < length text → ReadSo total used ks height columns (left (length text) o ks used head at text) → GainsRow used columns row rows new
+    → ((m : ℕ) → left (suc m) o (column_kinds columns) used head at text ≡ row_first at row (left m o (column_kinds columns) used awaits_header next rest))
+    → ReadSo total used ks (height + rows) new (left (length rest) o ks used awaits_header next rest)
+after_record total used ks o height rows at next head awaits_header text rest columns new row fit shorter so_far gains step =
     let n = length text - 1 in
     let one_more : length text ≡ suc n = omega arith in
     subst (λ (r : Read). ReadSo total used ks (height + rows) new r)
-    (ap (read_of used) (reading_up_to-enough n (length rest) o ks still next rest fit (omega arith) (omega arith)))
-    (step_more total used ks o n (length text) height rows at next head still text rest columns new row one_more so_far gains step)
+    (ap (read_of used) (reading_up_to-enough n (length rest) o ks awaits_header next rest fit (omega arith) (omega arith)))
+    (step_more total used ks o n (length text) height rows at next head awaits_header text rest columns new row one_more so_far gains step)
 
 pub after_batch : (total : Read) (used : List Bool) (ks : List ColType) (o : Options) (height rows at : ℕ) (text rest : List ℕ) (columns new : List Values)
     → AreOptions o → IsUtf8 text → ReadSo total used ks height columns (left (length text) o ks used false at text) → PutsRows o used text columns rest rows new
@@ -67,13 +67,13 @@ pub after_turn : (total : Read) (used : List Bool) (ks : List ColType) (o : Opti
     → ReadSo total used ks (height + step.rows) new (left (length step.rest.now) o ks used step.head (at + (length text - length step.rest.now)) step.rest.now)
 after_turn total used ks o file height at head text columns new step fit shorter so_far (inl one) =
     after_record total used ks o height step.rows at (at + (length text - length step.rest.now)) head step.head text step.rest.now columns new one.0 fit shorter so_far one.1 one.2
-after_turn total used ks o file height at head text columns new step fit shorter so_far (inr (behind, still, utf8, puts)) =
+after_turn total used ks o file height at head text columns new step fit shorter so_far (inr (behind, awaits_header, utf8, puts)) =
     let place = at + (length text - length step.rest.now) in
-    subst (λ (h : Bool). ReadSo total used ks (height + step.rows) new (left (length step.rest.now) o ks used h place step.rest.now)) (sym still)
+    subst (λ (h : Bool). ReadSo total used ks (height + step.rows) new (left (length step.rest.now) o ks used h place step.rest.now)) (sym awaits_header)
     (after_batch total used ks o height step.rows at text step.rest.now columns new fit utf8
     (subst (λ (h : Bool). ReadSo total used ks height columns (left (length text) o ks used h at text)) behind so_far) puts)
 
--- what stands behind the rows of a batch
+-- what follows the rows of a batch
 pub puts_room : (o : Options) (used : List Bool) (text rest : List ℕ) (rows : ℕ) (columns new : List Values) → PutsRows o used text columns rest rows new
     → (rows + length rest ≤ length text) × (length rest < length text)
 puts_room o used text rest rows columns new (lines, made, counted, some, splits, are, is) =
@@ -89,7 +89,7 @@ pub puts_text : (o : Options) (used : List Bool) (text rest : List ℕ) (rows : 
     → IsUtf8 text → IsUtf8 rest
 puts_text o used text rest rows columns new fit (lines, made, counted, some, splits, are, is) utf8 = splits_text o (length columns) text rest lines fit splits utf8
 
-pub step_room : (used : List Bool) (old new : List Values) (row : Option Row) (rows behind all : ℕ) → Gains used old row rows new → behind < all → rows + behind ≤ all
+pub step_room : (used : List Bool) (old new : List Values) (row : Option Row) (rows behind all : ℕ) → GainsRow used old row rows new → behind < all → rows + behind ≤ all
 step_room used old new row rows behind all gains shorter = omega (arith, shorter, gains_one used old new row rows gains)
 
 -- a record that was read is a turn

@@ -1,5 +1,7 @@
 -- Many records at once: their fields column by column, and what the columns gain.
-use Rattle.std.specs.Prelude.{◌≡◌, ◌⊎◌, ℕ, ◌<◌, Bool, true, false, Some, Result, Ok, Err, IsUtf8, List, [], ◌∷◌, ◌++◌, map, length, replicate}
+use Rattle.std.specs.Prelude.{◌≡◌, ◌⊎◌, ℕ, ◌<◌, Bool, true, false, Option, Some, None, Result, Ok, Err, IsUtf8, List, [], ◌∷◌, ◌++◌, map, length, replicate, Vec}
+use Rattle.std.specs.Borrow.{Bor}
+use Rattle.std.specs.declared.alloc.Global.{Global}
 use Rattle.morsel_meaning.specs.declared.value.ColType.{ColType}
 use Rattle.morsel_meaning.specs.declared.fault.Fault.{Fault}
 use Rattle.morsel_frame.specs.Columns.{Values}
@@ -12,16 +14,10 @@ use Rattle.morsel_grammar.specs.Split.{record_at}
 use Rattle.morsel_text.specs.RawFields.{shown}
 use Rattle.morsel_text.specs.Pushes.{AreTexts, column_kinds}
 use Rattle.morsel_text.specs.Steps.{StepsTo}
-use Rattle.morsel_text.specs.declared.split.RawField.{RawField}
-use Rattle.morsel_text.specs.declared.read.Step.{Step}
-use Rattle.morsel_text.specs.declared.batch.BatchRead.{BatchRead}
-use Rattle.morsel_text.specs.declared.batch.BatchRead.TheVariants as batches
+use Rattle.morsel_text.specs.declared.raw_field.RawField.{RawField}
+use Rattle.morsel_text.specs.declared.reader.Step.{Step}
 use Rattle.morsel_text.specs.declared.ints.IntCell.{IntCell}
 use Rattle.morsel_text.specs.declared.ints.IntCell.TheVariants as ints
-use Rattle.morsel_text.specs.declared.batch.MadeAll.{MadeAll}
-use Rattle.morsel_text.specs.declared.batch.MadeAll.TheVariants as all
-use Rattle.morsel_text.specs.declared.batch.Made.{Made}
-use Rattle.morsel_text.specs.declared.batch.Made.TheVariants as makes
 
 -- each column with its entry of the row last
 abbrev pub spread : {A : Type 0} → List (List A) → List A → List (List A)
@@ -34,11 +30,11 @@ abbrev pub spread_all : {A : Type 0} → List (List A) → List (List A) → Lis
 spread_all columns [] = columns
 spread_all columns (row ∷ rows) = spread_all (spread columns row) rows
 
--- the text begins with these records, each with bytes and so many fields, and this stands behind them
+-- the text begins with these records, each with bytes and so many fields, and this follows them
 abbrev pub SplitsRows : Options → ℕ → List ℕ → List (List RawField) → List ℕ → Type 0
 SplitsRows o width text [] rest = rest ≡ text
-SplitsRows o width text (fields ∷ rows) rest = (behind : List ℕ) × (record_at o text ≡ Some (Fields (map shown fields), behind)) × (length behind < length text)
-    × (length fields ≡ width) × (is_empty (map shown fields) ≡ false) × SplitsRows o width behind rows rest
+SplitsRows o width text (fields ∷ rows) rest = (after : List ℕ) × (record_at o text ≡ Some (Fields (map shown fields), after)) × (length after < length text)
+    × (length fields ≡ width) × (is_empty (map shown fields) ≡ false) × SplitsRows o width after rows rest
 
 -- the columns of fields gained those of so many records, which the text begins with
 abbrev pub SplitsBatch : Options → List ℕ → List (List RawField) → List ℕ × ℕ → List (List RawField) → Type 0
@@ -65,19 +61,18 @@ abbrev pub IsIntCell : CsvCell → IntCell → Type 0
 IsIntCell cell (ints.Number n) = cell ≡ Good (values.Int n)
 IsIntCell cell ints.Null = cell ≡ Good values.Null
 IsIntCell cell ints.Bad = Unit {0}
-IsIntCell cell ints.NoMemory = Unit {0}
 
-abbrev pub MakesColumn : Options → ColType → List RawField → Made → Type 0
-MakesColumn o kind fields (makes.Column column) = IsColumnOf o kind fields column
-MakesColumn o kind fields makes.Bad = Unit {0}
-MakesColumn o kind fields makes.NoMemory = Unit {0}
+-- the column of these fields' values, where one is made
+abbrev pub MakesColumn : Options → ColType → List RawField → Option Values → Type 0
+MakesColumn o kind fields None = Unit {0}
+MakesColumn o kind fields (Some column) = IsColumnOf o kind fields column
 
-abbrev pub MakesAll : Options → List Bool → List ColType → List (List RawField) → MadeAll → Type 0
-MakesAll o used kinds batch (all.Columns made) = AreMade o used kinds batch made.items
-MakesAll o used kinds batch all.Bad = Unit {0}
-MakesAll o used kinds batch all.NoMemory = Unit {0}
+-- the columns of all fields' values, where they are made
+abbrev pub MakesAll : Options → List Bool → List ColType → List (List RawField) → Option (Vec Values Global) → Type 0
+MakesAll o used kinds batch None = Unit {0}
+MakesAll o used kinds batch (Some made) = AreMade o used kinds batch made.items
 
--- the columns with those that were made behind them
+-- the columns with the values of those that were made last
 abbrev pub appended : List Values → List Values → List Values
 appended [] made = []
 appended (column ∷ columns) [] = column ∷ columns
@@ -89,13 +84,12 @@ PutsRows o used text old rest rows new = (lines : List (List RawField)) × (made
     × SplitsRows o (length old) text lines rest × AreMade o used (column_kinds old) (spread_all (replicate (length old) []) lines) made
     × (new ≡ appended old made)
 
--- the rows of the first records of a text were put into the columns; or nothing was changed; or there was no memory
-abbrev pub ReadsBatch : Options → List Bool → List ℕ → List Values → BatchRead → List Values → Type 0
-ReadsBatch o used text old (batches.Rows rest rows) new = PutsRows o used text old rest.now rows new
-ReadsBatch o used text old batches.Nothing new = new ≡ old
-ReadsBatch o used text old batches.NoMemory new = Unit {0}
+-- the rows of the first records of a text were put into the columns, or nothing was changed
+abbrev pub ReadsBatch : Options → List Bool → List ℕ → List Values → Option (Bor (List ℕ) × ℕ) → List Values → Type 0
+ReadsBatch o used text old None new = new ≡ old
+ReadsBatch o used text old (Some found) new = PutsRows o used text old found.0.now found.1 new
 
--- one record was read, or a batch of rows behind the header
+-- one record was read, or a batch of rows after the header
 abbrev pub TurnsTo : Options → List Bool → ℕ → Bool → ℕ → List ℕ → List Values → Result Step Fault → List Values → Type 0
 TurnsTo o used file head at text old (Ok step) new = StepsTo o used file head at text old (Ok step) new
     ⊎ ((head ≡ false) × (step.head ≡ false) × IsUtf8 text × PutsRows o used text old step.rest.now step.rows new)

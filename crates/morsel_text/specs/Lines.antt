@@ -4,7 +4,7 @@ use Rattle.std.specs.Int.{bit_at}
 use Rattle.morsel_grammar.specs.Options.{Options}
 use Rattle.morsel_grammar.specs.Split.{is_quote}
 
--- so many bytes stand before the first eol byte, and none up to it is a quote
+-- so many bytes come before the first eol byte, and none up to it is a quote
 pub record IsPlainLine (o : Options) (text : List ℕ) (len : ℕ) : Type 0 where
   pub within : len < length text
   pub inside : (k : ℕ) → k < len → (get_or text k 0 == o.eol) ≡ false

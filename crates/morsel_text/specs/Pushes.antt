@@ -18,11 +18,12 @@ abbrev pub with_cell : CsvCell → Values → Option Values
 with_cell (Good v) column = Some (record column { values = column.values ++ v ∷ [] })
 with_cell Bad column = None
 
+-- the cell was put last, where it is a value
 abbrev pub PushesCell : CsvCell → Values → Pushed → Values → Type 0
 PushesCell cell old pushes.Done new = with_cell cell old ≡ Some new
 PushesCell cell old pushes.Bad new = with_cell cell old ≡ None
-PushesCell cell old pushes.NoMemory new = Unit {0}
 
+-- a column, and then the columns after it
 abbrev pub in_front : Option Values → Option (List Values) → Option (List Values)
 in_front None columns = None
 in_front (Some column) None = None
@@ -37,10 +38,10 @@ with_fields o (true ∷ used) (column ∷ columns) (f ∷ fields) =
     in_front (with_cell (cell_of o column.kind f) column) (with_fields o used columns fields)
 with_fields o (false ∷ used) (column ∷ columns) (f ∷ fields) = in_front (Some column) (with_fields o used columns fields)
 
+-- the columns are these, where there are some
 abbrev pub PushesFields : Option (List Values) → Pushed → List Values → Type 0
 PushesFields pushed pushes.Done new = pushed ≡ Some new
 PushesFields pushed pushes.Bad new = pushed ≡ None
-PushesFields pushed pushes.NoMemory new = Unit {0}
 
 -- each field's content is text
 abbrev pub AreTexts : List CsvField → Type 0
@@ -67,4 +68,3 @@ PushesRow found used old rows.Row new = (cells : List CsvCell) × (row : Row) ×
 PushesRow found used old rows.NoRow new = (found ≡ NoRow) × (new ≡ old)
 PushesRow found used old rows.Misfit new = found ≡ Misfit
 PushesRow found used old rows.Bad new = (cells : List CsvCell) × (found ≡ IsRow cells) × (used_values used cells ≡ None)
-PushesRow found used old rows.NoMemory new = Unit {0}

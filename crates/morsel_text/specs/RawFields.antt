@@ -1,10 +1,10 @@
--- Fields as they stand in a text, what they say, and what the steps of splitting find.
+-- Fields as they are written in a text, what they say, and what the steps of splitting find.
 use Rattle.std.specs.Prelude.{◌≡◌, ℕ, ◌+◌, ◌<◌, ◌≤◌, ◌==◌, ◌||◌, get_or, true, false, Option, Some, None, List, [], ◌++◌, map, length}
 use Rattle.std.specs.Borrow.{Bor}
-use Rattle.morsel_text.specs.declared.split.RawField.{RawField}
-use Rattle.morsel_text.specs.declared.split.RawField.TheVariants as raws
-use Rattle.morsel_text.specs.declared.split.Next.{Next}
-use Rattle.morsel_text.specs.declared.split.Next.TheVariants as nexts
+use Rattle.morsel_text.specs.declared.raw_field.RawField.{RawField}
+use Rattle.morsel_text.specs.declared.raw_field.RawField.TheVariants as raws
+use Rattle.morsel_text.specs.declared.parts.Next.{Next}
+use Rattle.morsel_text.specs.declared.parts.Next.TheVariants as nexts
 use Rattle.morsel_text.specs.declared.split.Split.{Split}
 use Rattle.morsel_text.specs.declared.split.Split.TheVariants as splits
 use Rattle.morsel_grammar.specs.Options.{Options}
@@ -32,11 +32,12 @@ shown (raws.Plain text) = record { quoted = false; bytes = text.now }
 shown (raws.Quoted text) = record { quoted = true; bytes = text.now }
 shown (raws.Doubled text quote) = record { quoted = true; bytes = content_of (quoted_at quote text.now) }
 
+-- what a field that was found says, and what follows it
 abbrev pub shown_found : Option (RawField × Bor (List ℕ)) → Option (CsvField × List ℕ)
 shown_found None = None
 shown_found (Some found) = Some (shown found.0, found.1.now)
 
--- what stands behind a quoted field
+-- what follows a quoted field
 abbrev pub rest_of : Option (List ℕ × List ℕ) → Option (List ℕ)
 rest_of None = None
 rest_of (Some found) = Some found.1
@@ -53,28 +54,29 @@ next_len (nexts.Field rest) = length rest.now
 next_len (nexts.End rest) = length rest.now
 next_len nexts.Broken = 0
 
--- fields in front of those that are found
+-- fields before those that are found
 abbrev pub with_front : List CsvField → Option (List CsvField × List ℕ) → Option (List CsvField × List ℕ)
 with_front front None = None
 with_front front (Some found) = Some (front ++ found.0, found.1)
 
--- the fields that a text begins with
+-- the text begins with these fields, and this follows them
+abbrev pub AreRawFields : Options → List ℕ → List RawField → List ℕ → Type 0
+AreRawFields o text fields rest = fields_up_to (length text + 1) o text ≡ Some (map shown fields, rest)
+
+-- the fields that a text begins with, and what follows them
 abbrev pub FieldsAre : Options → List ℕ → List RawField → Split → Type 0
-FieldsAre o text fields (splits.Fields rest) = fields_up_to (length text + 1) o text ≡ Some (map shown fields, rest.now)
+FieldsAre o text fields (splits.Fields rest) = AreRawFields o text fields rest.now
 FieldsAre o text fields (splits.Comment rest) = ⊥
 FieldsAre o text fields splits.Broken = fields_up_to (length text + 1) o text ≡ None
-FieldsAre o text fields splits.NoMemory = Unit {0}
 
--- the record that a text begins with
+-- the record that a text begins with, and what follows it
 abbrev pub SplitsInto : Options → List ℕ → List RawField → Split → Type 0
 SplitsInto o text fields (splits.Fields rest) = record_at o text ≡ Some (Fields (map shown fields), rest.now)
 SplitsInto o text fields (splits.Comment rest) = (body : List ℕ) × (record_at o text ≡ Some (Comment body, rest.now))
 SplitsInto o text fields splits.Broken = record_at o text ≡ None
-SplitsInto o text fields splits.NoMemory = Unit {0}
 
 -- how many bytes are left
 abbrev pub split_len : Split → ℕ
 split_len (splits.Fields rest) = length rest.now
 split_len (splits.Comment rest) = length rest.now
 split_len splits.Broken = 0
-split_len splits.NoMemory = 0

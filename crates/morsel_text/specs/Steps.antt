@@ -11,7 +11,7 @@ use Rattle.morsel_grammar.specs.Rows.{RowOf}
 use Rattle.morsel_grammar.specs.Reading.{Reading, Read, reading_up_to, row_then, read_of, chosen}
 use Rattle.morsel_grammar.specs.Results.{IsRefused}
 use Rattle.morsel_text.specs.Pushes.{column_kinds, with_row}
-use Rattle.morsel_text.specs.declared.read.Step.{Step}
+use Rattle.morsel_text.specs.declared.reader.Step.{Step}
 use Rattle.morsel_text.specs.declared.read.ColumnsRead.{ColumnsRead}
 
 -- what at most `n` records more give
@@ -24,13 +24,13 @@ row_first at None later = later
 row_first at (Some row) later = record later { rows = (at, row) ∷ later.rows }
 
 -- the columns with a row, where there is one, and how many rows there are more
-abbrev pub Gains : List Bool → List Values → Option Row → ℕ → List Values → Type 0
-Gains used old None rows new = (rows ≡ 0) × (new ≡ old)
-Gains used old (Some row) rows new = (rows ≡ 1) × (length row ≡ length (chosen used old)) × (new ≡ with_row used old row)
+abbrev pub GainsRow : List Bool → List Values → Option Row → ℕ → List Values → Type 0
+GainsRow used old None rows new = (rows ≡ 0) × (new ≡ old)
+GainsRow used old (Some row) rows new = (rows ≡ 1) × (length row ≡ length (chosen used old)) × (new ≡ with_row used old row)
 
 -- the record at a place was read
 abbrev pub StepsTo : Options → List Bool → ℕ → Bool → ℕ → List ℕ → List Values → Result Step Fault → List Values → Type 0
-StepsTo o used file head at text old (Ok step) new = (row : Option Row) × Gains used old row step.rows new
+StepsTo o used file head at text old (Ok step) new = (row : Option Row) × GainsRow used old row step.rows new
     × ((n : ℕ) → left (suc n) o (column_kinds old) used head at text
     ≡ row_first at row (left n o (column_kinds old) used step.head (at + (length text - length step.rest.now)) step.rest.now))
 StepsTo o used file head at text old (Err fault) new =
@@ -38,7 +38,7 @@ StepsTo o used file head at text old (Err fault) new =
 
 -- a record that is text, and what its row made of the columns
 abbrev pub RowStepsTo : RowOf → List Bool → ℕ → ℕ → List Values → Result ℕ Fault → List Values → Type 0
-RowStepsTo found used file at old (Ok rows) new = (row : Option Row) × Gains used old row rows new
+RowStepsTo found used file at old (Ok rows) new = (row : Option Row) × GainsRow used old row rows new
     × ((later : Reading) → read_of used (row_then false at found later) ≡ row_first at row (read_of used later))
 RowStepsTo found used file at old (Err fault) new =
     (later : Reading) → IsRefused file (read_of used (row_then false at found later)).refusal fault

@@ -1,15 +1,16 @@
 //! Many records at once: first their fields, column by column, and then the columns' values.
-ghost use Rattle.std.specs.Prelude.{◌≡◌, ◌++◌, ◌∷◌, [], length, map, replicate, IfOk, OnOk, IsUtf8};
+ghost use Rattle.std.specs.Prelude.{◌≡◌, ◌++◌, ◌∷◌, [], length, map, replicate, IfOk, IsOkUnless, OnOk, IsUtf8};
 ghost use Rattle.morsel_text.specs.RawFields.{shown};
 ghost use Rattle.morsel_text.specs.Pushes.{AreTexts, column_kinds};
 ghost use Rattle.morsel_text.specs.Batches.{spread, SplitsBatch, AreTextColumns, MakesColumn, MakesAll, appended, ReadsBatch};
 
-use morsel_grammar::CsvOptions;
 use crate::cells::{Pushed, push_cell};
 use crate::ints::int_column;
+use crate::raw_field::RawField;
 use crate::rows::is_empty;
-use crate::split::{RawField, Split, split_record};
+use crate::split::{Split, split_record};
 use morsel_frame::Column;
+use morsel_grammar::CsvOptions;
 use morsel_meaning::{ColType, Fault};
 use std::alloc::Global;
 use std::marker::Model;
@@ -17,7 +18,7 @@ use std::marker::Model;
 /// How many records are split before their columns are made.
 const BATCH_ROWS: usize = 1024;
 
-/// The fields of some records that stand in one column.
+/// The fields of some records in one column.
 #[derive(Drop)]
 pub struct FieldColumn<'a> {
     fields: Vec<RawField<'a>>,
@@ -25,7 +26,7 @@ pub struct FieldColumn<'a> {
 
 impl<'a> Model for FieldColumn<'a> {
     ghost use Rattle.std.specs.Prelude.{List};
-    ghost use Rattle.morsel_text.specs.declared.split.RawField.{RawField};
+    ghost use Rattle.morsel_text.specs.declared.raw_field.RawField.{RawField};
 
     ghost Value = { List RawField };
 
@@ -44,7 +45,8 @@ impl<'a> FieldColumn<'a> {
 
     /// Puts a field last.
     fn push(&mut self, field: RawField<'a>) -> Result<(), Fault>
-        ensures { OnOk result (self.new ≡ self.old ++ field.entry ∷ []) }
+        ensures ok { OnOk result (self.new ≡ self.old ++ field.entry ∷ []) }
+        ensures out_of_memory { IsOkUnless result Fault.OutOfMemory }
     {
         self.fields.push(field)?;
         Ok(())
@@ -58,29 +60,10 @@ impl<'a> FieldColumn<'a> {
     }
 }
 
-/// What came of making a column.
-pub enum Made {
-    /// The column of the fields' values.
-    Column(Column),
-    /// A field does not fit the column's type.
-    Bad,
-    /// There was no memory.
-    NoMemory,
-}
-
-/// What came of reading many records at once.
-pub enum BatchRead<'a> {
-    /// So many rows stand in the columns, and this stands behind their records.
-    Rows(&'a [u8], usize),
-    /// Nothing was changed: the first record is no row of fields, or a field does not fit its column.
-    Nothing,
-    /// There was no memory.
-    NoMemory,
-}
-
 /// No fields for each column.
 fn empty_batch<'a>(alloc: Global, width: usize) -> Result<Vec<FieldColumn<'a>>, Fault>
-    ensures { IfOk result (λ batch. batch.items ≡ replicate width []) }
+    ensures ok { IfOk result (λ batch. batch.items ≡ replicate width []) }
+    ensures out_of_memory { IsOkUnless result Fault.OutOfMemory }
 {
     let mut batch = Vec::new(alloc);
     for _ in 0..width {
@@ -93,7 +76,8 @@ fn empty_batch<'a>(alloc: Global, width: usize) -> Result<Vec<FieldColumn<'a>>, 
 #[inline(always)]
 fn spread<'a>(fields: &[RawField<'a>], batch: &mut Vec<FieldColumn<'a>>) -> Result<(), Fault>
     requires { length fields.now ≡ length batch.old.items }
-    ensures { OnOk result (batch.new.items ≡ spread batch.old.items fields.now) }
+    ensures ok { OnOk result (batch.new.items ≡ spread batch.old.items fields.now) }
+    ensures out_of_memory { IsOkUnless result Fault.OutOfMemory }
 {
     for at in 0..fields.len() {
         let column = &mut batch[at];
@@ -103,7 +87,7 @@ fn spread<'a>(fields: &[RawField<'a>], batch: &mut Vec<FieldColumn<'a>>) -> Resu
 }
 
 /// Splits records off the text, up to the first that has no bytes or does not give each column a field, and puts their
-/// fields into the columns. Says what stands behind them, and how many they are.
+/// fields into the columns. Says what follows them, and how many they are.
 fn split_rows<'a>(
     text: &'a [u8],
     options: &CsvOptions,
@@ -114,60 +98,61 @@ fn split_rows<'a>(
     requires texts { AreTextColumns batch.old.items }
     ensures rows { IfOk result (λ found. SplitsBatch options.now text.now batch.old.items (found.0.now, found.1) batch.new.items) }
     ensures texts { OnOk result (AreTextColumns batch.new.items) }
+    ensures out_of_memory { IsOkUnless result Fault.OutOfMemory }
 {
     let mut rest = text;
     for row in 0..BATCH_ROWS {
         if rest.is_empty() {
             return Ok((rest, row));
         }
-        match split_record(rest, options, fields) {
-            Split::Fields(behind) => {
+        match split_record(rest, options, fields)? {
+            Split::Fields(after) => {
                 if is_empty(fields.as_slice()) || fields.len() != batch.len() {
                     return Ok((rest, row));
                 }
                 spread(fields.as_slice(), batch)?;
-                rest = behind;
+                rest = after;
             }
             Split::Comment(_) => return Ok((rest, row)),
             Split::Broken => return Ok((rest, row)),
-            Split::NoMemory => return Err(Fault::OutOfMemory),
         }
     }
     Ok((rest, BATCH_ROWS))
 }
 
-/// Makes the column of the fields' values, whatever its type.
+/// Makes the column of the fields' values, whatever its type; none where a field does not fit.
 fn pushed_column(
     alloc: Global,
     kind: ColType,
     fields: &[RawField<'_>],
     options: &CsvOptions,
     content: &mut Vec<u8>,
-) -> Made
+) -> Result<Option<Column>, Fault>
     requires { AreTexts (map shown fields.now) }
-    ensures { MakesColumn options.now kind fields.now result }
+    ensures column { IfOk result (λ made. MakesColumn options.now kind fields.now made) }
+    ensures out_of_memory { IsOkUnless result Fault.OutOfMemory }
 {
     let mut column = Column::new(alloc, kind);
     for field in fields {
-        match push_cell(&mut column, *field, options, content) {
+        match push_cell(&mut column, *field, options, content)? {
             Pushed::Done => {}
-            Pushed::Bad => return Made::Bad,
-            Pushed::NoMemory => return Made::NoMemory,
+            Pushed::Bad => return Ok(None),
         }
     }
-    Made::Column(column)
+    Ok(Some(column))
 }
 
-/// Makes the column of the fields' values.
+/// Makes the column of the fields' values; none where a field does not fit.
 fn made_column(
     alloc: Global,
     kind: ColType,
     fields: &[RawField<'_>],
     options: &CsvOptions,
     content: &mut Vec<u8>,
-) -> Made
+) -> Result<Option<Column>, Fault>
     requires { AreTexts (map shown fields.now) }
-    ensures { MakesColumn options.now kind fields.now result }
+    ensures column { IfOk result (λ made. MakesColumn options.now kind fields.now made) }
+    ensures out_of_memory { IsOkUnless result Fault.OutOfMemory }
 {
     match kind {
         ColType::Int => int_column(alloc, fields, options, content),
@@ -175,17 +160,8 @@ fn made_column(
     }
 }
 
-/// What came of making columns.
-enum MadeAll {
-    /// A column of values for each that is used, and one without values for each other.
-    Columns(Vec<Column>),
-    /// A field does not fit its column's type.
-    Bad,
-    /// There was no memory.
-    NoMemory,
-}
-
-/// Makes a column of values for each that is used, and one without values for each other.
+/// Makes a column of values for each that is used, and one without values for each other; none where a field does not
+/// fit its column.
 fn made_columns(
     alloc: Global,
     columns: &[Column],
@@ -193,39 +169,34 @@ fn made_columns(
     used: &[bool],
     options: &CsvOptions,
     content: &mut Vec<u8>,
-) -> MadeAll
+) -> Result<Option<Vec<Column>>, Fault>
     requires used { length used.now ≡ length columns.now }
     requires batch { length batch.now ≡ length columns.now }
     requires texts { AreTextColumns batch.now }
-    ensures { MakesAll options.now used.now (column_kinds columns.now) batch.now result }
+    ensures columns { IfOk result (λ made. MakesAll options.now used.now (column_kinds columns.now) batch.now made) }
+    ensures out_of_memory { IsOkUnless result Fault.OutOfMemory }
 {
     let mut made = Vec::new(alloc);
     for at in 0..columns.len() {
         let kind = columns[at].kind();
         if !used[at] {
-            let Ok(()) = made.push(Column::new(alloc, kind)) else {
-                return MadeAll::NoMemory;
-            };
+            made.push(Column::new(alloc, kind))?;
             continue;
         }
-        match made_column(alloc, kind, batch[at].as_slice(), options, content) {
-            Made::Column(column) => {
-                let Ok(()) = made.push(column) else {
-                    return MadeAll::NoMemory;
-                };
-            }
-            Made::Bad => return MadeAll::Bad,
-            Made::NoMemory => return MadeAll::NoMemory,
-        }
+        let Some(column) = made_column(alloc, kind, batch[at].as_slice(), options, content)? else {
+            return Ok(None);
+        };
+        made.push(column)?;
     }
-    MadeAll::Columns(made)
+    Ok(Some(made))
 }
 
-/// Puts the values of each column that was made behind those of its column.
+/// Puts the values of each column that was made below those of its column.
 fn append_columns(columns: &mut Vec<Column>, made: &[Column]) -> Result<(), Fault>
     requires kinds { column_kinds made.now ≡ column_kinds columns.old.items }
     requires width { length made.now ≡ length columns.old.items }
-    ensures { OnOk result (columns.new.items ≡ appended columns.old.items made.now) }
+    ensures ok { OnOk result (columns.new.items ≡ appended columns.old.items made.now) }
+    ensures out_of_memory { IsOkUnless result Fault.OutOfMemory }
 {
     for at in 0..made.len() {
         let new = &made[at];
@@ -235,7 +206,10 @@ fn append_columns(columns: &mut Vec<Column>, made: &[Column]) -> Result<(), Faul
     Ok(())
 }
 
-/// Reads the rows of the first records of a text that is UTF-8 into the columns, as many as a batch has.
+/// Reads the rows of the first records of a text that is UTF-8 into the columns, as many as a batch has. Says what
+/// follows them, and how many they are.
+///
+/// `None` says that nothing was changed: the first record is no row of fields, or a field does not fit its column.
 pub fn read_batch<'a>(
     alloc: Global,
     text: &'a [u8],
@@ -244,29 +218,20 @@ pub fn read_batch<'a>(
     options: &CsvOptions,
     fields: &mut Vec<RawField<'a>>,
     content: &mut Vec<u8>,
-) -> BatchRead<'a>
+) -> Result<Option<(&'a [u8], usize)>, Fault>
     requires utf8 { IsUtf8 text.now }
     requires used { length used.now ≡ length columns.old.items }
-    ensures { ReadsBatch options.now used.now text.now columns.old.items result columns.new.items }
+    ensures batch { IfOk result (λ found. ReadsBatch options.now used.now text.now columns.old.items found columns.new.items) }
+    ensures out_of_memory { IsOkUnless result Fault.OutOfMemory }
 {
-    let Ok(batch) = empty_batch(alloc, columns.len()) else {
-        return BatchRead::NoMemory;
-    };
-    let mut batch = batch;
-    let Ok((rest, rows)) = split_rows(text, options, fields, &mut batch) else {
-        return BatchRead::NoMemory;
-    };
+    let mut batch = empty_batch(alloc, columns.len())?;
+    let (rest, rows) = split_rows(text, options, fields, &mut batch)?;
     if rows == 0 {
-        return BatchRead::Nothing;
+        return Ok(None);
     }
-    match made_columns(alloc, columns, &batch, used, options, content) {
-        MadeAll::Columns(made) => {
-            let Ok(()) = append_columns(columns, &made) else {
-                return BatchRead::NoMemory;
-            };
-            BatchRead::Rows(rest, rows)
-        }
-        MadeAll::Bad => BatchRead::Nothing,
-        MadeAll::NoMemory => BatchRead::NoMemory,
-    }
+    let Some(made) = made_columns(alloc, columns, &batch, used, options, content)? else {
+        return Ok(None);
+    };
+    append_columns(columns, &made)?;
+    Ok(Some((rest, rows)))
 }

@@ -29,7 +29,7 @@ fn field_again(field: &Field) -> Result<Field, Fault>
 }
 
 /// The fields of the used columns.
-pub fn chosen_fields(alloc: Global, schema: &Schema, used: &[bool]) -> Result<Vec<Field>, Fault>
+fn chosen_fields(alloc: Global, schema: &Schema, used: &[bool]) -> Result<Vec<Field>, Fault>
     requires { length used.now ≡ length schema.now }
     ensures ok { IfOk result (λ fields. fields.items ≡ chosen used.now schema.now) }
     ensures out_of_memory { IsOkUnless result Fault.OutOfMemory }
@@ -42,6 +42,19 @@ pub fn chosen_fields(alloc: Global, schema: &Schema, used: &[bool]) -> Result<Ve
         fields.push(field_again(schema.field(at))?)?;
     }
     Ok(fields)
+}
+
+/// The schema of the used columns.
+pub fn chosen_schema(alloc: Global, schema: &Schema, used: &[bool]) -> Result<Schema, Fault>
+    requires { length used.now ≡ length schema.now }
+    ensures ok { IfOk result (λ new. new ≡ chosen used.now schema.now) }
+    ensures out_of_memory { IsOkUnless result Fault.OutOfMemory }
+{
+    // The fields of a schema differ in name, and so do some of them: what refuses them is out of memory.
+    let Ok(chosen) = Schema::new(alloc, chosen_fields(alloc, schema, used)?) else {
+        return Err(Fault::OutOfMemory);
+    };
+    Ok(chosen)
 }
 
 /// Takes the used columns out.

@@ -1,17 +1,18 @@
 //! Columns of numbers, made from fields.
-ghost use Rattle.std.specs.Prelude.{◌≡◌, map, IsUtf8};
+ghost use Rattle.std.specs.Prelude.{◌≡◌, map, IfOk, IsOkUnless, IsUtf8};
 ghost use Rattle.morsel_meaning.specs.declared.value.ColType.TheVariants as types;
 ghost use Rattle.morsel_grammar.specs.Cells.{value_written, cell_or_bad, cell_of};
 ghost use Rattle.morsel_text.specs.RawFields.{shown};
 ghost use Rattle.morsel_text.specs.Pushes.{AreTexts};
 ghost use Rattle.morsel_text.specs.Batches.{IsIntCell, MakesColumn};
 
-use morsel_grammar::CsvOptions;
-use crate::batch::Made;
 use crate::cells::int_of;
-use crate::split::{RawField, unquote};
+use crate::raw_field::RawField;
+use crate::split::unquote;
 use morsel_frame::Column;
-use std::alloc::Global;
+use morsel_grammar::CsvOptions;
+use morsel_meaning::Fault;
+use std::alloc::{AllocError, Global};
 use std::str::from_utf8_unchecked;
 
 /// What a field says in a column of numbers.
@@ -22,8 +23,6 @@ pub enum IntCell {
     Null,
     /// It does not fit.
     Bad,
-    /// There was no memory.
-    NoMemory,
 }
 
 /// What a text that is no null says.
@@ -41,69 +40,60 @@ fn number_cell(text: &str, options: &CsvOptions) -> IntCell
     }
 }
 
-/// What a field says, with room for the content of one that holds quotes.
+/// What a field says, with room for the content of one that contains quotes.
+///
+/// Its fault is the small `AllocError`, since it is called for each cell.
 #[inline(always)]
-fn int_cell(field: RawField<'_>, options: &CsvOptions, content: &mut Vec<u8>) -> IntCell
+fn int_cell(
+    field: RawField<'_>,
+    options: &CsvOptions,
+    content: &mut Vec<u8>,
+) -> Result<IntCell, AllocError>
     requires { IsUtf8 (shown field).bytes }
-    ensures { IsIntCell (cell_of options.now types.Int (shown field.entry)) result }
+    ensures { IfOk result (λ cell. IsIntCell (cell_of options.now types.Int (shown field.entry)) cell) }
 {
     match field {
         RawField::Plain(text) => {
             let text = unsafe { from_utf8_unchecked(text) };
             if text == options.null_text() {
-                return IntCell::Null;
+                return Ok(IntCell::Null);
             }
-            number_cell(text, options)
+            Ok(number_cell(text, options))
         }
-        RawField::Quoted(text) => number_cell(unsafe { from_utf8_unchecked(text) }, options),
+        RawField::Quoted(text) => Ok(number_cell(unsafe { from_utf8_unchecked(text) }, options)),
         RawField::Doubled(text, quote) => {
-            let Ok(()) = unquote(text, quote, content) else {
-                return IntCell::NoMemory;
-            };
-            number_cell(unsafe { from_utf8_unchecked(content.as_slice()) }, options)
+            unquote(text, quote, content)?;
+            Ok(number_cell(unsafe { from_utf8_unchecked(content.as_slice()) }, options))
         }
     }
 }
 
-/// Makes the column of the fields' numbers.
+/// Makes the column of the fields' numbers; none where a field does not fit.
 pub fn int_column(
     alloc: Global,
     fields: &[RawField<'_>],
     options: &CsvOptions,
     content: &mut Vec<u8>,
-) -> Made
+) -> Result<Option<Column>, Fault>
     requires { AreTexts (map shown fields.now) }
-    ensures { MakesColumn options.now types.Int fields.now result }
+    ensures column { IfOk result (λ made. MakesColumn options.now types.Int fields.now made) }
+    ensures out_of_memory { IsOkUnless result Fault.OutOfMemory }
 {
-    let Ok(valid) = Vec::with_capacity(alloc, fields.len()) else {
-        return Made::NoMemory;
-    };
-    let Ok(numbers) = Vec::with_capacity(alloc, fields.len()) else {
-        return Made::NoMemory;
-    };
-    let mut valid = valid;
-    let mut numbers = numbers;
+    let mut valid = Vec::with_capacity(alloc, fields.len())?;
+    let mut numbers = Vec::with_capacity(alloc, fields.len())?;
     for field in fields {
-        match int_cell(*field, options, content) {
+        let cell = int_cell(*field, options, content)?;
+        match cell {
             IntCell::Number(number) => {
-                let Ok(()) = valid.push(true) else {
-                    return Made::NoMemory;
-                };
-                let Ok(()) = numbers.push(number) else {
-                    return Made::NoMemory;
-                };
+                valid.push(true)?;
+                numbers.push(number)?;
             }
             IntCell::Null => {
-                let Ok(()) = valid.push(false) else {
-                    return Made::NoMemory;
-                };
-                let Ok(()) = numbers.push(0) else {
-                    return Made::NoMemory;
-                };
+                valid.push(false)?;
+                numbers.push(0)?;
             }
-            IntCell::Bad => return Made::Bad,
-            IntCell::NoMemory => return Made::NoMemory,
+            IntCell::Bad => return Ok(None),
         }
     }
-    Made::Column(Column::from_ints(valid, numbers))
+    Ok(Some(Column::from_ints(valid, numbers)))
 }

@@ -1,13 +1,16 @@
-//! Texts: CSV read into frames. The grammar of CSV and the text of NDJSON are given on.
+//! CSV read into frames. Re-exports the options of `morsel_grammar` and the writer of `morsel_ndjson`.
 #![tactic(auto)]
 
 mod batch;
 mod cells;
 mod choice;
 mod ints;
+mod parts;
 mod place;
 mod plain;
+mod raw_field;
 mod read;
+mod reader;
 mod rows;
 mod split;
 mod text;

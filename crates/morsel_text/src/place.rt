@@ -9,11 +9,12 @@ ghost use Rattle.morsel_grammar.specs.Reading.{reading, row_place};
 ghost use Rattle.morsel_text.specs.RawFields.{shown};
 ghost use Rattle.morsel_text.specs.RowPlaces.{IsKind, SkipsTo, skip_len};
 
-use morsel_grammar::CsvOptions;
+use crate::raw_field::RawField;
 use crate::rows::is_empty;
-use crate::split::{RawField, Split, split_record};
+use crate::split::{Split, split_record};
 use crate::text::is_text;
 use morsel_frame::Schema;
+use morsel_grammar::CsvOptions;
 use morsel_meaning::Fault;
 use std::alloc::Global;
 
@@ -29,14 +30,12 @@ pub enum RowKind {
 
 /// A record that was passed.
 pub enum Skip<'a> {
-    /// A row, and this behind it.
+    /// A row, and then this.
     Row(&'a [u8]),
-    /// No row, this behind it, and whether the header is still to come.
+    /// No row, then this, and whether the header is still to come.
     Other(&'a [u8], bool),
     /// The record is refused.
     Refused,
-    /// There was no memory.
-    NoMemory,
 }
 
 /// What a record of fields is to the rows of so many columns.
@@ -64,33 +63,33 @@ fn skip_record<'a>(
     schema: &Schema,
     options: &CsvOptions,
     fields: &mut Vec<RawField<'a>>,
-) -> Skip<'a>
+) -> Result<Skip<'a>, Fault>
     requires { 0 < length text.now }
-    ensures value { SkipsTo options.now (kinds_of schema.now) head at text.now result }
-    ensures within { skip_len result ≤ length text.now }
+    ensures value { IfOk result (λ skip. SkipsTo options.now (kinds_of schema.now) head at text.now skip) }
+    ensures within { IfOk result (λ skip. skip_len skip ≤ length text.now) }
+    ensures out_of_memory { IsOkUnless result Fault.OutOfMemory }
 {
-    match split_record(text, options, fields) {
+    match split_record(text, options, fields)? {
         Split::Fields(rest) => {
             if !is_text(&text[..text.len() - rest.len()]) {
-                return Skip::Refused;
+                return Ok(Skip::Refused);
             }
             if head {
-                return Skip::Other(rest, is_empty(fields.as_slice()));
+                return Ok(Skip::Other(rest, is_empty(fields.as_slice())));
             }
             match row_kind(fields.as_slice(), schema.len()) {
-                RowKind::Row => Skip::Row(rest),
-                RowKind::NoRow => Skip::Other(rest, false),
-                RowKind::Misfit => Skip::Refused,
+                RowKind::Row => Ok(Skip::Row(rest)),
+                RowKind::NoRow => Ok(Skip::Other(rest, false)),
+                RowKind::Misfit => Ok(Skip::Refused),
             }
         }
         Split::Comment(rest) => {
             if !is_text(&text[..text.len() - rest.len()]) {
-                return Skip::Refused;
+                return Ok(Skip::Refused);
             }
-            Skip::Other(rest, head)
+            Ok(Skip::Other(rest, head))
         }
-        Split::Broken => Skip::Refused,
-        Split::NoMemory => Skip::NoMemory,
+        Split::Broken => Ok(Skip::Refused),
     }
 }
 
@@ -113,13 +112,13 @@ pub fn place_of_row(
     let mut fields = Vec::new(alloc);
     let mut rest = bytes;
     let mut place = at;
-    let mut still = head;
+    let mut awaits_header = head;
     let mut before = row;
     for _ in 0..bytes.len() {
         if rest.is_empty() {
             return Ok(None);
         }
-        match skip_record(rest, place, still, schema, options, &mut fields) {
+        match skip_record(rest, place, awaits_header, schema, options, &mut fields)? {
             Skip::Row(after) => {
                 if before == 0 {
                     return Ok(Some(place));
@@ -127,16 +126,15 @@ pub fn place_of_row(
                 before -= 1;
                 place += (rest.len() - after.len()) as u64;
                 rest = after;
-                still = false;
+                awaits_header = false;
                 continue;
             }
             Skip::Other(after, head) => {
                 place += (rest.len() - after.len()) as u64;
                 rest = after;
-                still = head;
+                awaits_header = head;
             }
             Skip::Refused => return Ok(None),
-            Skip::NoMemory => return Err(Fault::OutOfMemory),
         }
     }
     Ok(None)

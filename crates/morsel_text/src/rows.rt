@@ -1,18 +1,19 @@
 //! Records into rows of columns.
-ghost use Rattle.std.specs.Prelude.{◌≡◌, length, map};
+ghost use Rattle.std.specs.Prelude.{◌≡◌, length, map, IfOk, IsOkUnless};
 ghost use Rattle.morsel_text.specs.RawFields.{shown};
 ghost use Rattle.morsel_grammar.specs.Grammar.{Fields};
 ghost use Rattle.morsel_grammar.specs.Rows.{is_empty, row_of, row_of_nothing};
 ghost use Rattle.morsel_text.specs.Pushes.{with_fields, PushesFields, AreTexts, column_kinds, PushesRow};
 
-use morsel_grammar::CsvOptions;
 use crate::cells::{Pushed, push_cell};
-use crate::split::RawField;
+use crate::raw_field::RawField;
 use morsel_frame::Column;
+use morsel_grammar::CsvOptions;
+use morsel_meaning::Fault;
 
 /// What came of putting a record into columns.
 pub enum RowPushed {
-    /// The record is a row, which stands there.
+    /// The record is a row, which is there.
     Row,
     /// The record is no row.
     NoRow,
@@ -20,8 +21,6 @@ pub enum RowPushed {
     Misfit,
     /// A used field does not fit its column's type.
     Bad,
-    /// There was no memory.
-    NoMemory,
 }
 
 /// Puts each field into its column, where that is used.
@@ -31,25 +30,25 @@ fn push_fields(
     used: &[bool],
     options: &CsvOptions,
     content: &mut Vec<u8>,
-) -> Pushed
+) -> Result<Pushed, Fault>
     requires used { length used.now ≡ length columns.old.items }
     requires fields { length fields.now ≡ length columns.old.items }
     requires texts { AreTexts (map shown fields.now) }
-    ensures { PushesFields (with_fields options.now used.now columns.old.items (map shown fields.now))
-        result columns.new.items }
+    ensures fields { IfOk result (λ pushed. PushesFields (with_fields options.now used.now columns.old.items (map shown fields.now))
+        pushed columns.new.items) }
+    ensures out_of_memory { IsOkUnless result Fault.OutOfMemory }
 {
     for at in 0..fields.len() {
         if !used[at] {
             continue;
         }
         let column = &mut columns[at];
-        match push_cell(column, fields[at], options, content) {
+        match push_cell(column, fields[at], options, content)? {
             Pushed::Done => {}
-            Pushed::Bad => return Pushed::Bad,
-            Pushed::NoMemory => return Pushed::NoMemory,
+            Pushed::Bad => return Ok(Pushed::Bad),
         }
     }
-    Pushed::Done
+    Ok(Pushed::Done)
 }
 
 /// Whether a record has no bytes.
@@ -67,22 +66,21 @@ pub fn is_empty(fields: &[RawField<'_>]) -> bool
 }
 
 /// Puts the row of a record without bytes: one null where there is one column.
-fn push_nothing(columns: &mut Vec<Column>, used: &[bool]) -> RowPushed
+fn push_nothing(columns: &mut Vec<Column>, used: &[bool]) -> Result<RowPushed, Fault>
     requires { length used.now ≡ length columns.old.items }
-    ensures { PushesRow (row_of_nothing (column_kinds columns.old.items)) used.now
-        columns.old.items result columns.new.items }
+    ensures row { IfOk result (λ pushed. PushesRow (row_of_nothing (column_kinds columns.old.items)) used.now
+        columns.old.items pushed columns.new.items) }
+    ensures out_of_memory { IsOkUnless result Fault.OutOfMemory }
 {
     if columns.len() != 1 {
-        return RowPushed::NoRow;
+        return Ok(RowPushed::NoRow);
     }
     if !used[0] {
-        return RowPushed::Row;
+        return Ok(RowPushed::Row);
     }
     let column = &mut columns[0];
-    let Ok(()) = column.push_null() else {
-        return RowPushed::NoMemory;
-    };
-    RowPushed::Row
+    column.push_null()?;
+    Ok(RowPushed::Row)
 }
 
 /// Puts a record of fields.
@@ -92,22 +90,22 @@ pub fn push_record(
     used: &[bool],
     options: &CsvOptions,
     content: &mut Vec<u8>,
-) -> RowPushed
+) -> Result<RowPushed, Fault>
     requires used { length used.now ≡ length columns.old.items }
     requires texts { AreTexts (map shown fields.now) }
-    ensures { PushesRow
+    ensures row { IfOk result (λ pushed. PushesRow
         (row_of options.now (column_kinds columns.old.items) (Fields (map shown fields.now))) used.now
-        columns.old.items result columns.new.items }
+        columns.old.items pushed columns.new.items) }
+    ensures out_of_memory { IsOkUnless result Fault.OutOfMemory }
 {
     if is_empty(fields) {
         return push_nothing(columns, used);
     }
     if fields.len() != columns.len() {
-        return RowPushed::Misfit;
+        return Ok(RowPushed::Misfit);
     }
-    match push_fields(columns, fields, used, options, content) {
-        Pushed::Done => RowPushed::Row,
-        Pushed::Bad => RowPushed::Bad,
-        Pushed::NoMemory => RowPushed::NoMemory,
+    match push_fields(columns, fields, used, options, content)? {
+        Pushed::Done => Ok(RowPushed::Row),
+        Pushed::Bad => Ok(RowPushed::Bad),
     }
 }

@@ -1,80 +1,37 @@
-//! Records of a CSV text, split into fields that lend the text.
-ghost use Rattle.std.specs.Prelude.{◌≡◌, ◌==◌, ◌||◌, ◌+◌, not, ◌∷◌, ℕ, ◌<◌, ◌≤◌, false, MatchOption, Option, Some, List, length, take, drop, IfSome, option_copied, OnOk};
+//! Records of a CSV text, split into fields that are slices of it.
+//!
+//! Out of memory is an `AllocError` here and for each number (`ints`): it has no content, where a `Fault` may own a name,
+//! which would make the loops over records and cells pass more on.
+ghost use Rattle.std.specs.Prelude.{◌≡◌, ◌==◌, ◌+◌, not, ◌≤◌, length, take, drop, IfSome, IfOk, IsOkUnless, option_copied, OnOk};
 ghost use Rattle.std.specs.List.{prefix_len};
 ghost use Rattle.morsel_grammar.specs.Options.{AreOptions};
-ghost use Rattle.morsel_grammar.specs.Grammar.{CsvField};
-ghost use Rattle.morsel_grammar.specs.Split.{plain_at, quoted_at, in_quotes, field_at, fields_then, returned, last_field, behind_front, line_at, begins};
-ghost use Rattle.morsel_text.specs.RawFields.{IsRun, PassedTo, content_of, shown, shown_found, rest_of, next_of, next_len, FieldsAre, SplitsInto, split_len};
+ghost use Rattle.morsel_grammar.specs.Split.{plain_at, quoted_at, in_quotes, field_at, line_at};
+ghost use Rattle.morsel_text.specs.RawFields.{IsRun, PassedTo, content_of, shown_found, rest_of, FieldsAre, SplitsInto, split_len};
 
 mod line;
 
-use morsel_grammar::CsvOptions;
+use crate::parts::{Next, behind_front, following, stops, strip};
+use crate::raw_field::{RawField, last};
 use line::split_short;
 use memchr::memchr;
-use morsel_meaning::Fault;
+use morsel_grammar::CsvOptions;
+use std::alloc::AllocError;
 use std::simd::prelude::*;
 
 /// How many bytes are looked at at once.
 const LANES: usize = 16;
 
-/// A field as it stands in the text.
-#[derive(Clone, Copy)]
-pub enum RawField<'a> {
-    /// A field without quotes.
-    Plain(&'a [u8]),
-    /// What stands between quotes, where it has no quote.
-    Quoted(&'a [u8]),
-    /// The text behind an opening quote, where the content has quotes, and the quote.
-    Doubled(&'a [u8], u8),
-}
-
-/// What follows a field.
-pub enum Next<'a> {
-    /// A separator, and this behind it.
-    Field(&'a [u8]),
-    /// The end of the record, and this behind it.
-    End(&'a [u8]),
-    /// Neither.
-    Broken,
-}
-
 /// What a text begins with.
 pub enum Split<'a> {
-    /// A record of fields, and this behind it.
+    /// A record of fields, and then this.
     Fields(&'a [u8]),
-    /// A comment, and this behind it.
+    /// A comment, and then this.
     Comment(&'a [u8]),
     /// No record.
     Broken,
-    /// There was no memory for the fields.
-    NoMemory,
 }
 
-/// Whether a field without quotes ends before this byte.
-#[inline(always)]
-fn stops(b: u8, separator: u8, eol: u8) -> bool
-    ensures { result ≡ (b == separator || b == eol) }
-{
-    b == separator || b == eol
-}
-
-/// What stands behind this byte, where the text begins with it.
-#[inline(always)]
-fn strip(text: &[u8], byte: u8) -> Option<&[u8]>
-    ensures value { MatchOption result (begins byte text.now ≡ false)
-        (λ rest. text.now ≡ byte ∷ rest.now) }
-    ensures within { IfSome result (λ rest. length rest.now < length text.now) }
-{
-    if text.is_empty() {
-        return None;
-    }
-    if text[0] != byte {
-        return None;
-    }
-    Some(&text[1..])
-}
-
-/// How many of 16 bytes stand before the first that is this one.
+/// How many of 16 bytes come before the first that is this one.
 #[inline(always)]
 fn lane_len(lane: u8x16, byte: u8) -> usize
     ensures { result ≡ prefix_len (λ b. not (b == byte)) lane }
@@ -86,7 +43,7 @@ fn lane_len(lane: u8x16, byte: u8) -> usize
     found.trailing_zeros() as usize
 }
 
-/// How many of the 16 bytes from a place stand before the first separator or eol.
+/// How many of the 16 bytes from a place come before the first separator or eol.
 #[inline(always)]
 fn run_len(text: &[u8], at: usize, separator: u8, eol: u8) -> usize
     requires { at + LANES ≤ length text.now }
@@ -98,7 +55,7 @@ fn run_len(text: &[u8], at: usize, separator: u8, eol: u8) -> usize
     if fields < lines { fields } else { lines }
 }
 
-/// How many bytes stand before the next separator or eol, where those before a place are none.
+/// How many bytes come before the next separator or eol, where those before a place are neither.
 fn plain_len_from(text: &[u8], from: usize, options: &CsvOptions) -> usize
     requires within { from ≤ length text.now }
     requires passed { PassedTo options.now text.now from }
@@ -115,7 +72,7 @@ fn plain_len_from(text: &[u8], from: usize, options: &CsvOptions) -> usize
     text.len()
 }
 
-/// How many bytes stand before the next separator or eol.
+/// How many bytes come before the next separator or eol.
 #[inline(always)]
 fn plain_len(text: &[u8], options: &CsvOptions) -> usize
     ensures within { result ≤ length text.now }
@@ -134,7 +91,7 @@ fn plain_len(text: &[u8], options: &CsvOptions) -> usize
     plain_len_from(text, at, options)
 }
 
-/// What stands behind the closing quote of a text that begins behind an opening one.
+/// What follows the closing quote of a text that begins after an opening one.
 fn behind_quotes(text: &[u8], quote: u8) -> Option<&[u8]>
     ensures value { option_copied result ≡ rest_of (quoted_at quote text.now) }
     ensures within { IfSome result (λ rest. length rest.now ≤ length text.now) }
@@ -148,17 +105,17 @@ fn behind_quotes(text: &[u8], quote: u8) -> Option<&[u8]>
             rest = &rest[1..];
             continue;
         };
-        let Some(behind) = strip(after, quote) else {
+        let Some(next) = strip(after, quote) else {
             return Some(after);
         };
-        rest = behind;
+        rest = next;
     }
     None
 }
 
-/// Takes the content of a quoted field, from the text behind its opening quote; nothing where it is not closed.
-pub fn unquote(text: &[u8], quote: u8, content: &mut Vec<u8>) -> Result<(), Fault>
-    ensures ok { OnOk result (content.new.items ≡ content_of (quoted_at quote text.now)) }
+/// Takes the content of a quoted field from the text after its opening quote; no content where it is not closed.
+pub fn unquote(text: &[u8], quote: u8, content: &mut Vec<u8>) -> Result<(), AllocError>
+    ensures { OnOk result (content.new.items ≡ content_of (quoted_at quote text.now)) }
 {
     content.clear();
     let mut rest = text;
@@ -172,17 +129,17 @@ pub fn unquote(text: &[u8], quote: u8, content: &mut Vec<u8>) -> Result<(), Faul
             rest = &rest[1..];
             continue;
         };
-        let Some(behind) = strip(after, quote) else {
+        let Some(next) = strip(after, quote) else {
             return Ok(());
         };
         content.push(quote)?;
-        rest = behind;
+        rest = next;
     }
     content.clear();
     Ok(())
 }
 
-/// The field behind an opening quote.
+/// The field after an opening quote.
 fn quoted(text: &[u8], quote: u8) -> Option<(RawField<'_>, &[u8])>
     ensures value { shown_found result ≡ in_quotes (quoted_at quote text.now) }
     ensures within { IfSome result (λ found. length found.1.now ≤ length text.now) }
@@ -194,10 +151,10 @@ fn quoted(text: &[u8], quote: u8) -> Option<(RawField<'_>, &[u8])>
     let Some(_) = strip(rest, quote) else {
         return Some((RawField::Quoted(&text[..at]), rest));
     };
-    let Some(behind) = behind_quotes(text, quote) else {
+    let Some(next) = behind_quotes(text, quote) else {
         return None;
     };
-    Some((RawField::Doubled(text, quote), behind))
+    Some((RawField::Doubled(text, quote), next))
 }
 
 /// The field that the text begins with.
@@ -216,114 +173,37 @@ fn field<'a>(text: &'a [u8], options: &CsvOptions) -> Option<(RawField<'a>, &'a 
     Some((RawField::Plain(&text[..len]), &text[len..]))
 }
 
-/// What follows a field.
-#[inline(always)]
-fn following<'a>(text: &'a [u8], options: &CsvOptions) -> Next<'a>
-    ensures value { (f : CsvField) (more : List ℕ → Option (List CsvField × List ℕ)) →
-        fields_then options.now (Some (f, text.now)) more ≡ next_of options.now f more result }
-    ensures within { next_len result ≤ length text.now }
-{
-    if text.is_empty() {
-        return Next::End(text);
-    }
-    let first = text[0];
-    if first == options.separator() {
-        return Next::Field(&text[1..]);
-    }
-    if first == options.eol() {
-        return Next::End(&text[1..]);
-    }
-    if first != 13 || options.eol() != 10 {
-        return Next::Broken;
-    }
-    returned(&text[1..], options)
-}
-
-/// What follows a byte 13 behind a closing quote.
-fn returned<'a>(text: &'a [u8], options: &CsvOptions) -> Next<'a>
-    ensures value { (f : CsvField) (more : List ℕ → Option (List CsvField × List ℕ)) →
-        returned options.now f text.now ≡ next_of options.now f more result }
-    ensures within { next_len result ≤ length text.now }
-{
-    if text.is_empty() {
-        return Next::End(text);
-    }
-    if text[0] == options.eol() {
-        return Next::End(&text[1..]);
-    }
-    Next::Broken
-}
-
-/// A record's last field without the byte 13 that belongs to the record's end.
-#[inline(always)]
-fn last<'a>(field: RawField<'a>, options: &CsvOptions) -> RawField<'a>
-    ensures { shown result ≡ last_field options.now (shown field.entry) }
-{
-    let RawField::Plain(text) = field else {
-        return field;
-    };
-    if options.eol() != 10 {
-        return field;
-    }
-    if text.is_empty() {
-        return field;
-    }
-    if text[text.len() - 1] != 13 {
-        return field;
-    }
-    RawField::Plain(&text[..text.len() - 1])
-}
-
 /// Splits the record that the text begins with into its fields.
 fn split_fields<'a>(
     text: &'a [u8],
     options: &CsvOptions,
     fields: &mut Vec<RawField<'a>>,
-) -> Split<'a>
-    ensures value { FieldsAre options.now text.now fields.new.items result }
-    ensures within { split_len result ≤ length text.now }
+) -> Result<Split<'a>, AllocError>
+    ensures value { IfOk result (λ split. FieldsAre options.now text.now fields.new.items split) }
+    ensures within { IfOk result (λ split. split_len split ≤ length text.now) }
 {
     fields.clear();
     let mut rest = text;
     for _ in 0..text.len() + 1 {
         let Some((raw, after)) = field(rest, options) else {
-            return Split::Broken;
+            return Ok(Split::Broken);
         };
         match following(after, options) {
-            Next::Field(behind) => {
-                let Ok(()) = fields.push(raw) else {
-                    return Split::NoMemory;
-                };
-                rest = behind;
+            Next::Field(next) => {
+                fields.push(raw)?;
+                rest = next;
             }
-            Next::End(behind) => {
-                let Ok(()) = fields.push(last(raw, options)) else {
-                    return Split::NoMemory;
-                };
-                return Split::Fields(behind);
+            Next::End(next) => {
+                fields.push(last(raw, options))?;
+                return Ok(Split::Fields(next));
             }
-            Next::Broken => return Split::Broken,
+            Next::Broken => return Ok(Split::Broken),
         }
     }
-    Split::Broken
+    Ok(Split::Broken)
 }
 
-/// What stands behind a front.
-fn behind_front<'a>(text: &'a [u8], front: &[u8]) -> Option<&'a [u8]>
-    ensures value { option_copied result ≡ behind_front front.now text.now }
-    ensures within { IfSome result (λ rest. length rest.now ≤ length text.now) }
-{
-    let mut rest = text;
-    for b in front {
-        let Some(behind) = strip(rest, *b) else {
-            return None;
-        };
-        rest = behind;
-    }
-    Some(rest)
-}
-
-/// What stands behind the line that the text begins with.
+/// What follows the line that the text begins with.
 fn behind_line(text: &[u8], eol: u8) -> &[u8]
     ensures value { result.now ≡ (line_at eol text.now).1 }
     ensures within { length result.now ≤ length text.now }
@@ -340,18 +220,18 @@ pub fn split_record<'a>(
     text: &'a [u8],
     options: &CsvOptions,
     fields: &mut Vec<RawField<'a>>,
-) -> Split<'a>
-    ensures value { SplitsInto options.now text.now fields.new.items result }
-    ensures within { split_len result ≤ length text.now }
+) -> Result<Split<'a>, AllocError>
+    ensures value { IfOk result (λ split. SplitsInto options.now text.now fields.new.items split) }
+    ensures within { IfOk result (λ split. split_len split ≤ length text.now) }
     ensures fit { AreOptions options.now }
 {
     if let Some(prefix) = options.comment() {
         if let Some(body) = behind_front(text, prefix.as_str().as_bytes()) {
-            return Split::Comment(behind_line(body, options.eol()));
+            return Ok(Split::Comment(behind_line(body, options.eol())));
         }
     }
     if let Some(rest) = split_short(text, options, fields) {
-        return Split::Fields(rest);
+        return Ok(Split::Fields(rest));
     }
     split_fields(text, options, fields)
 }

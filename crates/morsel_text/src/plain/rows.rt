@@ -9,9 +9,9 @@ ghost use Rattle.morsel_grammar.specs.Reading.{used_values};
 ghost use Rattle.morsel_text.specs.Pushes.{AreTexts};
 ghost use Rattle.morsel_text.specs.Plain.{cell_in, cells_with, values_in, GivesRow};
 
-use morsel_grammar::CsvOptions;
 use crate::plain::records::{PlainField, is_empty};
 use morsel_frame::Schema;
+use morsel_grammar::CsvOptions;
 use morsel_meaning::{ColType, Fault, Name, Value};
 use std::alloc::Global;
 use std::str::from_utf8_unchecked;
@@ -26,8 +26,6 @@ pub enum PlainRow {
     Misfit,
     /// A row with a field in a used column that does not fit its type.
     Bad,
-    /// There was no memory.
-    NoMemory,
 }
 
 /// The row of a record of fields.
@@ -37,39 +35,38 @@ pub fn row(
     schema: &Schema,
     used: &[bool],
     options: &CsvOptions,
-) -> PlainRow
+) -> Result<PlainRow, Fault>
     requires used { length used.now ≡ length schema.now }
     requires texts { AreTexts fields.now }
-    ensures { GivesRow (row_of options.now (kinds_of schema.now) (Fields fields.now)) used.now result }
+    ensures row { IfOk result (λ row. GivesRow (row_of options.now (kinds_of schema.now) (Fields fields.now)) used.now row) }
+    ensures out_of_memory { IsOkUnless result Fault.OutOfMemory }
 {
     if is_empty(fields) {
         return row_of_nothing(alloc, used);
     }
     if fields.len() != schema.len() {
-        return PlainRow::Misfit;
+        return Ok(PlainRow::Misfit);
     }
-    match values(alloc, fields, schema, used, options) {
-        Ok(Some(values)) => PlainRow::Row(values),
-        Ok(None) => PlainRow::Bad,
-        Err(_) => PlainRow::NoMemory,
+    match values(alloc, fields, schema, used, options)? {
+        Some(values) => Ok(PlainRow::Row(values)),
+        None => Ok(PlainRow::Bad),
     }
 }
 
 /// The row of a record without bytes: one null where there is one column.
-fn row_of_nothing(alloc: Global, used: &[bool]) -> PlainRow
-    ensures { (kinds : List ColType) → length used.now ≡ length kinds → GivesRow (row_of_nothing kinds) used.now result }
+fn row_of_nothing(alloc: Global, used: &[bool]) -> Result<PlainRow, Fault>
+    ensures row { IfOk result (λ row. (kinds : List ColType) → length used.now ≡ length kinds → GivesRow (row_of_nothing kinds) used.now row) }
+    ensures out_of_memory { IsOkUnless result Fault.OutOfMemory }
 {
     if used.len() != 1 {
-        return PlainRow::NoRow;
+        return Ok(PlainRow::NoRow);
     }
     let mut values = Vec::new(alloc);
     if !used[0] {
-        return PlainRow::Row(values);
+        return Ok(PlainRow::Row(values));
     }
-    let Ok(()) = values.push(Value::Null) else {
-        return PlainRow::NoMemory;
-    };
-    PlainRow::Row(values)
+    values.push(Value::Null)?;
+    Ok(PlainRow::Row(values))
 }
 
 /// The values of the fields in used columns, unless one does not fit its type.
@@ -121,7 +118,7 @@ fn cell(
     }
 }
 
-/// What stands for a field that does not fit its type.
+/// The value of a field that does not fit its type: null where errors are ignored, and otherwise none.
 fn misfit(options: &CsvOptions) -> Option<Value>
     ensures { cell_or_bad options.now.ignore_errors None ≡ cell_in result }
 {

@@ -2,12 +2,11 @@
 ghost use Rattle.std.specs.Prelude.{◌≡◌, ◌==◌, ◌<◌, ◌≤◌, ◌+◌, IfSome, length, drop};
 ghost use Rattle.morsel_grammar.specs.Options.{AreOptions};
 ghost use Rattle.morsel_grammar.specs.Split.{is_quote};
-ghost use Rattle.morsel_text.specs.RawFields.{FieldsAre};
+ghost use Rattle.morsel_text.specs.RawFields.{AreRawFields};
 ghost use Rattle.morsel_text.specs.Lines.{IsPlainLine, Marks};
-ghost use Rattle.morsel_text.specs.declared.split.Split.TheVariants as splits;
 
+use crate::raw_field::{RawField, last};
 use morsel_grammar::CsvOptions;
-use crate::split::{RawField, last};
 use std::simd::prelude::*;
 
 /// How many bytes are looked at at once.
@@ -15,7 +14,7 @@ const LANES: usize = 64;
 
 /// Splits the record that the text begins with into its fields, where it has no quote and ends within 64 bytes.
 ///
-/// `None` also comes for a text of fewer than 64 bytes, and where memory is short. The fields then say nothing.
+/// `None` is also the answer for a text of fewer than 64 bytes, and out of memory. The fields then say nothing.
 #[inline(always)]
 pub fn split_short<'a>(
     text: &'a [u8],
@@ -23,7 +22,7 @@ pub fn split_short<'a>(
     fields: &mut Vec<RawField<'a>>,
 ) -> Option<&'a [u8]>
     requires { AreOptions options.now }
-    ensures value { IfSome result (λ rest. FieldsAre options.now text.now fields.new.items (splits.Fields rest)) }
+    ensures value { IfSome result (λ rest. AreRawFields options.now text.now fields.new.items rest.now) }
     ensures within { IfSome result (λ rest. length rest.now ≤ length text.now) }
 {
     if text.len() < LANES {
@@ -73,7 +72,7 @@ fn split_line<'a>(
     requires short { len < LANES }
     requires line { IsPlainLine options.now text.now len }
     requires marked { Marks (λ b. b == options.now.separator) text.now LANES separators }
-    ensures value { IfSome result (λ rest. FieldsAre options.now text.now fields.new.items (splits.Fields rest)) }
+    ensures value { IfSome result (λ rest. AreRawFields options.now text.now fields.new.items rest.now) }
     ensures within { IfSome result (λ rest. length rest.now ≤ length text.now) }
 {
     fields.clear();
@@ -85,7 +84,7 @@ fn split_line<'a>(
         let Ok(()) = fields.push(RawField::Plain(&rest[..at])) else {
             return None;
         };
-        rest = behind(rest, at);
+        rest = rest_after(rest, at);
         left -= at + 1;
         marks >>= at + 1;
         at = marks.trailing_zeros() as usize;
@@ -93,12 +92,12 @@ fn split_line<'a>(
     let Ok(()) = fields.push(last(RawField::Plain(&rest[..left]), options)) else {
         return None;
     };
-    Some(behind(rest, left))
+    Some(rest_after(rest, left))
 }
 
-/// What stands behind the byte at a place.
+/// What follows the byte at a place.
 #[inline(always)]
-fn behind(text: &[u8], at: usize) -> &[u8]
+fn rest_after(text: &[u8], at: usize) -> &[u8]
     requires { at < length text.now }
     ensures { result.now ≡ drop (at + 1) text.now }
 {

@@ -21,5 +21,5 @@ loop-at-preserved c =
       kinds = kinds_set c.loop-at.columns.items c.loop-at.at column c.append_rows.new.self (sym c.index_mut-column.ensures.value) (ap (λ x. x.kind) c.in_ok-append_rows.ensures.ok) ∙ c.loop-at.invariant.kinds;
     }
 
-pub returns : goal.returns
-returns c = all_appended c.loop-at.columns.items c.args.made.now c.args.columns.now.items c.loop-at.at _ (omega arith) c.loop-at.invariant.so_far
+pub returns-clause-ok : goal.returns-clause-ok
+returns-clause-ok c = all_appended c.loop-at.columns.items c.args.made.now c.args.columns.now.items c.loop-at.at _ (omega arith) c.loop-at.invariant.so_far

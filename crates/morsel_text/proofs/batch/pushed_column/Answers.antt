@@ -6,4 +6,4 @@ pub push_cell-requires : goal.push_cell-requires
 push_cell-requires c = raw_text c.args.fields.now c.loop-field.field-index _ c.requires c.loop-field-test.true
 
 pub loop-field-preserved : goal.loop-field-preserved
-loop-field-preserved c = column_more c.args.options.now c.args.kind c.args.fields.now c.loop-field.field-index _ c.loop-field.column c.push_cell.new.column c.loop-field.invariant c.loop-field-test.true c.in-Done.ensures
+loop-field-preserved c = column_more c.args.options.now c.args.kind c.args.fields.now c.loop-field.field-index _ c.loop-field.column c.push_cell.new.column c.loop-field.invariant c.loop-field-test.true (rw c.in-Done.is at c.in_ok-push_cell.ensures.cell)

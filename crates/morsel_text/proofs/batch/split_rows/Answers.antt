@@ -13,19 +13,19 @@ pub loop-row-preserved : goal.loop-row-preserved
 loop-row-preserved c =
     let fields = c.as_slice-in-Fields.result.now in
     let rest = c.loop-row.rest.now in
-    let behind = c.in-Fields.behind.now in
+    let after = c.in-Fields.after.now in
     let o = c.args.options.now in
     let fit = c.split_record.ensures.fit in
-    let found = shown_record o rest behind _ fields c.as_slice-in-Fields.ensures.value c.in-Fields.ensures.value in
+    let found = shown_record o rest after _ fields c.as_slice-in-Fields.ensures.value (rw c.in-Fields.is at c.in_ok-after.ensures.value) in
     let some : 0 < length rest = search rules in
-    let cut = text_behind o rest behind (Fields (map shown fields)) fit (some_bytes rest 0 some) found c.loop-row.invariant.utf8 in
+    let cut = text_behind o rest after (Fields (map shown fields)) fit (some_bytes rest 0 some) found c.loop-row.invariant.utf8 in
     let columns = c.loop-row.batch.items in
-    let spreads = c.in_ok-spread-in-Fields.ensures in
+    let spreads = c.in_ok-spread-in-Fields.ensures.ok in
     record {
-      so_far = batch_more o c.args.text.now rest behind c.args.batch.now.items columns c.spread.new.batch.items c.loop-row.row fields c.loop-row.invariant.so_far
+      so_far = batch_more o c.args.text.now rest after c.args.batch.now.items columns c.spread.new.batch.items c.loop-row.row fields c.loop-row.invariant.so_far
           found cut.2 (search rules) (ap (λ fs. is_empty (map shown fs)) (c.as_slice-in-Fields.ensures.value ∙ sym c.as_slice.ensures.value) ∙ sym c.is_empty-in-Fields.ensures ∙ c.if-is_empty-2.false) spreads;
       width = ap length spreads ∙ length-spread columns fields ∙ c.loop-row.invariant.width;
       utf8 = cut.1;
       texts = Rattle.std.proofs.Common.subst Rattle.morsel_text.specs.Batches.AreTextColumns (sym spreads)
-          (spread_texts columns fields c.loop-row.invariant.texts (record_texts o rest behind (map shown fields) fit found (IsUtf8-from_is_utf8 _ cut.0)));
+          (spread_texts columns fields c.loop-row.invariant.texts (record_texts o rest after (map shown fields) fit found (IsUtf8-from_is_utf8 _ cut.0)));
     }

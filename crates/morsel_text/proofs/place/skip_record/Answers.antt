@@ -15,6 +15,6 @@ returns-in-Row-clause-value c =
     let row = c.in-Row.ensures c.args.options.now ks (length-map c.args.schema.now _ ∙ sym c.len.ensures.len) in (
       row.0,
       λ n. skip_row n c.args.options.now ks c.args.head c.args.at c.args.text.now c.in-Fields.rest.now (Fields (map shown fields)) (IsRow row.0) c.requires
-          (shown_record c.args.options.now c.args.text.now c.in-Fields.rest.now _ fields c.as_slice-in-Fields.ensures.value c.in-Fields.ensures.value)
+          (shown_record c.args.options.now c.args.text.now c.in-Fields.rest.now _ fields c.as_slice-in-Fields.ensures.value (rw c.in-Fields.is at c.in_ok-rest.ensures.value))
           (sym c.is_text.ensures ∙ c.if-not-is_text.false) c.if-head.false row.1,
     )

@@ -11,7 +11,7 @@ invariant-loop l =
     record {
       so_far : PlainSo (left (length l.fn.bytes) l.reader.options.now kinds l.reader.used.now l.fn.head l.fn.at l.fn.bytes)
           (length l.fn.columns.items) (column_kinds l.fn.columns.items) l.height l.columns.items
-          (left (length l.fn.bytes - l.counter) l.reader.options.now kinds l.reader.used.now l.still l.place l.rest);
+          (left (length l.fn.bytes - l.counter) l.reader.options.now kinds l.reader.used.now l.awaits_header l.place l.rest);
       places : l.place + length l.rest ≡ l.fn.at + length l.fn.bytes;
       height : l.height ≤ l.counter;
     }

@@ -9,14 +9,14 @@ use Rattle.morsel_text.proofs.plain.read_frame.Goals as goal
 
 pub read_all-requires-clause-kinds : goal.read_all-requires-clause-kinds
 read_all-requires-clause-kinds c =
-    ap column_kinds c.in-Ok-columns_of.ensures.ok ∙ kinds-empty c.in-Ok-new.chosen ∙ ap kinds_of (c.in-Ok-new.ensures.ok ∙ c.in-Ok.ensures.ok)
+    ap column_kinds c.in_ok-columns.ensures.ok ∙ kinds-empty _ ∙ ap kinds_of c.in_ok-chosen.ensures.ok
     ∙ kinds_of-chosen c.args.reader.now.used.now c.args.reader.now.schema.now
 
 pub read_all-requires-clause-empty : goal.read_all-requires-clause-empty
-read_all-requires-clause-empty c = subst (λ (cs : List Values). AreHigh 0 cs) (sym c.in-Ok-columns_of.ensures.ok) (high-none c.in-Ok-new.chosen)
+read_all-requires-clause-empty c = subst (λ (cs : List Values). AreHigh 0 cs) (sym c.in_ok-columns.ensures.ok) (high-none _)
 
-pub new-requires-in-Ok-read_all : goal.new-requires-in-Ok-read_all
-new-requires-in-Ok-read_all c =
-    let all = c.in-Ok-read_all.ensures in
-    fit-all c.in-Ok-new.chosen c.in-Ok-read_all.height c.read_all.new.columns.items
-    (all.4 ∙ ap column_kinds c.in-Ok-columns_of.ensures.ok ∙ kinds-empty c.in-Ok-new.chosen) all.3
+pub new-requires : goal.new-requires
+new-requires c =
+    let all = c.in_ok-height.ensures in
+    fit-all _ _ c.read_all.new.columns.items
+    (all.4 ∙ ap column_kinds c.in_ok-columns.ensures.ok ∙ kinds-empty _) all.3

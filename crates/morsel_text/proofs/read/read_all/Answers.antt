@@ -1,5 +1,6 @@
 use Rattle.std.proofs.Common.{◌-◌, ◌∙◌, sym, refl, arith, rules, length}
 use Rattle.std.proofs.lemmas.Str.{IsUtf8-from_is_utf8}
+use Rattle.std.proofs.lemmas.Result.{err_from_is_err_and}
 use Rattle.morsel_text.specs.Pushes.{column_kinds}
 use Rattle.morsel_text.specs.Steps.{left}
 use Rattle.morsel_text.proofs.StepLemmas.{read_start, step_refused}
@@ -9,30 +10,31 @@ use Rattle.morsel_text.proofs.read.read_all.Goals as goal
 pub loop-init : goal.loop-init
 loop-init c =
     let ks = column_kinds c.args.columns.now.items in
-    let total = left (length c.args.bytes.now) c.args.setting.now.options.now ks c.args.setting.now.used.now c.args.head c.args.at c.args.bytes.now in
+    let total = left (length c.args.bytes.now) c.args.reader.now.options.now ks c.args.reader.now.used.now c.args.head c.args.at c.args.bytes.now in
     record {
-      so_far = read_start total c.args.setting.now.used.now c.args.columns.now.items c.requires.empty c.requires.used;
+      so_far = read_start total c.args.reader.now.used.now c.args.columns.now.items c.requires.empty c.requires.used;
       places = refl;
       height = omega arith;
       short = omega arith;
       utf8 = λ known. IsUtf8-from_is_utf8 c.args.bytes.now (sym c.is_text-is_utf8.ensures ∙ known);
     }
 
-pub returns-in-Err : goal.returns-in-Err
-returns-in-Err c =
+pub returns-in_err-step : goal.returns-in_err-step
+returns-in_err-step c =
     let ks = column_kinds c.args.columns.now.items in
     let n = length c.loop.rest.now in
-    step_refused c.args.setting.now.file _ c.args.setting.now.used.now ks c.args.setting.now.options.now (n - 1) n c.loop.height c.loop.place
-    c.loop.still c.loop.rest.now c.loop.columns.items c.in-Err.fault (search rules) c.loop.invariant.so_far c.in-Err.ensures.turns
+    let p = err_from_is_err_and c.from_residual.result c.from_residual.ensures.1 in
+    rw (p.1, p.2) (step_refused c.args.reader.now.file _ c.args.reader.now.used.now ks c.args.reader.now.options.now (n - 1) n c.loop.height c.loop.place
+    c.loop.awaits_header c.loop.rest.now c.loop.columns.items _ (search rules) c.loop.invariant.so_far c.in_err-step.ensures.turns)
 
 pub loop-preserved : goal.loop-preserved
 loop-preserved c =
     let ks = column_kinds c.args.columns.now.items in
     record {
-      so_far = after_turn _ c.args.setting.now.used.now ks c.args.setting.now.options.now c.args.setting.now.file c.loop.height c.loop.place c.loop.still c.loop.rest.now
-          c.loop.columns.items c.read_turn.new.columns.items c.in-Ok.step c.requires.fit c.in-Ok.ensures.shorter c.loop.invariant.so_far c.in-Ok.ensures.turns;
-      places = omega (arith, c.in-Ok.ensures.shorter);
-      height = omega (arith, c.in-Ok.ensures.room);
-      short = omega (arith, c.in-Ok.ensures.shorter);
-      utf8 = λ known. c.in-Ok.ensures.utf8 (c.loop.invariant.utf8 known);
+      so_far = after_turn _ c.args.reader.now.used.now ks c.args.reader.now.options.now c.args.reader.now.file c.loop.height c.loop.place c.loop.awaits_header c.loop.rest.now
+          c.loop.columns.items c.read_turn.new.columns.items c.in_ok-step.step c.requires.fit c.in_ok-step.ensures.shorter c.loop.invariant.so_far c.in_ok-step.ensures.turns;
+      places = omega (arith, c.in_ok-step.ensures.shorter);
+      height = omega (arith, c.in_ok-step.ensures.room);
+      short = omega (arith, c.in_ok-step.ensures.shorter);
+      utf8 = λ known. c.in_ok-step.ensures.utf8 (c.loop.invariant.utf8 known);
     }

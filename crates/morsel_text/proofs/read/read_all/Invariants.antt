@@ -9,8 +9,8 @@ abbrev pub invariant-loop : goal.invariant-loop
 invariant-loop l =
     let ks = column_kinds l.fn.columns.items in
     record {
-      so_far : ReadSo (left (length l.fn.bytes) l.setting.options.now ks l.setting.used.now l.fn.head l.fn.at l.fn.bytes) l.setting.used.now ks l.height l.columns.items
-          (left (length l.rest) l.setting.options.now ks l.setting.used.now l.still l.place l.rest);
+      so_far : ReadSo (left (length l.fn.bytes) l.reader.options.now ks l.reader.used.now l.fn.head l.fn.at l.fn.bytes) l.reader.used.now ks l.height l.columns.items
+          (left (length l.rest) l.reader.options.now ks l.reader.used.now l.awaits_header l.place l.rest);
       places : l.place + length l.rest ≡ l.fn.at + length l.fn.bytes;
       height : l.height + length l.rest ≤ length l.fn.bytes;
       short : length l.rest + l.counter ≤ length l.fn.bytes;

@@ -5,5 +5,5 @@ use Rattle.morsel_text.proofs.read.read_row.Goals as goal
 
 pub returns-in-Row : goal.returns-in-Row
 returns-in-Row c =
-    let row = c.in-Row.ensures in
-    (Some row.1, (refl, row.4, row.5), row_read c.args.setting.now.used.now c.args.at _ row.0 row.1 row.2 row.3)
+    let row = rw c.in-Row.is at c.in_ok-push_record.ensures.row in
+    (Some row.1, (refl, row.4, row.5), row_read c.args.reader.now.used.now c.args.at _ row.0 row.1 row.2 row.3)

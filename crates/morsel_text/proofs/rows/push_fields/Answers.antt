@@ -1,5 +1,5 @@
 use Rattle.std.proofs.Common.{◌∙◌, sym, arith, rules, []}
-use Rattle.morsel_text.specs.declared.split.RawField.TheVariants as raws
+use Rattle.morsel_text.specs.declared.raw_field.RawField.TheVariants as raws
 use Rattle.morsel_text.proofs.RowLemmas.{raw_put, raw_bad, raw_skip, raw_text}
 use Rattle.morsel_text.proofs.rows.push_fields.Goals as goal
 
@@ -13,15 +13,15 @@ loop-at-preserved-then-not-used-at c = record {
 pub push_cell-requires : goal.push_cell-requires
 push_cell-requires c = raw_text c.args.fields.now c.loop-at.at _ c.requires.texts c.loop-at-test.true
 
-pub returns-in-Bad : goal.returns-in-Bad
-returns-in-Bad c =
+pub returns-in-Bad-clause-fields : goal.returns-in-Bad-clause-fields
+returns-in-Bad-clause-fields c =
     sym c.loop-at.invariant.so_far
     ∙ raw_bad c.args.options.now c.args.used.now c.loop-at.columns.items c.args.fields.now c.loop-at.at c.index_mut-column.result.now _
-    (omega arith) (omega arith) c.loop-at-test.true c.if-not-used-at.false c.index_mut-column.ensures.value c.in-Bad.ensures
+    (omega arith) (omega arith) c.loop-at-test.true c.if-not-used-at.false c.index_mut-column.ensures.value (rw c.in-Bad.is at c.in_ok-push_cell.ensures.cell)
 
 pub loop-at-preserved : goal.loop-at-preserved
 loop-at-preserved c = record {
   so_far = raw_put c.args.options.now c.args.used.now c.loop-at.columns.items c.args.fields.now c.loop-at.at c.index_mut-column.result.now c.push_cell.new.column _
-      (omega arith) (omega arith) c.loop-at-test.true c.if-not-used-at.false c.index_mut-column.ensures.value c.in-Done.ensures ∙ c.loop-at.invariant.so_far;
+      (omega arith) (omega arith) c.loop-at-test.true c.if-not-used-at.false c.index_mut-column.ensures.value (rw c.in-Done.is at c.in_ok-push_cell.ensures.cell) ∙ c.loop-at.invariant.so_far;
   width = search rules;
 }

@@ -1,6 +1,6 @@
 use Rattle.std.proofs.Common.{◌≡◌, ◌≤◌, ◌+◌, length}
 use Rattle.morsel_grammar.specs.Split.{quoted_at}
-use Rattle.morsel_text.specs.Plain.{with_content}
+use Rattle.morsel_text.proofs.SplitLemmas.{with_content}
 use Rattle.morsel_text.proofs.plain.records.quoted.Given as goal
 
 abbrev pub invariant-loop : goal.invariant-loop

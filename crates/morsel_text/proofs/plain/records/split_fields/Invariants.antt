@@ -1,6 +1,6 @@
 use Rattle.std.proofs.Common.{◌≡◌, ◌≤◌, ◌+◌, ◌-◌, length}
 use Rattle.morsel_grammar.specs.Split.{fields_up_to}
-use Rattle.morsel_text.specs.Plain.{with_front}
+use Rattle.morsel_text.specs.RawFields.{with_front}
 use Rattle.morsel_text.proofs.plain.records.split_fields.Given as goal
 
 abbrev pub invariant-loop : goal.invariant-loop

@@ -1,5 +1,6 @@
 use Rattle.std.proofs.Common.{◌≡◌, ◌∙◌, length, sym, ap}
 use Rattle.std.proofs.lemmas.List.{length-map}
+use Rattle.std.proofs.lemmas.Result.{IfOk-weaker}
 use Rattle.morsel_meaning.specs.declared.value.Field.{Field}
 use Rattle.morsel_meaning.specs.Values.{kinds_of}
 use Rattle.morsel_grammar.specs.Grammar.{Fields}
@@ -8,31 +9,32 @@ use Rattle.morsel_grammar.proofs.OneEndLemmas.{row_of-other}
 use Rattle.morsel_text.proofs.PlainLemmas.{row_of-filled, gives_nothing}
 use Rattle.morsel_text.proofs.plain.rows.row.Goals as goal
 
-pub returns-then-is_empty : goal.returns-then-is_empty
-returns-then-is_empty c =
+pub returns-then-is_empty-clause-row : goal.returns-then-is_empty-clause-row
+returns-then-is_empty-clause-row c =
     let kinds = kinds_of c.args.schema.now in
-    gives_nothing c.args.options.now kinds c.args.used.now c.args.fields.now c.row_of_nothing.result (sym c.is_empty.ensures ∙ c.if-is_empty.true)
-    (c.row_of_nothing.ensures kinds (c.requires.used ∙ sym (length-map c.args.schema.now (λ (f : Field). f.kind))))
+    IfOk-weaker c.row_of_nothing.result _ _
+    (λ row gives. gives_nothing c.args.options.now kinds c.args.used.now c.args.fields.now row (sym c.is_empty.ensures ∙ c.if-is_empty.true)
+    (gives kinds (c.requires.used ∙ sym (length-map c.args.schema.now (λ (f : Field). f.kind))))) c.row_of_nothing.ensures.row
 
-pub returns-then-fields-len : goal.returns-then-fields-len
-returns-then-fields-len c =
+pub returns-then-fields-len-clause-row : goal.returns-then-fields-len-clause-row
+returns-then-fields-len-clause-row c =
     row_of-other c.args.options.now (kinds_of c.args.schema.now) (Fields c.args.fields.now)
     (sym c.is_empty.ensures ∙ c.if-is_empty.false, λ same. c.if-fields-len.true (same ∙ length-map c.args.schema.now (λ (f : Field). f.kind) ∙ sym c.len.ensures.len))
 
-pub returns-in-Ok-Some : goal.returns-in-Ok-Some
-returns-in-Ok-Some c =
+pub returns-in-Some-clause-row : goal.returns-in-Some-clause-row
+returns-in-Some-clause-row c =
     let kinds = kinds_of c.args.schema.now in
     let same : length c.args.fields.now ≡ length kinds = c.if-fields-len.false ∙ c.len.ensures.len ∙ sym (length-map c.args.schema.now (λ (f : Field). f.kind)) in (
       cells_with c.args.options.now kinds c.args.fields.now,
       row_of-filled c.args.options.now kinds c.args.fields.now (sym c.is_empty.ensures ∙ c.if-is_empty.false) same,
-      c.in-Ok-Some.ensures.value ∙ ap values_in c.in-Ok-Some.field-0-is,
+      c.in_ok-values.ensures.value ∙ ap values_in c.in-Some.is,
     )
 
-pub returns-in-Ok-None : goal.returns-in-Ok-None
-returns-in-Ok-None c =
+pub returns-in-None-clause-row : goal.returns-in-None-clause-row
+returns-in-None-clause-row c =
     let kinds = kinds_of c.args.schema.now in
     let same : length c.args.fields.now ≡ length kinds = c.if-fields-len.false ∙ c.len.ensures.len ∙ sym (length-map c.args.schema.now (λ (f : Field). f.kind)) in (
       cells_with c.args.options.now kinds c.args.fields.now,
       row_of-filled c.args.options.now kinds c.args.fields.now (sym c.is_empty.ensures ∙ c.if-is_empty.false) same,
-      c.in-Ok-None.ensures.value ∙ ap values_in c.in-Ok-None.field-0-is,
+      c.in_ok-values.ensures.value ∙ ap values_in c.in-None.is,
     )

@@ -19,12 +19,12 @@ loop-at-preserved c =
     let pushed : length c.push.new.self.items ≡ length items + 1 = omega (arith, simp length-append at (ap length c.in-Ok.ensures.items)) in
     record {
       short = omega arith;
-      line = rw c.behind-rest.ensures (line_behind o rest c.loop-at.left (at + 1) c.loop-at.invariant.line (omega arith));
-      marked = rw c.behind-rest.ensures (marks_behind (λ b. b == o.separator) rest c.loop-at.left c.loop-at.marks (at + 1) c.loop-at.invariant.marked (omega arith));
+      line = rw c.rest_after-rest.ensures (line_behind o rest c.loop-at.left (at + 1) c.loop-at.invariant.line (omega arith));
+      marked = rw c.rest_after-rest.ensures (marks_behind (λ b. b == o.separator) rest c.loop-at.left c.loop-at.marks (at + 1) c.loop-at.invariant.marked (omega arith));
       lowest = refl;
-      within = omega (arith, ap length c.behind-rest.ensures, length-drop (at + 1) rest, c.loop-at.invariant.line.within);
-      found = ap (λ k. with_front (map shown c.push.new.self.items) (fields_up_to (n - k) o c.behind-rest.result.now)) pushed
-          ∙ ap (λ r. with_front (map shown c.push.new.self.items) (fields_up_to (n - (length items + 1)) o r)) c.behind-rest.ensures
+      within = omega (arith, ap length c.rest_after-rest.ensures, length-drop (at + 1) rest, c.loop-at.invariant.line.within);
+      found = ap (λ k. with_front (map shown c.push.new.self.items) (fields_up_to (n - k) o c.rest_after-rest.result.now)) pushed
+          ∙ ap (λ r. with_front (map shown c.push.new.self.items) (fields_up_to (n - (length items + 1)) o r)) c.rest_after-rest.ensures
           ∙ ap (λ fs. with_front fs more) (shown-push items _ _ (plain (take at rest)) c.in-Ok.ensures.items refl)
           ∙ sym (separated o front rest n (length items) c.loop-at.left c.loop-at.marks at (omega arith) c.loop-at.invariant.line c.loop-at.invariant.marked
           c.loop-at.auto.marks-fits.fits c.loop-at.invariant.lowest c.loop-at-test.true c.loop-at.invariant.short)
@@ -42,4 +42,4 @@ returns-clause-value c =
     c.loop-at.invariant.marked c.loop-at.auto.marks-fits.fits (omega arith)
     ∙ ap (λ (fs : List CsvField). let found : List CsvField × List ℕ = (fs, drop (left + 1) rest) in Some found)
     (sym (shown-push items _ _ _ c.in-Ok-push.ensures.items c.last.ensures))
-    ∙ ap (λ (r : List ℕ). let found : List CsvField × List ℕ = (map shown c.push-2.new.self.items, r) in Some found) (sym c.behind.ensures)
+    ∙ ap (λ (r : List ℕ). let found : List CsvField × List ℕ = (map shown c.push-2.new.self.items, r) in Some found) (sym c.rest_after.ensures)

@@ -1,6 +1,6 @@
 use Rattle.std.proofs.Common.{◌≡◌, ◌≤◌, length, drop}
 use Rattle.morsel_grammar.specs.Split.{behind_front}
-use Rattle.morsel_text.proofs.split.behind_front.Given as goal
+use Rattle.morsel_text.proofs.parts.behind_front.Given as goal
 
 abbrev pub invariant-loop-b : goal.invariant-loop-b
 invariant-loop-b l = record {
