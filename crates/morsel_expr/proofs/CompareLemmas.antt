@@ -14,7 +14,7 @@ use Rattle.morsel_expr.specs.declared.truth.Truth.TheVariants.{Unknown}
 use Rattle.morsel_expr.specs.declared.node.CmpOp.{CmpOp}
 use Rattle.morsel_expr.specs.Truths.{certain}
 use Rattle.morsel_expr.specs.Predicates.{is_null, holds, asserted, compared, compared_pairs}
-use Rattle.morsel_expr.specs.Answers.{answer, answers_of, answered, answered_pairs}
+use Rattle.morsel_expr.specs.OrderTruths.{answer, answers_of, answered, answered_pairs}
 
 -- the marks are those of the values that are no nulls
 pub marks-masked : {X : Type 0} (make : X → Value) → ((x : X) → is_null (make x) ≡ false) → (valid : List Bool) (xs : List X) → length xs ≡ length valid → map (λ v. not (is_null v)) (masked valid (map make xs)) ≡ valid
