@@ -1,7 +1,7 @@
 -- Answers of marked items, one more at a time.
-use Rattle.std.proofs.Common.{◌≡◌, ℕ, zero, suc, ◌+◌, ◌<◌, ◌≤◌, Bool, false, if◌then◌else◌, List, [], ◌∷◌, ◌++◌, length, map, take, get_or, refl, ap, ◌∙◌, arith}
+use Rattle.std.proofs.Common.{◌≡◌, ℕ, ◌+◌, ◌<◌, ◌≤◌, Bool, false, if◌then◌else◌, List, [], ◌∷◌, ◌++◌, length, map, take, get_or, ap, ◌∙◌, arith}
 use Rattle.std.specs.List.{zip}
-use Rattle.std.proofs.lemmas.List.{take_more, take_all, length-map}
+use Rattle.std.proofs.lemmas.List.{take_more, take_all, length-map, get_or-map}
 use Rattle.std.proofs.lemmas.Slice.Zip.{length-zip, get_or-zip}
 use Rattle.morsel_meaning.specs.declared.value.Value.{Value}
 use Rattle.morsel_meaning.specs.declared.value.Value.TheVariants as values
@@ -14,12 +14,7 @@ use Rattle.morsel_expr.specs.OrderTruths.{answer, answered, answer_of_pair, answ
 map-more : {X Y : Type 0} (f : X → Y) (xs : List X) (n : ℕ) (d : X) → n < length xs → take (n + 1) (map f xs) ≡ take n (map f xs) ++ f (get_or xs n d) ∷ []
 map-more f xs n d within =
     take_more (map f xs) n (f d) (omega (arith, length-map xs f))
-    ∙ ap (λ y. take n (map f xs) ++ y ∷ []) (place f xs n d)
-  where
-    place : {X Y : Type 0} (f : X → Y) (xs : List X) (n : ℕ) (d : X) → get_or (map f xs) n (f d) ≡ f (get_or xs n d)
-    place f [] n d = refl
-    place f (x ∷ xs) zero d = refl
-    place f (x ∷ xs) (suc n) d = place f xs n d
+    ∙ ap (λ y. take n (map f xs) ++ y ∷ []) (get_or-map f xs n d (f d) within)
 
 -- no more answers than marks
 pub answered_all : (answers : OrderTruths) (by : Value) (valid : List Bool) (texts : List (List ℕ)) (n : ℕ) → length valid ≤ n → take n (answered values.Text answers by valid texts) ≡ answered values.Text answers by valid texts
