@@ -1,49 +1,29 @@
 -- A task finishes at most once, and only after it was taken.
-use Rattle.std.proofs.Common.{◌≡◌, ℕ, zero, suc, ◌+◌, ◌<◌, ◌≤◌, Bool, true, false, ◌||◌, cond, Option, None, Some, is_none, is_some, List, [], ◌∷◌, length, get_or, set, count_by, refl, sym, ap, ◌∙◌, subst, ◌⊎◌, inl, inr, arith, get_or-set_same}
+use Rattle.std.proofs.Common.{◌≡◌, ℕ, ◌+◌, ◌≤◌, Bool, true, false, ◌||◌, not, cond, Option, None, Some, is_none, is_some, List, [], ◌∷◌, get_or, set, count_by, refl, sym, ap, ◌∙◌, subst, ◌⊎◌, inl, inr, arith, get_or-set_same}
 use Rattle.std.specs.List.{list_any}
-use Rattle.std.proofs.lemmas.Bool.{false≢true, or_left, or_right, and_parts, eqb-true, eq-eqb, cases_Bool, false_from_ne_true}
-use Rattle.std.proofs.lemmas.List.Sums.{sum_by-cons}
+use Rattle.std.proofs.lemmas.Bool.{false≢true, or_left, or_right, and_parts, eqb-true, eq-eqb, cases_Bool, false_from_ne_true, not-true}
 use Rattle.morsel_meaning.specs.declared.task.TaskNo.{TaskNo}
 use Rattle.morsel_exec.specs.declared.machine.TaskAt.{TaskAt}
-use Rattle.morsel_exec.specs.declared.machine.TaskAt.TheVariants.{Idle, Queued, Polling, PolledPending, Notified, Finished, Cancelled}
+use Rattle.morsel_exec.specs.declared.machine.TaskAt.TheVariants.{Finished}
 use Rattle.morsel_exec.specs.declared.machine.Event.{Event}
 use Rattle.morsel_exec.specs.declared.machine.Event.TheVariants.{Spawn, Take, Register, Pend, EndTurn, Finish, Cancel, MakeReady, Spend, Wake, DeliverWake}
 use Rattle.morsel_exec.specs.Machine.{State, task_at, is_queued, is_polled, is_pending, is_live, allowed, pended, turned, delivered, after, opening, run, made, is_take_of, is_finish_of}
-use Rattle.morsel_exec.proofs.MachineLemmas.{written_at, replicate_at}
+use Rattle.morsel_exec.proofs.MachineLemmas.{written_at, replicate_at, place_within}
+use Rattle.morsel_exec.proofs.CountLemmas.{count-cons}
+use Rattle.morsel_exec.proofs.PlaceLemmas.{passes_each, implied}
 
 -- between its `Take` and the end of its turn
 abbrev turning : Option TaskAt → Bool
 turning at = is_polled at || is_pending at
 
 pended_turning : (at : Option TaskAt) → turning (pended at) ≡ true → turning at ≡ true
-pended_turning None h = h
-pended_turning (Some Idle) h = h
-pended_turning (Some Queued) h = h
-pended_turning (Some Polling) h = refl
-pended_turning (Some PolledPending) h = h
-pended_turning (Some Notified) h = h
-pended_turning (Some Finished) h = h
-pended_turning (Some Cancelled) h = h
+pended_turning = implied (λ at. turning (pended at)) turning refl
 
 turned_turning : (at : Option TaskAt) → turning (turned at) ≡ true → turning at ≡ true
-turned_turning None h = h
-turned_turning (Some Idle) h = h
-turned_turning (Some Queued) h = h
-turned_turning (Some Polling) h = h
-turned_turning (Some PolledPending) h = refl
-turned_turning (Some Notified) h = refl
-turned_turning (Some Finished) h = h
-turned_turning (Some Cancelled) h = h
+turned_turning = implied (λ at. turning (turned at)) turning refl
 
 delivered_turning : (at : Option TaskAt) → turning (delivered at) ≡ true → turning at ≡ true
-delivered_turning None h = h
-delivered_turning (Some Idle) h = absurd (false≢true h)
-delivered_turning (Some Queued) h = h
-delivered_turning (Some Polling) h = refl
-delivered_turning (Some PolledPending) h = refl
-delivered_turning (Some Notified) h = h
-delivered_turning (Some Finished) h = h
-delivered_turning (Some Cancelled) h = h
+delivered_turning = implied (λ at. turning (delivered at)) turning refl
 
 -- a task that is turning after a write was so before, or it is the one that was written and is so by that
 turning_before : (tasks : List (Option TaskAt)) (i : ℕ) (at : Option TaskAt) (t : ℕ) → turning (get_or (set tasks i at) t None) ≡ true → (turning (get_or tasks t None) ≡ true) ⊎ ((t ≡ i) × (turning at ≡ true))
@@ -114,78 +94,24 @@ unfinished (Some Finished) = false
 unfinished _ = true
 
 queued_unfinished : (at : Option TaskAt) → is_queued at ≡ true → unfinished at ≡ true
-queued_unfinished None h = refl
-queued_unfinished (Some Idle) h = refl
-queued_unfinished (Some Queued) h = refl
-queued_unfinished (Some Polling) h = refl
-queued_unfinished (Some PolledPending) h = refl
-queued_unfinished (Some Notified) h = refl
-queued_unfinished (Some Finished) h = h
-queued_unfinished (Some Cancelled) h = refl
+queued_unfinished = implied is_queued unfinished refl
 
 live_unfinished : (at : Option TaskAt) → is_live at ≡ true → unfinished at ≡ true
-live_unfinished None h = refl
-live_unfinished (Some Idle) h = refl
-live_unfinished (Some Queued) h = refl
-live_unfinished (Some Polling) h = refl
-live_unfinished (Some PolledPending) h = refl
-live_unfinished (Some Notified) h = refl
-live_unfinished (Some Finished) h = h
-live_unfinished (Some Cancelled) h = refl
+live_unfinished = implied is_live unfinished refl
 
 polled_unfinished : (at : Option TaskAt) → is_polled at ≡ true → unfinished at ≡ true
-polled_unfinished None h = refl
-polled_unfinished (Some Idle) h = refl
-polled_unfinished (Some Queued) h = refl
-polled_unfinished (Some Polling) h = refl
-polled_unfinished (Some PolledPending) h = refl
-polled_unfinished (Some Notified) h = refl
-polled_unfinished (Some Finished) h = h
-polled_unfinished (Some Cancelled) h = refl
+polled_unfinished = implied is_polled unfinished refl
 
 none_unfinished : (at : Option TaskAt) → is_none at ≡ true → unfinished at ≡ true
-none_unfinished None h = refl
-none_unfinished (Some at) h = absurd (false≢true h)
+none_unfinished = implied (λ at. is_none at) unfinished refl
 
 polled_some : (at : Option TaskAt) → is_polled at ≡ true → is_some at ≡ true
-polled_some None h = h
-polled_some (Some at) h = refl
+polled_some = implied is_polled (λ at. is_some at) refl
 
-some_within : (tasks : List (Option TaskAt)) (t : ℕ) → is_some (get_or tasks t None) ≡ true → t < length tasks
-some_within [] t h = absurd (false≢true h)
-some_within (x ∷ xs) zero h = omega arith
-some_within (x ∷ xs) (suc t) h = let later = some_within xs t h in omega arith
-
--- what leaves a finished task so
-pended_finished : (at : Option TaskAt) → unfinished at ≡ false → unfinished (pended at) ≡ false
-pended_finished None h = h
-pended_finished (Some Idle) h = h
-pended_finished (Some Queued) h = h
-pended_finished (Some Polling) h = h
-pended_finished (Some PolledPending) h = h
-pended_finished (Some Notified) h = h
-pended_finished (Some Finished) h = h
-pended_finished (Some Cancelled) h = h
-
-turned_finished : (at : Option TaskAt) → unfinished at ≡ false → unfinished (turned at) ≡ false
-turned_finished None h = h
-turned_finished (Some Idle) h = h
-turned_finished (Some Queued) h = h
-turned_finished (Some Polling) h = h
-turned_finished (Some PolledPending) h = h
-turned_finished (Some Notified) h = absurd (false≢true (sym h))
-turned_finished (Some Finished) h = h
-turned_finished (Some Cancelled) h = h
-
-delivered_finished : (at : Option TaskAt) → unfinished at ≡ false → unfinished (delivered at) ≡ false
-delivered_finished None h = h
-delivered_finished (Some Idle) h = h
-delivered_finished (Some Queued) h = h
-delivered_finished (Some Polling) h = h
-delivered_finished (Some PolledPending) h = h
-delivered_finished (Some Notified) h = h
-delivered_finished (Some Finished) h = h
-delivered_finished (Some Cancelled) h = h
+-- what leaves a finished task so at each place does so everywhere
+stays_finished : (f : Option TaskAt → Option TaskAt) → passes_each (λ at. not (not (unfinished at)) || not (unfinished (f at))) ≡ true → (at : Option TaskAt) → unfinished at ≡ false → unfinished (f at) ≡ false
+stays_finished f all at was =
+    not-true (unfinished (f at)) (implied (λ at. not (unfinished at)) (λ at. not (unfinished (f at))) all at (ap not was))
 
 -- a finished task stays so over a write, if what is written over it is finished
 finished_kept : (tasks : List (Option TaskAt)) (i : ℕ) (at : Option TaskAt) (t : ℕ) → (unfinished (get_or tasks i None) ≡ false → unfinished at ≡ false) → unfinished (get_or tasks t None) ≡ false → unfinished (get_or (set tasks i at) t None) ≡ false
@@ -199,14 +125,14 @@ event_finished : (event : Event) (s : State) (t : ℕ) → allowed event s ≡ t
 event_finished (Spawn u) s t may h = finished_kept s.tasks u.0 _ t (λ was. absurd (false≢true (sym was ∙ none_unfinished (task_at s u.0) (and_parts _ _ may).1))) h
 event_finished (Take u) s t may h = finished_kept s.tasks u.0 _ t (λ was. absurd (false≢true (sym was ∙ queued_unfinished (task_at s u.0) may))) h
 event_finished (Register u e) s t may h = h
-event_finished (Pend u) s t may h = finished_kept s.tasks u.0 _ t (pended_finished (task_at s u.0)) h
-event_finished (EndTurn u) s t may h = finished_kept s.tasks u.0 _ t (turned_finished (task_at s u.0)) h
+event_finished (Pend u) s t may h = finished_kept s.tasks u.0 _ t (stays_finished pended refl (task_at s u.0)) h
+event_finished (EndTurn u) s t may h = finished_kept s.tasks u.0 _ t (stays_finished turned refl (task_at s u.0)) h
 event_finished (Finish u) s t may h = finished_kept s.tasks u.0 _ t (λ was. refl) h
 event_finished (Cancel u) s t may h = finished_kept s.tasks u.0 _ t (λ was. absurd (false≢true (sym was ∙ live_unfinished (task_at s u.0) may))) h
 event_finished (MakeReady e) s t may h = h
 event_finished (Spend e) s t may h = h
 event_finished (Wake u) s t may h = h
-event_finished (DeliverWake u) s t may h = finished_kept s.tasks u.0 _ t (delivered_finished (task_at s u.0)) h
+event_finished (DeliverWake u) s t may h = finished_kept s.tasks u.0 _ t (stays_finished delivered refl (task_at s u.0)) h
 
 -- a `Finish` of a task comes where it is not finished, and leaves it so
 finish_first : (event : Event) (s : State) (t : ℕ) → allowed event s ≡ true → is_finish_of t event ≡ true → (unfinished (task_at s t) ≡ true) × (unfinished (task_at (after event s) t) ≡ false)
@@ -217,7 +143,7 @@ finish_first (Pend u) s t may h = absurd (false≢true h)
 finish_first (EndTurn u) s t may h = absurd (false≢true h)
 finish_first (Finish u) s t may h =
     let same = eqb-true u.0 t h in
-    let within = some_within s.tasks u.0 (polled_some (task_at s u.0) may) in (
+    let within = place_within (λ at. is_some at) None refl s.tasks u.0 (polled_some (task_at s u.0) may) in (
       subst (λ n. unfinished (task_at s n) ≡ true) same (polled_unfinished (task_at s u.0) may),
       subst (λ n. unfinished (task_at (after (Finish u) s) n) ≡ false) same (ap unfinished (get_or-set_same s.tasks u.0 (Some Finished) None within)),
     )
@@ -226,10 +152,6 @@ finish_first (MakeReady e) s t may h = absurd (false≢true h)
 finish_first (Spend e) s t may h = absurd (false≢true h)
 finish_first (Wake u) s t may h = absurd (false≢true h)
 finish_first (DeliverWake u) s t may h = absurd (false≢true h)
-
--- one more where the test passes
-count-cons : {X : Type 0} (p : X → Bool) (x : X) (xs : List X) (b : Bool) → p x ≡ b → count_by p (x ∷ xs) ≡ cond b 1 0 + count_by p xs
-count-cons p x xs b is = sum_by-cons (λ y. cond (p y) 1 0) x xs ∙ ap (λ v. cond v 1 0 + count_by p xs) is
 
 -- how many a run counts, by its first event
 count_made : (event : Event) (events : List Event) (s : State) (t : ℕ) (may is : Bool) → allowed event s ≡ may → is_finish_of t event ≡ is → count_by (is_finish_of t) (made (event ∷ events) s) ≡ cond may (cond is 1 0 + count_by (is_finish_of t) (made events (after event s))) (count_by (is_finish_of t) (made events s))

@@ -1,3 +1,5 @@
+pub mod CountLemmas
+pub mod PlaceLemmas
 pub mod MachineLemmas
 pub mod FinishLemmas
 pub mod WordLemmas

@@ -5,10 +5,11 @@ use Rattle.std.specs.List.{list_any}
 use Rattle.std.proofs.lemmas.Bool.{false≢true, or_cases, or_left, or_right, and_parts, cases_eq, not-true, eqb-true, eq-eqb, cases_lt, cond_both}
 use Rattle.morsel_meaning.specs.declared.task.TaskNo.{TaskNo}
 use Rattle.morsel_exec.specs.declared.machine.TaskAt.{TaskAt}
-use Rattle.morsel_exec.specs.declared.machine.TaskAt.TheVariants.{Idle, Queued, Polling, PolledPending, Notified, Finished, Cancelled}
+use Rattle.morsel_exec.specs.declared.machine.TaskAt.TheVariants.{Queued, Polling, Finished, Cancelled}
 use Rattle.morsel_exec.specs.declared.machine.End.{End}
 use Rattle.morsel_exec.specs.declared.machine.Event.{Event}
 use Rattle.morsel_exec.specs.declared.machine.Event.TheVariants.{Spawn, Take, Register, Pend, EndTurn, Finish, Cancel, MakeReady, Spend, Wake, DeliverWake}
+use Rattle.morsel_exec.proofs.PlaceLemmas.{passed, implied}
 use Rattle.morsel_exec.specs.Machine.{State, task_at, end_at, quiet, is_woken, is_end, is_idle, is_polling, is_pending, is_notified, is_live, names, is_awaited_by, is_registered, is_waiting, is_free, is_open, allowed, pended, turned, delivered, with_task_at, with_wake, after, stepped, opening, is_active, Held, Sound, run}
 
 -- ---- lists
@@ -53,6 +54,12 @@ any-set_or p (x ∷ xs) (suc i) v d some =
       | inr later ↦ elim (any-set_or p xs i v d later) [ inl there ↦ inl there | inr other ↦ inr (or_right (p x) _ other) ]
     ]
 
+-- what passes a test that the default does not pass has a place below the length
+pub place_within : {X : Type 0} (p : X → Bool) (d : X) → p d ≡ false → (xs : List X) (i : ℕ) → p (get_or xs i d) ≡ true → i < length xs
+place_within p d none [] i h = absurd (false≢true (sym none ∙ h))
+place_within p d none (x ∷ xs) zero h = omega arith
+place_within p d none (x ∷ xs) (suc i) h = let later = place_within p d none xs i h in omega arith
+
 -- ---- where a task stands
 
 -- idle, or pending after its poll
@@ -61,63 +68,28 @@ rests at = is_idle at || is_pending at
 
 -- a live task that is active, or waits where it rests, is not lost
 not_lost : (at : Option TaskAt) (waiting : Bool) → (rests at ≡ true → waiting ≡ true) → is_live at ≡ true → (is_active at || waiting) ≡ true
-not_lost None waiting at_rest live = absurd (false≢true live)
-not_lost (Some Idle) waiting at_rest live = at_rest refl
-not_lost (Some Queued) waiting at_rest live = refl
-not_lost (Some Polling) waiting at_rest live = refl
-not_lost (Some PolledPending) waiting at_rest live = at_rest refl
-not_lost (Some Notified) waiting at_rest live = refl
-not_lost (Some Finished) waiting at_rest live = absurd (false≢true live)
-not_lost (Some Cancelled) waiting at_rest live = absurd (false≢true live)
+not_lost at waiting at_rest live =
+    elim (or_cases (is_active at) (rests at) (implied is_live (λ at. is_active at || rests at) refl at live)) [
+      | inl active ↦ or_left (is_active at) waiting active
+      | inr resting ↦ or_right (is_active at) waiting (at_rest resting)
+    ]
 
 -- a task that rests is live
 rests_live : (at : Option TaskAt) → rests at ≡ true → is_live at ≡ true
-rests_live None h = absurd (false≢true h)
-rests_live (Some Idle) h = refl
-rests_live (Some Queued) h = absurd (false≢true h)
-rests_live (Some Polling) h = absurd (false≢true h)
-rests_live (Some PolledPending) h = refl
-rests_live (Some Notified) h = absurd (false≢true h)
-rests_live (Some Finished) h = absurd (false≢true h)
-rests_live (Some Cancelled) h = absurd (false≢true h)
+rests_live = implied rests is_live refl
 
 delivered_rests : (at : Option TaskAt) → rests (delivered at) ≡ true → ⊥
-delivered_rests None h = false≢true h
-delivered_rests (Some Idle) h = false≢true h
-delivered_rests (Some Queued) h = false≢true h
-delivered_rests (Some Polling) h = false≢true h
-delivered_rests (Some PolledPending) h = false≢true h
-delivered_rests (Some Notified) h = false≢true h
-delivered_rests (Some Finished) h = false≢true h
-delivered_rests (Some Cancelled) h = false≢true h
+delivered_rests at h = false≢true (sym (not-true (rests (delivered at)) (passed (λ at. not (rests (delivered at))) refl at)) ∙ h)
 
 -- after a poll without a result a task rests only where it waits
 pended_rests : (at : Option TaskAt) (waiting : Bool) → (is_notified at || (is_polling at && waiting)) ≡ true → rests (pended at) ≡ true → waiting ≡ true
-pended_rests None waiting may h = absurd (false≢true h)
-pended_rests (Some Idle) waiting may h = absurd (false≢true may)
-pended_rests (Some Queued) waiting may h = absurd (false≢true may)
-pended_rests (Some Polling) waiting may h = may
-pended_rests (Some PolledPending) waiting may h = absurd (false≢true may)
-pended_rests (Some Notified) waiting may h = absurd (false≢true h)
-pended_rests (Some Finished) waiting may h = absurd (false≢true may)
-pended_rests (Some Cancelled) waiting may h = absurd (false≢true may)
+pended_rests at true may h = refl
+pended_rests at false may h =
+    absurd (false≢true (sym (not-true (rests (pended at)) (implied (λ at. is_notified at || (is_polling at && false)) (λ at. not (rests (pended at))) refl at may)) ∙ h))
 
 -- after its turn a task rests only where it rested
 turned_rests : (at : Option TaskAt) → rests (turned at) ≡ true → rests at ≡ true
-turned_rests None h = h
-turned_rests (Some Idle) h = h
-turned_rests (Some Queued) h = h
-turned_rests (Some Polling) h = h
-turned_rests (Some PolledPending) h = refl
-turned_rests (Some Notified) h = absurd (false≢true h)
-turned_rests (Some Finished) h = h
-turned_rests (Some Cancelled) h = h
-
--- a task that rests has a number below the length
-rests_within : (tasks : List (Option TaskAt)) (t : ℕ) → rests (get_or tasks t None) ≡ true → t < length tasks
-rests_within [] t h = absurd (false≢true h)
-rests_within (x ∷ xs) zero h = omega arith
-rests_within (x ∷ xs) (suc t) h = let later = rests_within xs t h in omega arith
+turned_rests = implied (λ at. rests (turned at)) rests refl
 
 -- ---- from the two facts that are kept, the whole
 
@@ -205,7 +177,7 @@ made_ready_held s e sound = held_from (after (MakeReady e) s)
     (alone-set s.ends e (record { ready = true; waiting = None }) (λ ready. refl) sound.held.ready_alone)
   where
     within : (u : ℕ) → rests (task_at s u) ≡ true → u < length s.wakes
-    within u resting = let below = rests_within s.tasks u resting in let same = sound.places in omega arith
+    within u resting = let below = place_within rests None refl s.tasks u resting in let same = sound.places in omega arith
 
 spent_held : (s : State) (e : ℕ) → (end_at s e).ready ≡ true → Held s → Held (after (Spend e) s)
 spent_held s e ready held = held_from (after (Spend e) s)

@@ -1,21 +1,17 @@
 -- A permutation gives each number below its length once.
-use Rattle.std.proofs.Common.{◌≡◌, ℕ, zero, suc, ◌+◌, ◌*◌, ◌-◌, ◌/◌, ◌%◌, ◌^◌, ◌<◌, ◌≤◌, Bool, true, false, ◌||◌, eqb, ltb, leb, cond, List, [], ◌∷◌, length, map, filter, count_by, refl, sym, ap, ◌∙◌, subst, inl, inr, arith}
+use Rattle.std.proofs.Common.{◌≡◌, ℕ, zero, suc, ◌+◌, ◌*◌, ◌-◌, ◌/◌, ◌%◌, ◌^◌, ◌<◌, ◌≤◌, Bool, true, false, ◌||◌, eqb, ltb, leb, cond, List, [], ◌∷◌, length, map, filter, count_by, refl, sym, ap, ◌∙◌, subst, ◌⊎◌, inl, inr, arith}
 use Rattle.std.specs.Prelude.{bit_or}
 use Rattle.std.proofs.Math.Nat.{mul_comm, pow-le-pow_right}
 use Rattle.std.proofs.lemmas.Nat.{or_mod, div_below, pow-add}
 use Rattle.std.specs.List.{list_any, range_with_len, IsDistinct, AllByRecursion}
 use Rattle.std.proofs.lemmas.Bool.{false≢true, true≢false, eqb-true, eq-eqb, eqb-false, ne_eqb, ltb-true, lt-ltb, ltb-false, le-ltb, leb-true, leb-false, cases_Bool, cases_lt, or_cases, cond-true, cond-false}
 use Rattle.std.proofs.lemmas.List.FromFn.{length-map-range_with_len, get_or-map-range_with_len}
-use Rattle.std.proofs.lemmas.List.Sums.{sum_by-cons}
 use Rattle.std.proofs.lemmas.Map.Keys.{IsDistinct-from_apart, IsDistinct-head, IsDistinct-tail, IsDistinct-cons}
 use Rattle.std.proofs.lemmas.Map.Steps.{length-le_from_distinct_below}
 use Rattle.morsel_exec.specs.declared.permutation.Plan.{Plan}
 use Rattle.morsel_exec.specs.Permutation.{mixed, moved_on, numbers_from, IsLeastWidth, HasEachOnce}
+use Rattle.morsel_exec.proofs.CountLemmas.{count-cons}
 use Rattle.morsel_exec.proofs.MixLemmas.{mixed_below, same_from_mixed}
-
--- one more where the test passes
-count-cons : {X : Type 0} (p : X → Bool) (x : X) (xs : List X) (b : Bool) → p x ≡ b → count_by p (x ∷ xs) ≡ cond b 1 0 + count_by p xs
-count-cons p x xs b is = sum_by-cons (λ y. cond (p y) 1 0) x xs ∙ ap (λ v. cond v 1 0 + count_by p xs) is
 
 -- ---- a list of distinct numbers below n, n of them, has each once
 
@@ -84,47 +80,39 @@ mapped_once f n below apart k within = full_once n k (map f (range_with_len 0 n)
 abbrev source : Plan → ℕ → ℕ
 source p k = cond (leb p.first k) (k - p.first) (k + p.len - p.first)
 
+-- a number is moved on past the end and round, or not as far
+moved_cases : (p : Plan) (n : ℕ) → ((p.len ≤ n + p.first) × (moved_on p n ≡ n + p.first - p.len)) ⊎ ((n + p.first < p.len) × (moved_on p n ≡ n + p.first))
+moved_cases p n = elim (cases_Bool (leb p.len (n + p.first))) [
+  | inl past ↦ inl (leb-true p.len (n + p.first) past, cond-true (leb p.len (n + p.first)) (n + p.first - p.len) (n + p.first) past)
+  | inr before ↦ inr (leb-false p.len (n + p.first) before, cond-false (leb p.len (n + p.first)) (n + p.first - p.len) (n + p.first) before)
+]
+
+source_cases : (p : Plan) (k : ℕ) → ((p.first ≤ k) × (source p k ≡ k - p.first)) ⊎ ((k < p.first) × (source p k ≡ k + p.len - p.first))
+source_cases p k = elim (cases_Bool (leb p.first k)) [
+  | inl up ↦ inl (leb-true p.first k up, cond-true (leb p.first k) (k - p.first) (k + p.len - p.first) up)
+  | inr down ↦ inr (leb-false p.first k down, cond-false (leb p.first k) (k - p.first) (k + p.len - p.first) down)
+]
+
 moved_below : (p : Plan) (n : ℕ) → p.first < p.len → n < p.len → moved_on p n < p.len
-moved_below p n first below = elim (cases_Bool (leb p.len (n + p.first))) [
-  | inl past ↦ let e = cond-true (leb p.len (n + p.first)) (n + p.first - p.len) (n + p.first) past in omega arith
-  | inr before ↦ let e = cond-false (leb p.len (n + p.first)) (n + p.first - p.len) (n + p.first) before in let less = leb-false p.len (n + p.first) before in omega arith
+moved_below p n first below = elim (moved_cases p n) [
+  | inl past ↦ let e = past.1 in omega arith
+  | inr before ↦ let less = before.0 in let e = before.1 in omega arith
 ]
 
 source_is : (p : Plan) (n k : ℕ) → p.first < p.len → n < p.len → k < p.len → (moved_on p n ≡ k → n ≡ source p k) × (n ≡ source p k → moved_on p n ≡ k)
-source_is p n k first below within = elim (cases_Bool (leb p.len (n + p.first))) [
-  | inl past ↦
-      let e = cond-true (leb p.len (n + p.first)) (n + p.first - p.len) (n + p.first) past in
-      let more = leb-true p.len (n + p.first) past in
-      elim (cases_Bool (leb p.first k)) [
-        | inl up ↦
-            let s = cond-true (leb p.first k) (k - p.first) (k + p.len - p.first) up in
-            let up_le = leb-true p.first k up in
-            (λ is. omega arith, λ is. omega arith)
-        | inr down ↦
-            let s = cond-false (leb p.first k) (k - p.first) (k + p.len - p.first) down in
-            let down_lt = leb-false p.first k down in
-            (λ is. omega arith, λ is. omega arith)
-      ]
-  | inr before ↦
-      let e = cond-false (leb p.len (n + p.first)) (n + p.first - p.len) (n + p.first) before in
-      let less = leb-false p.len (n + p.first) before in
-      elim (cases_Bool (leb p.first k)) [
-        | inl up ↦
-            let s = cond-true (leb p.first k) (k - p.first) (k + p.len - p.first) up in
-            let up_le = leb-true p.first k up in
-            (λ is. omega arith, λ is. omega arith)
-        | inr down ↦
-            let s = cond-false (leb p.first k) (k - p.first) (k + p.len - p.first) down in
-            let down_lt = leb-false p.first k down in
-            (λ is. omega arith, λ is. omega arith)
-      ]
+source_is p n k first below within = elim (moved_cases p n) [
+  | inl past ↦ let more = past.0 in let e = past.1 in elim (source_cases p k) [
+    | inl up ↦ let least = up.0 in let s = up.1 in (λ is. omega arith, λ is. omega arith)
+    | inr down ↦ let most = down.0 in let s = down.1 in (λ is. omega arith, λ is. omega arith)
+  ]
+  | inr before ↦ let less = before.0 in let e = before.1 in elim (source_cases p k) [
+    | inl up ↦ let least = up.0 in let s = up.1 in (λ is. omega arith, λ is. omega arith)
+    | inr down ↦ let most = down.0 in let s = down.1 in (λ is. omega arith, λ is. omega arith)
+  ]
 ]
 
 source_below : (p : Plan) (k : ℕ) → p.first < p.len → k < p.len → source p k < p.len
-source_below p k first within = elim (cases_Bool (leb p.first k)) [
-  | inl up ↦ let s = cond-true (leb p.first k) (k - p.first) (k + p.len - p.first) up in omega arith
-  | inr down ↦ let s = cond-false (leb p.first k) (k - p.first) (k + p.len - p.first) down in let less = leb-false p.first k down in omega arith
-]
+source_below p k first within = elim (source_cases p k) [ inl up ↦ let s = up.1 in omega arith | inr down ↦ let less = down.0 in let s = down.1 in omega arith ]
 
 -- what is below the length, moved on
 abbrev kept : Plan → List ℕ → List ℕ

@@ -8,7 +8,7 @@ use Rattle.morsel_exec.specs.declared.machine.End.{End}
 use Rattle.morsel_exec.specs.declared.machine.Event.{Event}
 use Rattle.morsel_exec.specs.declared.machine.Event.TheVariants.{Spawn, Take, Register, Pend, EndTurn, Finish, Cancel, MakeReady, Spend, Wake, DeliverWake}
 
--- Tasks are numbered from 1: place 0 of the two lists of tasks stands for the caller, which is never spawned.
+-- Tasks are numbered from 1: place 0 of the two lists of tasks is the caller, which is never spawned.
 pub record State : Type 0 where
   pub tasks : List (Option TaskAt)  -- where each task stands; none where it was not spawned
   pub ends : List End  -- whether each end is ready, and the task that is registered there
@@ -40,23 +40,27 @@ is_task s t = nat_lt 0 t && nat_lt t (length s.tasks)
 abbrev pub is_end : State → ℕ → Bool
 is_end s e = nat_lt e (length s.ends)
 
--- one test for each place where a task may stand
+-- one test for each place where a task may stand: whether it is idle
 abbrev pub is_idle : Option TaskAt → Bool
 is_idle (Some Idle) = true
 is_idle _ = false
 
+-- whether the right to run it was handed out
 abbrev pub is_queued : Option TaskAt → Bool
 is_queued (Some Queued) = true
 is_queued _ = false
 
+-- whether it is being polled, and was not woken since
 abbrev pub is_polling : Option TaskAt → Bool
 is_polling (Some Polling) = true
 is_polling _ = false
 
+-- whether its poll gave no result, and its turn has not ended
 abbrev pub is_pending : Option TaskAt → Bool
 is_pending (Some PolledPending) = true
 is_pending _ = false
 
+-- whether it was woken before its turn ended
 abbrev pub is_notified : Option TaskAt → Bool
 is_notified (Some Notified) = true
 is_notified _ = false
@@ -169,6 +173,7 @@ opening tasks ends = record { tasks = replicate (tasks + 1) None; ends = replica
 abbrev pub is_active : Option TaskAt → Bool
 is_active at = is_queued at || is_polled at
 
+-- no task is lost in this state
 pub record Held (s : State) : Type 0 where
   -- each live task is queued, polled, notified, registered at an end that is not ready, or named by a wake under way
   pub none_lost : (t : ℕ) → IsTrue (is_live (task_at s t)) → IsTrue (is_active (task_at s t) || is_waiting s t)

@@ -2,6 +2,7 @@
 use Rattle.std.specs.Prelude.{◌≡◌, ℕ, ◌+◌, ◌/◌, ◌%◌, ◌≤◌, Bool, true, false, ◌||◌, ◌==◌, if◌then◌else◌, IsTrue, List, [], ◌∷◌, count_by, bit_and, bit_or, bit_xor}
 use Rattle.std.specs.List.{list_any}
 
+-- what is done to the word: a wake, the start of a run, the end of a turn, and a cancel
 pub data Fetch : Type 0 where
   Wake : Fetch
   Start : Fetch
@@ -32,10 +33,12 @@ hands_out Cancel word = phase word == 0
 
 -- ---- lists of fetches
 
+-- whether the fetch is a start
 abbrev pub is_start : Fetch → Bool
 is_start Start = true
 is_start _ = false
 
+-- whether the fetch is the end of a turn
 abbrev pub is_turn : Fetch → Bool
 is_turn Turn = true
 is_turn _ = false
@@ -74,7 +77,7 @@ RemembersWake =
 abbrev pub RemembersCancel : Type 0
 RemembersCancel = (word : ℕ) (later : List Fetch) → IsCancelled (all_fetched later (fetched Cancel word))
 
--- of two fetches that both hand out the right, a start stands between them
+-- between two fetches that both hand out the right there is a start
 abbrev pub HandsOutOnce : Type 0
 HandsOutOnce =
     (word : ℕ) (first second : Fetch) (between : List Fetch) → IsTrue (hands_out first word)

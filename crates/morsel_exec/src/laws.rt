@@ -2,8 +2,8 @@
 //!
 //! | Bits | Name | The task |
 //! |---|---|---|
-//! | 0 | `IDLE` | waits, and stands in no queue |
-//! | 1 | `SCHEDULED` | stands in a queue, once |
+//! | 0 | `IDLE` | waits, and is in no queue |
+//! | 1 | `SCHEDULED` | is in a queue, once |
 //! | 2 | `RUNNING` | is being polled |
 //! | 3 | `NOTIFIED` | is being polled, and was woken since |
 //! | with 4 | `CANCELLED` | is abandoned when it is next run |
@@ -17,10 +17,10 @@
 ghost use Rattle.std.specs.Prelude.{◌≡◌};
 ghost use Rattle.morsel_exec.specs.Words.{HandsOutOnce, RemembersCancel, RemembersWake, RightsBalance, WakesIdle, Fetch, Wake, Start, Turn, Cancel, fetched, hands_out, phase};
 
-/// The task waits, and stands in no queue.
+/// The task waits, and is in no queue.
 pub const IDLE: u64 = 0;
 
-/// The task stands in a queue.
+/// The task is in a queue.
 pub const SCHEDULED: u64 = 1;
 
 /// The task is being polled.

@@ -137,7 +137,7 @@ fn shift(width: u32) -> u32
     (width / 2).max(1)
 }
 
-/// How many bits the least power of two that is at least `len` has behind its first.
+/// How many bits follow the first in the least power of two that is at least `len`.
 fn least_width(len: u32) -> u32
     requires { len ≤ 2 ^ 31 }
     ensures least { IsLeastWidth len result }

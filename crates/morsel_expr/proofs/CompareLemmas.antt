@@ -3,18 +3,15 @@ use Rattle.std.proofs.Common.{◌≡◌, Bool, true, false, not, if◌then◌els
 use Rattle.std.specs.List.{zip}
 use Rattle.std.specs.declared.cmp.Ordering.{Ordering}
 use Rattle.std.specs.declared.cmp.Ordering.TheVariants as orders
-use Rattle.morsel_meaning.specs.declared.value.ColType.{ColType}
-use Rattle.morsel_meaning.specs.declared.value.ColType.TheVariants as types
 use Rattle.morsel_meaning.specs.declared.value.Value.{Value}
 use Rattle.morsel_meaning.specs.declared.value.Value.TheVariants as values
 use Rattle.morsel_meaning.specs.Order.{value_cmp}
 use Rattle.morsel_frame.specs.Columns.{masked}
-use Rattle.morsel_frame.specs.Tables.{same_kind}
 use Rattle.morsel_expr.specs.declared.truth.Truth.TheVariants.{Unknown}
 use Rattle.morsel_expr.specs.declared.node.CmpOp.{CmpOp}
 use Rattle.morsel_expr.specs.Truths.{certain}
 use Rattle.morsel_expr.specs.Predicates.{is_null, holds, asserted, compared, compared_pairs}
-use Rattle.morsel_expr.specs.Answers.{answer, answers_of, answered, answered_pairs}
+use Rattle.morsel_expr.specs.OrderTruths.{answer, answers_of, answered, answered_pairs}
 
 -- the marks are those of the values that are no nulls
 pub marks-masked : {X : Type 0} (make : X → Value) → ((x : X) → is_null (make x) ≡ false) → (valid : List Bool) (xs : List X) → length xs ≡ length valid → map (λ v. not (is_null v)) (masked valid (map make xs)) ≡ valid
@@ -93,14 +90,3 @@ module _ {X : Type 0} (make : X → Value) (valued : (x : X) → is_null (make x
       ∙ ap (λ ts. compared op (make x) values.Null ∷ ts) (answered_pairs-masked op valid xs other_valid ys)
   answered_pairs-masked op (false ∷ valid) (x ∷ xs) (true ∷ other_valid) (y ∷ ys) = ap (λ ts. Unknown ∷ ts) (answered_pairs-masked op valid xs other_valid ys)
   answered_pairs-masked op (false ∷ valid) (x ∷ xs) (false ∷ other_valid) (y ∷ ys) = ap (λ ts. Unknown ∷ ts) (answered_pairs-masked op valid xs other_valid ys)
-
-pub same_kinds : (a b : ColType) → same_kind a b ≡ true → a ≡ b
-same_kinds types.Int types.Int same = refl
-same_kinds types.Int types.Bool same = cc
-same_kinds types.Int types.Text same = cc
-same_kinds types.Bool types.Int same = cc
-same_kinds types.Bool types.Bool same = refl
-same_kinds types.Bool types.Text same = cc
-same_kinds types.Text types.Int same = cc
-same_kinds types.Text types.Bool same = cc
-same_kinds types.Text types.Text same = refl

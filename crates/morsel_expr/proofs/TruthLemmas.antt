@@ -1,14 +1,9 @@
--- Truths row by row: what functions of rows give, and two lists of truths joined.
+-- Truths row by row: two lists that functions of the rows give, joined or compared.
 use Rattle.std.proofs.Common.{◌≡◌, List, [], ◌∷◌, map, refl, ap}
 use Rattle.std.specs.List.{zip}
 use Rattle.morsel_meaning.specs.declared.value.Value.{Value}
 use Rattle.morsel_expr.specs.declared.node.CmpOp.{CmpOp}
 use Rattle.morsel_expr.specs.Predicates.{compared, compared_pairs}
-
--- a function of what another function gives
-pub map-map : {X Y Z : Type 0} (f : Y → Z) (g : X → Y) (xs : List X) → map f (map g xs) ≡ map (λ x. f (g x)) xs
-map-map f g [] = refl
-map-map f g (x ∷ xs) = ap (λ zs. f (g x) ∷ zs) (map-map f g xs)
 
 -- two functions of each row, side by side
 pub map-zip : {R X Y Z : Type 0} (f : X → Y → Z) (g : R → X) (h : R → Y) (rows : List R) → map (λ (pair : X × Y). f pair.0 pair.1) (zip (map g rows) (map h rows)) ≡ map (λ row. f (g row) (h row)) rows

@@ -37,6 +37,7 @@ kind_of_value (values.Int n) = Some types.Int
 kind_of_value (values.Bool b) = Some types.Bool
 kind_of_value (values.Text t) = Some types.Text
 
+-- the type of the second side of a comparison
 abbrev pub kind_of_side : List Field → Rhs → Option ColType
 kind_of_side fields (sides.Col name) = kind_under fields name
 kind_of_side fields (sides.Lit value) = kind_of_value value
@@ -47,19 +48,20 @@ kinds_fit None b = true
 kinds_fit (Some a) None = true
 kinds_fit (Some a) (Some b) = same_kind a b
 
--- a name that no column has
+-- the fault of a name that no column has
 abbrev pub absence : List Field → List ℕ → Option Fault
 absence fields name = if is_some (place_of fields name) then None else Some (ColumnNotFound name)
 
+-- a second side whose column is absent; a value never is
 abbrev pub absence_of_side : List Field → Rhs → Option Fault
 absence_of_side fields (sides.Col name) = absence fields name
 absence_of_side fields (sides.Lit value) = None
 
--- a column of another type than is wanted
+-- the fault of a column of another type than is wanted
 abbrev pub misfit : List Field → List ℕ → Option ColType → Option Fault
 misfit fields name wanted = if kinds_fit (kind_under fields name) wanted then None else Some (SchemaMismatch name)
 
--- the first name from left to right that no column has
+-- the fault of the first name from left to right that no column has
 abbrev pub first_absence : List Field → PredNode → Option Fault
 first_absence fields (nodes.And' p a q b) = first_fault (first_absence fields a) (first_absence fields b)
 first_absence fields (nodes.Or' p a q b) = first_fault (first_absence fields a) (first_absence fields b)
@@ -69,7 +71,7 @@ first_absence fields (nodes.NotNull name) = absence fields name
 first_absence fields (nodes.Is name) = absence fields name
 first_absence fields (nodes.Cmp op name rhs) = first_fault (absence fields name) (absence_of_side fields rhs)
 
--- the first column from left to right of another type than is wanted
+-- the fault of the first column from left to right of another type than is wanted
 abbrev pub first_misfit : List Field → PredNode → Option Fault
 first_misfit fields (nodes.And' p a q b) = first_fault (first_misfit fields a) (first_misfit fields b)
 first_misfit fields (nodes.Or' p a q b) = first_fault (first_misfit fields a) (first_misfit fields b)

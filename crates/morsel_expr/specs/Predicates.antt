@@ -20,13 +20,14 @@ use Rattle.morsel_expr.specs.declared.node.PredNode.{PredNode}
 use Rattle.morsel_expr.specs.declared.node.PredNode.TheVariants as nodes
 use Rattle.morsel_expr.specs.Truths.{least, greatest, mirror, certain}
 
+-- whether a value is a null
 abbrev pub is_null : Value → Bool
 is_null values.Null = true
 is_null (values.Int n) = false
 is_null (values.Bool b) = false
 is_null (values.Text t) = false
 
--- whether a comparison holds of two values that stand in this order
+-- whether a comparison holds of two values in this order
 abbrev pub holds : CmpOp → Ordering → Bool
 holds ops.Eq order = is_eq order
 holds ops.Ne order = not (is_eq order)
@@ -56,6 +57,7 @@ asserted (values.Text t) = Unknown
 abbrev pub place_of : List Field → List ℕ → Option ℕ
 place_of fields name = position (λ field. bytes_eq field.name name) fields
 
+-- the value of a row at the place of a column, and a null where there is no such column
 abbrev pub value_at_place : Option ℕ → Row → Value
 value_at_place None row = values.Null
 value_at_place (Some at) row = cell_at at row

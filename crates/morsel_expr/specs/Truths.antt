@@ -30,6 +30,7 @@ abbrev pub certain : Bool → Truth
 certain true = True
 certain false = False
 
+-- whether a truth is true, and neither false nor unknown
 abbrev pub is_true : Truth → Bool
 is_true False = false
 is_true Unknown = false

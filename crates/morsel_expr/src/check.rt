@@ -1,7 +1,6 @@
 //! Whether a predicate fits a schema.
 ghost use Rattle.std.specs.Prelude.{◌≡◌, Some, IfOk};
 ghost use Rattle.morsel_frame.specs.Refusals.{Refuses, first_fault};
-ghost use Rattle.morsel_frame.specs.Tables.{same_kind};
 ghost use Rattle.morsel_expr.specs.Flaws.{flaw, first_absence, first_misfit, absence, absence_of_side, misfit, kind_under, kind_of_value, kind_of_side, kinds_fit};
 
 use crate::{PredNode, Rhs};
@@ -136,18 +135,7 @@ fn fits(kind: Option<ColType>, wanted: Option<ColType>) -> bool
     ensures { result ≡ kinds_fit kind wanted }
 {
     match (kind, wanted) {
-        (Some(kind), Some(wanted)) => is_same(kind, wanted),
+        (Some(kind), Some(wanted)) => kind == wanted,
         _ => true,
-    }
-}
-
-fn is_same(kind: ColType, other: ColType) -> bool
-    ensures { result ≡ same_kind kind other }
-{
-    match (kind, other) {
-        (ColType::Int, ColType::Int) => true,
-        (ColType::Bool, ColType::Bool) => true,
-        (ColType::Text, ColType::Text) => true,
-        _ => false,
     }
 }

@@ -6,8 +6,8 @@ ghost use Rattle.morsel_expr.specs.Truths.{certain};
 ghost use Rattle.morsel_expr.specs.Predicates.{is_null, asserted, compared, compared_pairs};
 ghost use Rattle.morsel_expr.specs.Flaws.{kinds_fit, kind_of_value};
 
-use crate::answers::{
-    Answers, Item, answer_item_pairs, answer_items, answer_text_pairs, answer_texts,
+use crate::order_truths::{
+    Item, OrderTruths, answer_item_pairs, answer_items, answer_text_pairs, answer_texts,
 };
 use crate::{CmpOp, Truth};
 use morsel_frame::{Column, Texts};
@@ -169,7 +169,7 @@ fn items_with<T: Item>(
     ensures ok { IfOk result (λ truths. truths.items ≡ map (λ v. compared op v (T.value by)) (masked valid.now (map T.value items.now))) }
     ensures out_of_memory { IsOkUnless result Fault.OutOfMemory }
 {
-    answer_items(alloc, valid, items, by, Answers::of(op))
+    answer_items(alloc, valid, items, by, OrderTruths::of(op))
 }
 
 /// Numbers or truth values compared with others.
@@ -184,7 +184,14 @@ fn items_with_items<T: Item>(
     ensures ok { IfOk result (λ truths. truths.items ≡ compared_pairs op (masked valid.now (map T.value items.now)) (masked other_valid.now (map T.value others.now))) }
     ensures out_of_memory { IsOkUnless result Fault.OutOfMemory }
 {
-    answer_item_pairs(alloc, valid, items, other_valid, others, Answers::of(op))
+    answer_item_pairs(
+        alloc,
+        valid,
+        items,
+        other_valid,
+        others,
+        OrderTruths::of(op),
+    )
 }
 
 /// Texts compared with one.
@@ -199,7 +206,7 @@ fn texts_with(
     ensures ok { IfOk result (λ truths. truths.items ≡ map (λ v. compared op v (Value.Text by.now)) (masked valid.now (map Value.Text texts.now))) }
     ensures out_of_memory { IsOkUnless result Fault.OutOfMemory }
 {
-    answer_texts(alloc, valid, texts, by, Answers::of(op))
+    answer_texts(alloc, valid, texts, by, OrderTruths::of(op))
 }
 
 /// Texts compared with others.
@@ -217,5 +224,12 @@ fn texts_with_texts(
     ensures ok { IfOk result (λ truths. truths.items ≡ compared_pairs op (masked valid.now (map Value.Text texts.now)) (masked other_valid.now (map Value.Text others.now))) }
     ensures out_of_memory { IsOkUnless result Fault.OutOfMemory }
 {
-    answer_text_pairs(alloc, valid, texts, other_valid, others, Answers::of(op))
+    answer_text_pairs(
+        alloc,
+        valid,
+        texts,
+        other_valid,
+        others,
+        OrderTruths::of(op),
+    )
 }

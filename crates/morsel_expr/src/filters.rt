@@ -43,7 +43,7 @@ fn count_of_true(mask: &[Truth]) -> usize
 }
 
 /// Writes the numbers of the rows that are true from the first place on. Each number is written, and the place moves
-/// on behind those that are true, so the loop has no branch.
+/// on only after those that are true, so the loop has no branch.
 fn write_rows(rows: &mut [usize], mask: &[Truth])
     requires { count_by is_true mask.now < length rows.old }
     ensures { take (count_by is_true mask.now) rows.new ≡ true_rows 0 mask.now }

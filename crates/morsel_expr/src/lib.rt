@@ -4,12 +4,12 @@
 //! `flaw` what a schema has against it, and `kept_rows` which rows a filter keeps.
 #![tactic(auto)]
 
-mod answers;
 mod check;
 mod compare;
 mod eval;
 mod filters;
 mod node;
+mod order_truths;
 mod pred;
 mod truth;
 
@@ -20,5 +20,7 @@ pub use truth::Truth;
 
 #[cfg(test)]
 mod plain_tests;
+#[cfg(test)]
+mod samples;
 #[cfg(test)]
 mod tests;

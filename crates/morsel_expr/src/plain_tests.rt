@@ -1,9 +1,8 @@
 //! Each pair of seventeen small predicates, joined in two ways, beside a plain reading of each row by its cells.
-ghost use Rattle.std.specs.Prelude.{◌≡◌, IfOk};
-
 use super::*;
-use morsel_frame::{Cell, Column, Frame, Schema};
-use morsel_meaning::{ColType, Fault, Field, Name, Value};
+use crate::samples::{boxed, compared, frame_of, truths_of};
+use morsel_frame::{Cell, Frame};
+use morsel_meaning::{ColType, Fault, Name, Value};
 use std::alloc::Global;
 use std::cmp::Ordering;
 use std::test::Fail;
@@ -112,61 +111,85 @@ fn op_of(number: usize) -> CmpOp {
     }
 }
 
+/// Two columns of numbers compared.
+fn compared_columns(alloc: Global, op: CmpOp) -> Result<PredNode, Fault> {
+    let other = Name::new(alloc, "b")?;
+    compared(alloc, op, "a", Rhs::Col(other))
+}
+
+/// A column of texts compared with one.
+fn compared_texts(alloc: Global) -> Result<PredNode, Fault> {
+    let text = Name::new(alloc, "b")?;
+    compared(alloc, CmpOp::Lt, "t", Rhs::Lit(Value::Text(text)))
+}
+
 /// A small predicate: numbers beside 3 and beside each other, texts, truth values, and tests for nulls.
 fn part(alloc: Global, number: usize) -> Result<PredNode, Fault> {
-    let a = Name::new(alloc, "a")?;
-    if number < 6 {
-        return Ok(PredNode::Cmp(op_of(number), a, Rhs::Lit(Value::Int(3))));
+    match number {
+        0..6 => compared(alloc, op_of(number), "a", Rhs::Lit(Value::Int(3))),
+        6..12 => compared_columns(alloc, op_of(number - 6)),
+        12 => Ok(PredNode::IsNull(Name::new(alloc, "a")?)),
+        13 => Ok(PredNode::NotNull(Name::new(alloc, "c")?)),
+        14 => Ok(PredNode::Is(Name::new(alloc, "c")?)),
+        15 => compared_texts(alloc),
+        _ => compared(alloc, CmpOp::Ge, "t", Rhs::Lit(Value::Null)),
     }
-    if number < 12 {
-        let b = Name::new(alloc, "b")?;
-        return Ok(PredNode::Cmp(op_of(number - 6), a, Rhs::Col(b)));
-    }
-    let c = Name::new(alloc, "c")?;
-    let t = Name::new(alloc, "t")?;
-    Ok(match number {
-        12 => PredNode::IsNull(a),
-        13 => PredNode::NotNull(c),
-        14 => PredNode::Is(c),
-        15 => PredNode::Cmp(CmpOp::Lt, t, Rhs::Lit(Value::Text(Name::new(alloc, "b")?))),
-        _ => PredNode::Cmp(CmpOp::Ge, t, Rhs::Lit(Value::Null)),
+}
+
+fn boxed_part(alloc: Global, number: usize) -> Result<Box<PredNode>, Fault> {
+    boxed(alloc, part(alloc, number)?)
+}
+
+fn negated_part(alloc: Global, number: usize) -> Result<Box<PredNode>, Fault> {
+    boxed(alloc, PredNode::Not(boxed_part(alloc, number)?))
+}
+
+/// A tree and a small predicate joined: both of them, or the tree or not the predicate.
+fn joined(
+    alloc: Global,
+    first: Box<PredNode>,
+    second: usize,
+    both: bool,
+) -> Result<PredNode, Fault> {
+    Ok(if both {
+        PredNode::And(first, boxed_part(alloc, second)?)
+    } else {
+        PredNode::Or(first, negated_part(alloc, second)?)
     })
 }
 
-/// Two small predicates joined: both of them, or the first or not the second.
+/// Two small predicates joined.
 fn pair(alloc: Global, first: usize, second: usize, both: bool) -> Result<PredNode, Fault> {
-    let first = Box::new(alloc, part(alloc, first)?)?;
-    let second = Box::new(alloc, part(alloc, second)?)?;
-    if both {
-        return Ok(PredNode::And(first, second));
+    joined(alloc, boxed_part(alloc, first)?, second, both)
+}
+
+/// Whether these are the truths of four rows that the plain reading of a tree says.
+fn is_plain(truths: &[Truth], node: &PredNode, frame: &Frame) -> bool {
+    for row in 0..truths.len() {
+        if truths[row] != plain(node, frame, row) {
+            return false;
+        }
     }
-    Ok(PredNode::Or(first, Box::new(alloc, PredNode::Not(second))?))
+    truths.len() == 4
 }
 
 /// Whether a predicate says of each row what the plain reading of the same tree says.
 fn agrees(alloc: Global, frame: &Frame, node: PredNode, same: &PredNode) -> Result<bool, Fault> {
-    let pred = Pred::new(node)?;
-    pred.check(alloc, frame.schema())?;
-    let truths = pred.eval(alloc, frame)?;
-    for row in 0..truths.len() {
-        if truths[row] != plain(same, frame, row) {
-            return Ok(false);
-        }
-    }
-    Ok(truths.len() == 4)
+    let truths = truths_of(alloc, node, frame)?;
+    Ok(is_plain(&truths, same, frame))
 }
 
-/// How many of the two trees of a pair agree.
-fn pairs_agreeing(alloc: Global, frame: &Frame, first: usize, second: usize) -> Result<u32, Fault> {
-    let mut count = 0u32;
-    for both in [true, false] {
-        let node = pair(alloc, first, second, both)?;
-        let same = pair(alloc, first, second, both)?;
-        if agrees(alloc, frame, node, &same)? {
-            count = count.wrapping_add(1);
-        }
-    }
-    Ok(count)
+/// Whether a pair agrees: 1 where it does.
+fn pair_agreeing(
+    alloc: Global,
+    frame: &Frame,
+    first: usize,
+    second: usize,
+    both: bool,
+) -> Result<u32, Fault> {
+    let same = pair(alloc, first, second, both)?;
+    let agree = agrees(alloc, frame, pair(alloc, first, second, both)?, &same)?;
+    Ok(u32::from(agree))
 }
 
 /// How many trees agree.
@@ -174,56 +197,12 @@ fn agreeing(alloc: Global, frame: &Frame) -> Result<u32, Fault> {
     let mut count = 0u32;
     for first in 0..PARTS {
         for second in 0..PARTS {
-            count = count.wrapping_add(pairs_agreeing(alloc, frame, first, second)?);
+            for both in [true, false] {
+                count = count.wrapping_add(pair_agreeing(alloc, frame, first, second, both)?);
+            }
         }
     }
     Ok(count)
-}
-
-/// The frame of one column.
-fn frame_of(alloc: Global, name: &str, kind: ColType, column: Column) -> Result<Frame, Fault>
-    requires { column.kind ≡ kind }
-{
-    let name = Name::new(alloc, name)?;
-    let schema = Schema::new(alloc, vec![in alloc; Field { name, kind }]?)?;
-    let height = column.len();
-    Ok(Frame::new(alloc, schema, vec![in alloc; column]?, height))
-}
-
-/// The frame of one column of numbers, where 0 stands for a null.
-fn numbers(alloc: Global, name: &str, numbers: &[i64; 4]) -> Result<Frame, Fault> {
-    let valid = vec![in alloc;
-        numbers[0] != 0,
-        numbers[1] != 0,
-        numbers[2] != 0,
-        numbers[3] != 0,
-    ]?;
-    let packed = vec![in alloc; numbers[0], numbers[1], numbers[2], numbers[3]]?;
-    frame_of(alloc, name, ColType::Int, Column::from_ints(valid, packed))
-}
-
-/// The frame of c = true, false, null, true.
-fn flags(alloc: Global) -> Result<Frame, Fault> {
-    let valid = vec![in alloc; true, true, false, true]?;
-    let packed = vec![in alloc; true, false, true, true]?;
-    frame_of(alloc, "c", ColType::Bool, Column::from_bools(valid, packed))
-}
-
-/// The column ab, b, null, c.
-fn text_column(alloc: Global) -> Result<Column, Fault>
-    ensures { IfOk result (λ column. column.kind ≡ ColType.Text) }
-{
-    let mut column = Column::new(alloc, ColType::Text);
-    column.push_text("ab")?;
-    column.push_text("b")?;
-    column.push_null()?;
-    column.push_text("c")?;
-    Ok(column)
-}
-
-fn texts(alloc: Global) -> Result<Frame, Fault> {
-    let column = text_column(alloc)?;
-    frame_of(alloc, "t", ColType::Text, column)
 }
 
 /// Two frames side by side, of which the first is left alone where the heights differ.
@@ -234,15 +213,38 @@ fn beside(alloc: Global, frame: Frame, other: Frame) -> Result<Frame, Fault> {
     frame.hstack(alloc, other)
 }
 
+/// A frame with one column more.
+fn with_column(
+    alloc: Global,
+    frame: Frame,
+    name: &str,
+    kind: ColType,
+    cells: &[Cell<'_>],
+) -> Result<Frame, Fault> {
+    let other = frame_of(alloc, name, kind, cells)?;
+    beside(alloc, frame, other)
+}
+
 /// A frame of four rows: a and b of numbers, c of truth values, t of texts, each with a null.
 fn mixed(alloc: Global) -> Result<Frame, Fault> {
-    let left = beside(
-        alloc,
-        numbers(alloc, "a", &[1, 0, 5, 3])?,
-        numbers(alloc, "b", &[2, 2, 0, 3])?,
-    )?;
-    let right = beside(alloc, flags(alloc)?, texts(alloc)?)?;
-    beside(alloc, left, right)
+    let a = [Cell::Int(1), Cell::Null, Cell::Int(5), Cell::Int(3)];
+    let b = [Cell::Int(2), Cell::Int(2), Cell::Null, Cell::Int(3)];
+    let c = [
+        Cell::Bool(true),
+        Cell::Bool(false),
+        Cell::Null,
+        Cell::Bool(true),
+    ];
+    let t = [
+        Cell::Text("ab"),
+        Cell::Text("b"),
+        Cell::Null,
+        Cell::Text("c"),
+    ];
+    let frame = frame_of(alloc, "a", ColType::Int, &a)?;
+    let frame = with_column(alloc, frame, "b", ColType::Int, &b)?;
+    let frame = with_column(alloc, frame, "c", ColType::Bool, &c)?;
+    with_column(alloc, frame, "t", ColType::Text, &t)
 }
 
 fn all_agreeing(alloc: Global) -> Result<u32, Fault> {

@@ -70,7 +70,7 @@ plain_byte b is =
     let no_9 : (b == 9) ≡ false = ne_eqb b 9 (omega arith) in
     rw (marks.0, marks.1, no_8, no_12, no_10, no_13, no_9, parts.1) refl
 
--- bytes that need no escape stand as they are, and what stands behind them has its escapes
+-- bytes that need no escape are as they are, and what follows them has its escapes
 pub plain_front : (text : List ℕ) (n : ℕ) → n ≤ length text → ArePlain 0 n text → flat_map escaped text ≡ take n text ++ flat_map escaped (drop n text)
 plain_front text zero within plain = refl
 plain_front [] (suc n) within plain = absurd (omega arith)

@@ -1,4 +1,4 @@
--- Lemmas on what stands before a cursor, on members and on escapes.
+-- Lemmas on what is before a cursor, on members and on escapes.
 pub mod PutLemmas
 pub mod MemberLemmas
 pub mod PaddedLemmas

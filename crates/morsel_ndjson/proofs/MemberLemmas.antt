@@ -1,6 +1,6 @@
--- Members behind their beginnings, made column by column, are the lines of NDJSON.
+-- Members after their beginnings, made column by column, are the lines of NDJSON.
 use Rattle.std.proofs.Common.{◌≡◌, ℕ, zero, suc, ◌+◌, ◌<◌, ◌≤◌, Bool, if◌then◌else◌, false, Some, List, [], ◌∷◌, ◌++◌, length, get_or, slice_get, take, drop, map, refl, ap, sym, ◌∙◌, append_assoc, arith}
-use Rattle.std.proofs.lemmas.List.{append-nil, drop_more, take_more, get_or-map, length-map}
+use Rattle.std.proofs.lemmas.List.{append-nil, drop_more, take_more, take_all, get_or-map, length-map}
 use Rattle.std.proofs.lemmas.Option.{get_or_from_slice_get}
 use Rattle.morsel_meaning.specs.declared.value.Value.{Value}
 use Rattle.morsel_meaning.specs.declared.value.Value.TheVariants as values
@@ -12,11 +12,11 @@ use Rattle.morsel_frame.specs.Tables.{cell_at}
 use Rattle.morsel_ndjson.specs.Ndjson.{json_string, json_value, json_member, json_members, json_line, ndjson}
 use Rattle.morsel_ndjson.specs.Members.{beginning, beginnings, begun, column_members, members_from, members_at, HaveRow, line_end}
 
--- a beginning and its value are a member behind its mark
+-- a beginning and its value are a member after its mark
 pub member_begun : (mark : ℕ) (name : List ℕ) (v : Value) → beginning mark name ++ json_value v ≡ mark ∷ json_member name v
 member_begun mark name v = ap (λ (s : List ℕ). mark ∷ s) (append_assoc (json_string name) (58 ∷ []) (json_value v))
 
--- values behind their beginnings are members with a comma between neighbours
+-- values after their beginnings are members with a comma between neighbours
 pub members_begun : (mark : ℕ) (name : List ℕ) (names : List (List ℕ)) (v : Value) (row : Row) → length row ≡ length names
     → begun (beginnings mark (name ∷ names)) (v ∷ row) ≡ mark ∷ json_members (name ∷ names) (v ∷ row)
 members_begun mark name [] v [] same = append-nil (beginning mark name ++ json_value v) ∙ member_begun mark name v
@@ -26,7 +26,7 @@ members_begun mark name (next ∷ names) v (w ∷ row) same =
     ap (λ (s : List ℕ). s ++ begun (beginnings 44 (next ∷ names)) (w ∷ row)) (member_begun mark name v)
     ∙ ap (λ (s : List ℕ). (mark ∷ json_member name v) ++ s) (members_begun 44 next names w row (omega (arith, same)))
 
--- with the end behind them, they are a line
+-- with the end after them, they are a line
 pub line_begun : (names : List (List ℕ)) (row : Row) → length row ≡ length names
     → begun (beginnings 123 names) row ++ line_end (beginnings 123 names) ≡ json_line names row
 line_begun [] [] same = refl
@@ -103,7 +103,7 @@ member_of_row begin rows at row within =
     get_or-map (λ (v : Value). begin ++ json_value v) (map (cell_at at) rows) row values.Null [] within_column
     ∙ ap (λ (v : Value). begin ++ json_value v) (get_or-map (cell_at at) rows row [] values.Null within)
 
--- the members of a row are its values behind their beginnings
+-- the members of a row are its values after their beginnings
 members_begin : (at : ℕ) (begins : List (List ℕ)) (rows : List Row) (row : ℕ) → row < length rows → at + length begins ≤ length (get_or rows row [])
     → members_at row (members_from at begins rows) ≡ begun begins (drop at (get_or rows row []))
 members_begin at [] rows row within wide = refl
@@ -118,7 +118,7 @@ end_of_members : (at : ℕ) (begins : List (List ℕ)) (rows : List Row) → lin
 end_of_members at [] rows = refl
 end_of_members at (begin ∷ begins) rows = refl
 
--- with the end behind them, they are its line
+-- with the end after them, they are its line
 pub members_line : (names : List (List ℕ)) (rows : List Row) (row : ℕ) → row < length rows → length (get_or rows row []) ≡ length names
     → members_at row (members_from 0 (beginnings 123 names) rows) ++ line_end (members_from 0 (beginnings 123 names) rows) ≡ json_line names (get_or rows row [])
 members_line names rows row within same =
@@ -157,3 +157,25 @@ members_of_more begin valid vs row cell within same is =
     ∙ ap (λ (m : List ℕ). take row (column_members begin (masked valid vs)) ++ m ∷ [])
     (get_or-map member (masked valid vs) row values.Null [] values_within
     ∙ ap member (masked_at valid vs row (omega arith) same ∙ sym is))
+
+-- a turn of the loop over a column's items puts one member more
+pub member_put : {X : Type 0} (make : X → Value) (begin : List ℕ) (valid : List Bool) (items : List X) (row : ℕ) (d : X) (cell : Value) (members next : List (List ℕ)) → row < length items → length valid ≡ length items
+    → cell ≡ (if get_or valid row false then make (get_or items row d) else values.Null)
+    → members ≡ take row (column_members begin (masked valid (map make items)))
+    → next ≡ members ++ (begin ++ json_value cell) ∷ []
+    → next ≡ take (row + 1) (column_members begin (masked valid (map make items)))
+member_put make begin valid items row d cell members next within same is so_far put =
+    let long = length-map items make in
+    let value : make (get_or items row d) ≡ get_or (map make items) row values.Null = sym (get_or-map make items row d values.Null within) in
+    put
+    ∙ (ap (λ (ms : List (List ℕ)). ms ++ (begin ++ json_value cell) ∷ []) so_far
+    ∙ sym (members_of_more begin valid (map make items) row cell (omega arith) (omega arith) (is ∙ ap (λ (v : Value). if get_or valid row false then v else values.Null) value)))
+
+-- at its end there is a member for each item
+pub members_all : {X : Type 0} (make : X → Value) (begin : List ℕ) (valid : List Bool) (items : List X) (row : ℕ) (members : List (List ℕ)) → length items ≤ row → length valid ≡ length items
+    → members ≡ take row (column_members begin (masked valid (map make items)))
+    → members ≡ column_members begin (masked valid (map make items))
+members_all make begin valid items row members past same so_far =
+    let long = length-map items make in
+    let count : length (column_members begin (masked valid (map make items))) ≡ length (map make items) = length_members begin valid (map make items) (omega arith) in
+    so_far ∙ take_all row (column_members begin (masked valid (map make items))) (omega arith)

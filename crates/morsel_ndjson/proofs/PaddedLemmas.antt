@@ -1,4 +1,4 @@
--- Members in a buffer that has room behind them: reading one, putting one last.
+-- Members in a buffer that has room after them: reading one, putting one last.
 use Rattle.std.proofs.Common.{◌≡◌, ℕ, zero, suc, ◌+◌, ◌-◌, ◌<◌, ◌≤◌, List, [], ◌∷◌, ◌++◌, length, take, drop, get_or, ap, sym, ◌∙◌, arith}
 use Rattle.std.proofs.lemmas.List.{drop-take, length-take-le}
 use Rattle.std.proofs.Math.Seq.{drop-append_seam}
@@ -7,7 +7,7 @@ use Rattle.morsel_frame.specs.Pieces.{pieces}
 use Rattle.morsel_ndjson.specs.Members.{ArePadded}
 use Rattle.morsel_ndjson.proofs.PutLemmas.{kept_below}
 
--- behind the last there is room
+-- after the last there is room
 pub last_within : (from : ℕ) (ends bytes : List ℕ) → ArePadded from ends bytes → get_or (from ∷ ends) (length ends) 0 + 15 ≤ length bytes
 last_within from [] bytes are = are
 last_within from (end ∷ ends) bytes are = last_within end ends bytes are.1
@@ -23,13 +23,13 @@ starts_before from [] bytes at within are = absurd (omega arith)
 starts_before from (end ∷ ends) bytes zero within are = are.0
 starts_before from (end ∷ ends) bytes (suc at) within are = starts_before end ends bytes at (omega arith) are.1
 
--- behind each there is room
+-- after each there is room
 pub end_within : (from : ℕ) (ends bytes : List ℕ) (at : ℕ) → at < length ends → ArePadded from ends bytes → get_or ends at 0 + 15 ≤ length bytes
 end_within from [] bytes at within are = absurd (omega arith)
 end_within from (end ∷ ends) bytes zero within are = omega (arith, last_behind end ends bytes are.1, last_within end ends bytes are.1)
 end_within from (end ∷ ends) bytes (suc at) within are = end_within end ends bytes at (omega arith) are.1
 
--- they have room in any buffer that has it behind the last
+-- they have room in any buffer that has it after the last
 pub padded_room : (from : ℕ) (ends old now : List ℕ) (last : ℕ) → last ≡ get_or (from ∷ ends) (length ends) 0 → ArePadded from ends old → last + 15 ≤ length now → ArePadded from ends now
 padded_room from [] old now last is are room = omega (arith, is)
 padded_room from (end ∷ ends) old now last is are room = (are.0, padded_room end ends old now last is are.1 room)

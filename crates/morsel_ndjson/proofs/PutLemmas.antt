@@ -1,4 +1,4 @@
--- Bytes that stand behind others, in a buffer that has room behind them.
+-- Bytes that follow others, in a buffer that has room after them.
 use Rattle.std.proofs.Common.{◌≡◌, ℕ, ◌+◌, ◌/◌, ◌%◌, ◌^◌, ◌<◌, ◌≤◌, List, [], ◌∷◌, ◌++◌, length, take, drop, refl, ap, sym, ◌∙◌, append_assoc, arith, length-append, decimal, subst, Result}
 use Rattle.std.proofs.lemmas.List.{take-take, take-append-drop, take_at, take-append-le, length-take-le}
 use Rattle.std.proofs.lemmas.List.{drop-take}
@@ -23,7 +23,7 @@ front_kept old now at to x y rises within was written =
 pub kept_below : (now old : List ℕ) (at to : ℕ) → at ≤ to → take to now ≡ take to old → take at now ≡ take at old
 kept_below now old at to rises kept = sym (take-take at to now rises) ∙ (ap (λ (s : List ℕ). take at s) kept ∙ take-take at to old rises)
 
--- what stands behind a front of known length
+-- what is after a front of known length
 pub take_behind : (xs ys : List ℕ) (at n : ℕ) → length xs ≡ at → take (at + n) (xs ++ ys) ≡ xs ++ take n ys
 take_behind xs ys at n same = ap (λ (m : ℕ). take (m + n) (xs ++ ys)) (sym same) ∙ take-append-add xs ys n
 

@@ -1,4 +1,4 @@
--- A row of JSON as it is written: before each value stands what a column's member begins with, behind the last the end.
+-- A row of JSON as it is written: before each value comes what a column's member begins with, after the last the end.
 use Rattle.std.specs.Prelude.{◌≡◌, ℕ, ◌+◌, ◌*◌, ◌<◌, ◌≤◌, Bool, false, ◌||◌, ◌==◌, nat_lt, Result, Ok, Err, List, [], ◌∷◌, ◌++◌, codes, length, map, take, get_or}
 use Rattle.std.specs.List.{flat_map}
 use Rattle.morsel_meaning.specs.declared.value.Value.{Value}
@@ -7,7 +7,7 @@ use Rattle.morsel_meaning.specs.Values.{Row}
 use Rattle.morsel_frame.specs.Tables.{cell_at}
 use Rattle.morsel_ndjson.specs.Ndjson.{json_string, json_value}
 
--- a byte that does not stand as it is
+-- whether a byte within a string is escaped
 abbrev pub needs_escape : ℕ → Bool
 needs_escape b = b == 34 || b == 92 || nat_lt b 32
 
@@ -19,18 +19,18 @@ ArePlain from to text = (k : ℕ) → from ≤ k → k < to → needs_escape (ge
 abbrev pub beginning : ℕ → List ℕ → List ℕ
 beginning mark name = mark ∷ json_string name ++ 58 ∷ []
 
--- those of all columns: a comma stands before each but the first
+-- those of all columns: a comma comes before each but the first
 abbrev pub beginnings : ℕ → List (List ℕ) → List (List ℕ)
 beginnings mark [] = []
 beginnings mark (name ∷ names) = beginning mark name ∷ beginnings 44 names
 
--- values behind their beginnings
+-- values, each after its beginning
 abbrev pub begun : List (List ℕ) → Row → List ℕ
 begun [] row = []
 begun (begin ∷ begins) [] = []
 begun (begin ∷ begins) (v ∷ row) = begin ++ json_value v ++ begun begins row
 
--- the members of a column: each value behind what it begins with
+-- the members of a column: each value after what it begins with
 abbrev pub column_members : List ℕ → List Value → List (List ℕ)
 column_members begin vs = map (λ v. begin ++ json_value v) vs
 
@@ -58,18 +58,18 @@ abbrev pub text_room : Value → ℕ
 text_room (values.Text text) = 6 * length text
 text_room v = 0
 
--- the ends do not fall, and behind the last there is room for a word but one byte
+-- the ends do not fall, and after the last there is room for a word but one byte
 abbrev pub ArePadded : ℕ → List ℕ → List ℕ → Type 0
 ArePadded from [] padded = from + 15 ≤ length padded
 ArePadded from (end ∷ ends) padded = (from ≤ end) × ArePadded end ends padded
 
--- from place `at` to place `end` stands the text, behind what stood before
+-- the text is there from place `at` to place `end`, after what was there before
 pub record Put (old : List ℕ) (at : ℕ) (text : List ℕ) (end : ℕ) (new : List ℕ) : Type 0 where
   pub rises : at ≤ end
   pub within : end ≤ length new
   pub written : take end new ≡ take at old ++ text
 
--- the text was put behind place `at`, or what stood before is there
+-- the text was put from place `at` on; after a fault the bytes before it are as they were
 abbrev pub Puts : {E : Type 0} → List ℕ → ℕ → List ℕ → Result ℕ E → List ℕ → Type 0
 Puts old at text (Ok end) new = Put old at text end new
 Puts old at text (Err fault) new = take at new ≡ take at old

@@ -23,6 +23,7 @@ escaped b = if b == 34 then codes "\\\""
 abbrev pub json_string : List ℕ → List ℕ
 json_string text = 34 ∷ flat_map escaped text ++ 34 ∷ []
 
+-- a value
 abbrev pub json_value : Value → List ℕ
 json_value values.Null = codes "null"
 json_value (values.Int n) = signed_decimal n
@@ -30,6 +31,7 @@ json_value (values.Bool true) = codes "true"
 json_value (values.Bool false) = codes "false"
 json_value (values.Text text) = json_string text
 
+-- a name in quotes, a colon and a value
 abbrev pub json_member : List ℕ → Value → List ℕ
 json_member name v = json_string name ++ 58 ∷ json_value v
 
@@ -44,5 +46,6 @@ json_members (name ∷ next ∷ names) (v ∷ row) = json_member name v ++ 44 �
 abbrev pub json_line : List (List ℕ) → Row → List ℕ
 json_line names row = 123 ∷ json_members names row ++ 125 ∷ 10 ∷ []
 
+-- the text of rows: a line for each
 abbrev pub ndjson : List (List ℕ) → List Row → List ℕ
 ndjson names rows = flat_map (json_line names) rows

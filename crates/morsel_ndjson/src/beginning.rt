@@ -1,4 +1,4 @@
-//! What stands before each value of a row, made once for each column.
+//! What comes before each value of a row, made once for each column.
 ghost use Rattle.std.specs.Prelude.{◌≡◌, ◌+◌, ◌*◌, ◌≤◌, ◌++◌, [], length, take, OnOk, IfOk, IsOkUnless};
 ghost use Rattle.morsel_meaning.specs.declared.fault.Fault.TheVariants as faults;
 ghost use Rattle.morsel_meaning.specs.Values.{names_of};
@@ -11,7 +11,7 @@ use morsel_meaning::Fault;
 use std::alloc::Global;
 use std::marker::Model;
 
-/// A member up to its value, with room for whole words behind it.
+/// A member up to its value, with room for whole words after it.
 #[derive(Drop)]
 pub struct Beginning {
     padded: Vec<u8>,
@@ -54,7 +54,7 @@ impl Beginning {
         self.len
     }
 
-    /// Puts the bytes, and writes over up to 15 behind them.
+    /// Puts the bytes, and writes over up to 15 after them.
     #[inline(always)]
     pub fn put(&self, out: &mut [u8], at: usize) -> usize
         requires { at + length self.now + 15 ≤ length out.old }

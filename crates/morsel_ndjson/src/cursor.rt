@@ -1,4 +1,4 @@
-//! Bytes that are put into a slice behind a cursor. Each call has its room ahead, and gives the place behind its bytes.
+//! Bytes that are put into a slice at a cursor. Each call has its room ahead, and gives the place after its bytes.
 ghost use Rattle.std.specs.Prelude.{◌≡◌, ◌+◌, ◌≤◌, ◌<◌, ◌++◌, ◌∷◌, [], length, take, OnOk, OnErr, decimal, drop, ◌^◌};
 ghost use Rattle.std.specs.Fmt.{signed_decimal};
 
@@ -6,7 +6,7 @@ use itoa::write_digits;
 use std::alloc::AllocError;
 use std::simd::prelude::*;
 
-/// Makes room for `more` bytes behind the first `at`, which stay.
+/// Makes room for `more` bytes after the first `at`, which stay.
 #[inline]
 pub fn make_room(bytes: &mut Vec<u8>, at: usize, more: usize) -> Result<(), AllocError>
     requires { at ≤ length bytes.old.items }
@@ -107,7 +107,7 @@ fn put_digits(out: &mut [u8], at: usize, number: u64) -> usize
     ensures within { result ≤ at + 19 }
     ensures written { take result out.new ≡ take at out.old ++ decimal number }
 {
-    // The place behind the digits is known before they are.
+    // The place after the digits is known before they are.
     let end = at + digit_count(number);
     let _start = write_digits(number, out, end);
     end

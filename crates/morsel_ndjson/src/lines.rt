@@ -12,7 +12,7 @@ use morsel_frame::Frame;
 use morsel_meaning::Fault;
 use std::alloc::{AllocError, Global};
 
-/// Appends the rows of the frame as JSON, one object a line; appends nothing where memory is short.
+/// Appends the rows of the frame as JSON, one object a line; appends nothing where memory runs out.
 pub fn write_ndjson(out: &mut Vec<u8>, frame: &Frame) -> Result<(), Fault>
     ensures ok { OnOk result (out.new.items ≡ out.old.items ++ ndjson (names_of frame.now.schema) frame.now.rows) }
     ensures err { OnErr result (out.new.items ≡ out.old.items) }

@@ -1,4 +1,4 @@
-//! The members of a column: all its values behind what each begins with, made before the rows are put together. So the
+//! The members of a column: all its values, each after what it begins with, made before the rows are put together. So the
 //! column's type is asked once, and not for each value.
 ghost use Rattle.std.specs.Prelude.{◌≡◌, ◌+◌, ◌≤◌, ◌<◌, ◌++◌, ◌∷◌, [], length, map, take, drop, get_or, if◌then◌else◌, IfOk, IfSome, OnOk};
 ghost use Rattle.morsel_frame.specs.Cells.{value_of};
@@ -15,7 +15,7 @@ use morsel_meaning::{ColType, Value};
 use std::alloc::{AllocError, Global};
 use std::marker::Model;
 
-/// Members one behind another, and the place where each ends, with room for whole words behind the last.
+/// Members one after another, and the place where each ends, with room for whole words after the last.
 #[derive(Drop)]
 pub struct Members {
     padded: Vec<u8>,

@@ -57,7 +57,7 @@ fn put_escaped(out: &mut [u8], at: usize, text: &[u8]) -> usize
     put_chars(out, at + plain, &text[plain..])
 }
 
-/// Puts the bytes in front of the first lane that has an escape, and says how many; none of a text of less than a lane.
+/// Puts the bytes before the first lane that has an escape, and says how many; none of a text of less than a lane.
 #[inline(always)]
 fn put_front(out: &mut [u8], at: usize, text: &[u8]) -> usize
     requires { at + length text.now ≤ length out.old }
@@ -123,7 +123,7 @@ fn put_chars(out: &mut [u8], at: usize, text: &[u8]) -> usize
     to
 }
 
-/// Puts a byte as it stands within a string.
+/// Puts a byte as it is written within a string.
 #[inline(always)]
 fn put_char(out: &mut [u8], at: usize, byte: u8) -> usize
     requires { at + 6 ≤ length out.old }
@@ -137,6 +137,7 @@ fn put_char(out: &mut [u8], at: usize, byte: u8) -> usize
     put_byte(out, at, byte)
 }
 
+/// Whether a byte within a string is escaped.
 #[inline(always)]
 fn needs_escape(byte: u8) -> bool
     ensures { result ≡ needs_escape byte }

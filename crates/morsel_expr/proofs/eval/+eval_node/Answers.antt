@@ -1,8 +1,9 @@
 use Rattle.std.proofs.Common.{not, ◌∙◌}
 use Rattle.std.proofs.lemmas.Result.{IfOk-weaker}
+use Rattle.std.proofs.lemmas.Simd.{map-map}
 use Rattle.morsel_expr.specs.Truths.{least, greatest, mirror, certain}
 use Rattle.morsel_expr.specs.Predicates.{is_null, asserted, value_under, truth}
-use Rattle.morsel_expr.proofs.TruthLemmas.{map-map, map-zip}
+use Rattle.morsel_expr.proofs.TruthLemmas.{map-zip}
 use Rattle.morsel_expr.proofs.eval.+eval_node.Goals as goal
 
 pub returns-in_ok-second-in-And-clause-ok : goal.returns-in_ok-second-in-And-clause-ok

@@ -1,7 +1,8 @@
 use Rattle.std.proofs.Common.{◌∙◌}
 use Rattle.std.proofs.lemmas.Result.{IfOk-weaker}
+use Rattle.std.proofs.lemmas.Simd.{map-map}
 use Rattle.morsel_expr.specs.Predicates.{compared, value_under}
-use Rattle.morsel_expr.proofs.TruthLemmas.{map-map, compared_pairs-map}
+use Rattle.morsel_expr.proofs.TruthLemmas.{compared_pairs-map}
 use Rattle.morsel_expr.proofs.eval.eval_sides.Goals as goal
 
 pub returns-in-Col-clause-ok : goal.returns-in-Col-clause-ok

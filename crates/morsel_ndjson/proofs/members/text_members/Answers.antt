@@ -1,25 +1,14 @@
-use Rattle.std.proofs.Common.{◌≡◌, ◌<◌, ◌++◌, ◌∷◌, [], ◌∙◌, List, ℕ, false, if◌then◌else◌, length, get_or, map, ap, sym, arith}
-use Rattle.std.proofs.lemmas.List.{take_all, length-map, get_or-map}
-use Rattle.morsel_meaning.specs.declared.value.Value.{Value}
+use Rattle.std.proofs.Common.{◌<◌, [], ◌∙◌, List, ℕ, false, if◌then◌else◌, length, get_or, ap, arith}
 use Rattle.morsel_meaning.specs.declared.value.Value.TheVariants.{Text, Null}
-use Rattle.morsel_frame.specs.Cells.{value_of}
-use Rattle.morsel_ndjson.specs.Ndjson.{json_value}
-use Rattle.morsel_ndjson.proofs.MemberLemmas.{members_of_more, length_members}
+use Rattle.morsel_ndjson.proofs.MemberLemmas.{member_put, members_all}
 use Rattle.morsel_ndjson.proofs.members.text_members.Goals as goal
 
 pub loop-row-preserved : goal.loop-row-preserved
 loop-row-preserved c =
-    let vs : List Value = map Text c.args.texts.now
-    in let row : ℕ = c.loop-row.row
-    in let here : row < length c.args.texts.now = omega (arith, c.loop-row-test.true, c.len-row-end.ensures)
-    in let within : row < length vs = omega (arith, length-map c.args.texts.now Text, here)
-    in let same : length c.args.valid.now ≡ length vs = omega (arith, length-map c.args.texts.now Text, c.requires.valid)
-    in let cell : value_of c.text_cell.result ≡ (if get_or c.args.valid.now row false then get_or vs row Null else Null) =
-    c.text_cell.ensures ∙ ap (λ (t : List ℕ). if get_or c.args.valid.now row false then Text t else Null) c.get.ensures ∙ ap (λ (v : Value). if get_or c.args.valid.now row false then v else Null) (sym (get_or-map Text c.args.texts.now row [] Null here))
-    in c.in_ok-push.ensures.ok
-    ∙ (ap (λ (ms : List (List ℕ)). ms ++ (c.args.begin.now ++ json_value (value_of c.text_cell.result)) ∷ []) c.loop-row.invariant
-    ∙ sym (members_of_more c.args.begin.now c.args.valid.now vs row (value_of c.text_cell.result) within same cell))
+    let within : c.loop-row.row < length c.args.texts.now = omega (arith, c.loop-row-test.true, c.len-row-end.ensures) in
+    member_put Text c.args.begin.now c.args.valid.now c.args.texts.now c.loop-row.row [] _ _ _ within c.requires.valid
+    (c.text_cell.ensures ∙ ap (λ (t : List ℕ). if get_or c.args.valid.now c.loop-row.row false then Text t else Null) c.get.ensures)
+    c.loop-row.invariant c.in_ok-push.ensures.ok
 
 pub returns : goal.returns
-returns c =
-    c.loop-row.invariant ∙ take_all c.loop-row.row _ (omega (arith, length_members c.args.begin.now c.args.valid.now (map Text c.args.texts.now), length-map c.args.texts.now Text))
+returns c = members_all Text c.args.begin.now c.args.valid.now c.args.texts.now c.loop-row.row _ (omega arith) c.requires.valid c.loop-row.invariant

@@ -1,6 +1,6 @@
 //! What a comparison says of two values, found before a loop over many of them.
 ghost use Rattle.std.specs.Prelude.{◌≡◌, false, length, IfOk, IsOkUnless};
-ghost use Rattle.morsel_expr.specs.Answers.{answer, answers_of, answered, answered_pairs};
+ghost use Rattle.morsel_expr.specs.OrderTruths.{answer, answers_of, answered, answered_pairs};
 
 use crate::{CmpOp, Truth};
 use morsel_frame::Texts;
@@ -8,17 +8,17 @@ use morsel_meaning::{Fault, Value};
 use std::alloc::Global;
 use std::cmp::Ordering;
 
-/// The truth where the first value stands before the second, where both are the same, and where it stands behind.
+/// The truth where the first value comes before the second, where both are the same, and where it comes after.
 #[derive(Clone, Copy, Debug)]
-pub struct Answers {
+pub struct OrderTruths {
     pub less: Truth,
     pub equal: Truth,
     pub greater: Truth,
 }
 
-impl Answers {
-    /// The answers of a comparison.
-    pub fn of(op: CmpOp) -> Answers
+impl OrderTruths {
+    /// What a comparison says in each order.
+    pub fn of(op: CmpOp) -> OrderTruths
         ensures { result ≡ answers_of op }
     {
         let (less, equal, greater) = match op {
@@ -29,14 +29,14 @@ impl Answers {
             CmpOp::Gt => (false, false, true),
             CmpOp::Ge => (false, true, true),
         };
-        Answers {
+        OrderTruths {
             less: Truth::certain(less),
             equal: Truth::certain(equal),
             greater: Truth::certain(greater),
         }
     }
 
-    /// The answer in this order.
+    /// What it says in this order.
     pub fn at(self, order: Ordering) -> Truth
         ensures { result ≡ answer self order }
     {
@@ -54,13 +54,13 @@ pub trait Item: Copy + Drop {
     ghost use Rattle.morsel_meaning.specs.declared.value.Value.{Value};
     ghost use Rattle.morsel_meaning.specs.Order.{value_cmp};
     ghost use Rattle.morsel_expr.specs.Predicates.{is_null};
-    ghost use Rattle.morsel_expr.specs.Answers.{answer};
+    ghost use Rattle.morsel_expr.specs.OrderTruths.{answer};
 
     /// The item as a value.
     ghost value: { Self → Value };
 
     /// What the answers say of two items.
-    fn compare(self, other: Self, answers: Answers) -> Truth
+    fn compare(self, other: Self, answers: OrderTruths) -> Truth
         ensures { result ≡ answer answers (value_cmp (value self) (value other)) };
 
     /// No item is a null.
@@ -76,7 +76,7 @@ impl Item for i64 {
     ghost valued = { λ item. refl };
 
     // Two tests in place of one order, since a loop over them has no branches.
-    fn compare(self, other: i64, answers: Answers) -> Truth {
+    fn compare(self, other: i64, answers: OrderTruths) -> Truth {
         if self < other {
             answers.less
         } else if other < self {
@@ -95,7 +95,7 @@ impl Item for bool {
 
     ghost valued = { λ item. refl };
 
-    fn compare(self, other: bool, answers: Answers) -> Truth {
+    fn compare(self, other: bool, answers: OrderTruths) -> Truth {
         answers.at(self.cmp(&other))
     }
 }
@@ -106,7 +106,7 @@ pub fn answer_items<T: Item>(
     valid: &[bool],
     items: &[T],
     by: T,
-    answers: Answers,
+    answers: OrderTruths,
 ) -> Result<Vec<Truth>, Fault>
     ensures ok { IfOk result (λ truths. truths.items ≡ answered T.value answers (T.value by) valid.now items.now) }
     ensures out_of_memory { IsOkUnless result Fault.OutOfMemory }
@@ -127,7 +127,7 @@ pub fn answer_item_pairs<T: Item>(
     items: &[T],
     other_valid: &[bool],
     others: &[T],
-    answers: Answers,
+    answers: OrderTruths,
 ) -> Result<Vec<Truth>, Fault>
     ensures ok { IfOk result (λ truths. truths.items ≡ answered_pairs T.value answers valid.now items.now other_valid.now others.now) }
     ensures out_of_memory { IsOkUnless result Fault.OutOfMemory }
@@ -153,7 +153,7 @@ pub fn answer_texts(
     valid: &[bool],
     texts: &Texts,
     by: &str,
-    answers: Answers,
+    answers: OrderTruths,
 ) -> Result<Vec<Truth>, Fault>
     requires { length texts.now ≡ length valid.now }
     ensures ok { IfOk result (λ truths. truths.items ≡ answered Value.Text answers (Value.Text by.now) valid.now texts.now) }
@@ -175,7 +175,7 @@ pub fn answer_text_pairs(
     texts: &Texts,
     other_valid: &[bool],
     others: &Texts,
-    answers: Answers,
+    answers: OrderTruths,
 ) -> Result<Vec<Truth>, Fault>
     requires len { length texts.now ≡ length valid.now }
     requires other_valid_len { length other_valid.now ≡ length valid.now }
