@@ -49,7 +49,7 @@ beside-with_column (v ∷ vs) [] others = refl
 beside-with_column (v ∷ vs) (row ∷ rows) [] = refl
 beside-with_column (v ∷ vs) (row ∷ rows) (other ∷ others) = ap (λ rs. (v ∷ row ++ other) ∷ rs) (beside-with_column vs rows others)
 
--- columns behind others are rows beside others
+-- columns after others are rows beside others
 pub rows-beside : (fields : List Field) (height : ℕ) (columns others : List Values) → Fit fields height others → rows_of height (columns ++ others) ≡ beside (rows_of height columns) (rows_of height others)
 rows-beside fields height [] others fit = beside-nothing height (rows_of height others) (length-rows fields height others fit)
 rows-beside fields height (column ∷ columns) others fit =

@@ -11,14 +11,23 @@ use Rattle.morsel_meaning.specs.declared.value.Value.TheVariants as values
 use Rattle.morsel_meaning.specs.Values.{IsOfType}
 use Rattle.morsel_frame.specs.declared.packed.Packed.{Packed}
 use Rattle.morsel_frame.specs.declared.packed.Packed.TheVariants as packed
-use Rattle.morsel_frame.specs.Columns.{AreOfType, masked, value_at, value_or_null, no_row}
-use Rattle.morsel_frame.specs.Packing.{stored, kind_of}
+use Rattle.morsel_frame.specs.Columns.{Values, AreOfType, masked, value_at, value_or_null, no_row}
+use Rattle.morsel_frame.specs.Cells.{not_null}
+use Rattle.morsel_frame.specs.Packing.{stored, kind_of, kept_of, unpacked, IsPacked}
 
 -- there is a value for each mark
 pub length-masked : (valid : List Bool) (vs : List Value) → length vs ≡ length valid → length (masked valid vs) ≡ length valid
 length-masked [] vs same = refl
 length-masked (b ∷ valid) [] same = absurd (omega arith)
 length-masked (b ∷ valid) (v ∷ vs) same = ap suc (length-masked valid vs (omega arith))
+
+-- a column has as many marks as values
+pub length-marks : (p : Packed) (valid : List Bool) (column : Values) → IsPacked p valid → unpacked p valid ≡ column → length valid ≡ length column.values
+length-marks p valid column same seen = sym (length-masked valid (stored p) same) ∙ ap (λ (c : Values). length c.values) seen
+
+-- and keeps as many values
+pub length-kept : (p : Packed) (valid : List Bool) (column : Values) → IsPacked p valid → unpacked p valid ≡ column → length (stored p) ≡ length column.values
+length-kept p valid column same seen = same ∙ length-marks p valid column same seen
 
 -- a row that is valid has what is kept
 pub value_at-valid : (valid : List Bool) (vs : List Value) (row : ℕ) (b : Bool) → row < length valid → length vs ≡ length valid → b ≡ get_or valid row b → b ≡ true → value_at (masked valid vs) row ≡ value_at vs row
@@ -34,7 +43,7 @@ value_at-null (a ∷ valid) [] row b within same read is = absurd (omega arith)
 value_at-null (a ∷ valid) (v ∷ vs) zero b within same read is = ap (λ t. if t then v else values.Null) (sym read ∙ is)
 value_at-null (a ∷ valid) (v ∷ vs) (suc row) b within same read is = value_at-null valid vs row b (omega arith) (omega arith) read is
 
--- values behind others
+-- values after others
 pub masked-append : (valid more : List Bool) (vs ws : List Value) → length vs ≡ length valid → masked (valid ++ more) (vs ++ ws) ≡ masked valid vs ++ masked more ws
 masked-append [] more [] ws same = refl
 masked-append [] more (v ∷ vs) ws same = absurd (omega arith)
@@ -44,6 +53,13 @@ masked-append (b ∷ valid) more (v ∷ vs) ws same = ap (λ us. (if b then v el
 -- one value more
 pub masked-push : (valid : List Bool) (vs : List Value) (b : Bool) (v : Value) → length vs ≡ length valid → masked (valid ++ b ∷ []) (vs ++ v ∷ []) ≡ masked valid vs ++ (if b then v else values.Null) ∷ []
 masked-push valid vs b v same = masked-append valid (b ∷ []) vs (v ∷ []) same
+
+-- what is kept for a value, under its mark, is the value
+pub kept-marked : (kind : ColType) (v : Value) → (if not_null v then kept_of kind v else values.Null) ≡ v
+kept-marked kind values.Null = refl
+kept-marked kind (values.Int n) = refl
+kept-marked kind (values.Bool b) = refl
+kept-marked kind (values.Text t) = refl
 
 masked-nothing : (valid : List Bool) → masked valid [] ≡ []
 masked-nothing [] = refl
@@ -56,7 +72,7 @@ masked-take [] vs (suc n) = refl
 masked-take (b ∷ valid) [] (suc n) = refl
 masked-take (b ∷ valid) (v ∷ vs) (suc n) = ap (λ us. (if b then v else values.Null) ∷ us) (masked-take valid vs n)
 
--- the values behind the first ones
+-- the values after the first ones
 pub masked-drop : (valid : List Bool) (vs : List Value) (n : ℕ) → masked (drop n valid) (drop n vs) ≡ drop n (masked valid vs)
 masked-drop valid vs zero = refl
 masked-drop [] vs (suc n) = refl
@@ -119,7 +135,7 @@ gathered-map f place xs d (row ∷ rows) =
     ap (λ y. y ∷ map f (map (λ r. get_or xs (place r) d) rows)) (get_or-map f xs (place row) d)
     ∙ ap (λ ys. get_or (map f xs) (place row) (f d) ∷ ys) (gathered-map f place xs d rows)
 
--- items of some rows behind others, as values
+-- items of some rows after others, as values
 pub kept_gather : {X Y R T E : Type 0} (f : X → Y) (r : Result T E) (new old others : List X) (limit : ℕ) (place : R → ℕ) (rows : List R) (d : X) → OnOk r (new ≡ old ++ map (λ row. get_or (take limit others) (place row) d) rows) → OnOk r (map f new ≡ map f old ++ map (λ row. get_or (take limit (map f others)) (place row) (f d)) rows)
 kept_gather f r new old others limit place rows d gathered =
     on_ok_weaker r (λ (e : new ≡ old ++ map (λ row. get_or (take limit others) (place row) d) rows).

@@ -1,4 +1,4 @@
--- Columns beside each other as rows: their number, their types, and the column that they give back.
+-- Columns side by side as rows: their number, their types, and the column that they give back.
 use Rattle.std.proofs.Common.{◌≡◌, ℕ, zero, suc, ◌<◌, List, [], ◌∷◌, Some, length, take, get_or, map, replicate, refl, ap, sym, subst, inl, inr, ◌∙◌, arith, slice_get}
 use Rattle.std.proofs.lemmas.List.{length-replicate}
 use Rattle.std.specs.Option.{option_map}
@@ -71,7 +71,7 @@ framed_rows_fit fields height columns framed = elim framed.fit as (λ _. FitsRow
       subst P (sym absent.1) (no_row_fits (kinds_of fields) height absent.0)
 ]
 
--- the first column, and those behind it
+-- the first column, and those after it
 pub first-of_rows : (vs : List Value) (rows : List Row) → length vs ≡ length rows → map (cell_at 0) (with_column vs rows) ≡ vs
 first-of_rows [] rows same = refl
 first-of_rows (v ∷ vs) [] same = absurd (omega arith)
@@ -95,7 +95,7 @@ column-of_rows (field ∷ fields) height (column ∷ columns) (suc at) d fit wit
     ∙ sym (next-of_rows at column.values (rows_of height columns) (fit.1 ∙ sym (length-rows fields height columns fit.2)))
 
 -- and of the type that the schema has there
-pub kind-of_column : (fields : List Field) (height : ℕ) (columns : List Values) (at : ℕ) (d : Values) → Fit fields height columns → at < length columns → d ≡ get_or columns at d → slice_get (kinds_of fields) at ≡ Some d.kind
+kind-of_column : (fields : List Field) (height : ℕ) (columns : List Values) (at : ℕ) (d : Values) → Fit fields height columns → at < length columns → d ≡ get_or columns at d → slice_get (kinds_of fields) at ≡ Some d.kind
 kind-of_column fields height [] at d fit within read = absurd (omega arith)
 kind-of_column [] height (column ∷ columns) at d fit within read = absurd fit
 kind-of_column (field ∷ fields) height (column ∷ columns) zero d fit within read = ap (λ kind. Some kind) (sym fit.0 ∙ ap (λ (v : Values). v.kind) (sym read))
@@ -122,8 +122,14 @@ absent_rows fields height columns framed absent = elim framed.fit as (λ _. rows
 ]
 
 -- where one is kept they fit
-pub present_fit : (fields : List Field) (height : ℕ) (columns : List Values) → IsFramed fields height columns → 0 < length columns → Fit fields height columns
+present_fit : (fields : List Field) (height : ℕ) (columns : List Values) → IsFramed fields height columns → 0 < length columns → Fit fields height columns
 present_fit fields height columns framed some = elim framed.fit as (λ _. Fit fields height columns) [
   | inl fit ↦ fit
   | inr none ↦ absurd (omega (arith, ap length none.1))
 ]
+
+-- a column that is kept, at its place
+pub kept_column : (fields : List Field) (height : ℕ) (columns : List Values) (at : ℕ) (d : Values) → IsFramed fields height columns → at < length columns → d ≡ get_or columns at d → (slice_get (kinds_of fields) at ≡ Some d.kind) × (d.values ≡ map (cell_at at) (rows_of height columns))
+kept_column fields height columns at d framed within read =
+    let fit = present_fit fields height columns framed (omega arith) in
+    (kind-of_column fields height columns at d fit within read, column-of_rows fields height columns at d fit within read)

@@ -60,7 +60,7 @@ take-are_pieces from (end ∷ ends) bytes (suc n) within cut are =
     let stands = cut_at_start end ends bytes n (omega arith) are.1 are.2 in
     (are.0, boundary-take bytes end (get_or (end ∷ ends) n 0) before stands.0 are.1, take-are_pieces end ends bytes n (omega arith) are.1 are.2)
 
--- texts, and others behind them
+-- texts, and others after them
 pub pieces-append : (from : ℕ) (ends bytes more tail : List ℕ) → ArePieces from ends bytes → pieces from (ends ++ more) (bytes ++ tail) ≡ pieces from ends bytes ++ pieces (length bytes) more (bytes ++ tail)
 pieces-append from [] bytes more tail are = ap (λ n. pieces n more (bytes ++ tail)) are
 pieces-append from (end ∷ ends) bytes more tail are =
@@ -93,7 +93,7 @@ start_rises from ends bytes (suc i) zero order within are = absurd (omega arith)
 start_rises from [] bytes (suc i) (suc j) order within are = absurd (omega arith)
 start_rises from (end ∷ ends) bytes (suc i) (suc j) order within are = start_rises end ends bytes i j (omega arith) (omega arith) are.2
 
--- the texts behind the first ones, and the first ones alone
+-- the texts after the first ones, and the first ones alone
 pub drop-pieces : (from : ℕ) (ends bytes : List ℕ) (i : ℕ) → i ≤ length ends → drop i (pieces from ends bytes) ≡ pieces (get_or (from ∷ ends) i 0) (drop i ends) bytes
 drop-pieces from ends bytes zero within = refl
 drop-pieces from [] bytes (suc i) within = absurd (omega arith)
@@ -115,14 +115,14 @@ drop-are_pieces from ends bytes zero within are = are
 drop-are_pieces from [] bytes (suc i) within are = absurd (omega arith)
 drop-are_pieces from (end ∷ ends) bytes (suc i) within are = drop-are_pieces end ends bytes i (omega arith) are.2
 
--- where a text of those behind the first ones begins
+-- where a text of those after the first ones begins
 pub start-drop : (from : ℕ) (ends : List ℕ) (i n j : ℕ) → j ≡ i + n → i ≤ length ends → get_or (get_or (from ∷ ends) i 0 ∷ drop i ends) n 0 ≡ get_or (from ∷ ends) j 0
 start-drop from ends zero n j at within = let same : n ≡ j = omega arith in ap (λ m. get_or (from ∷ ends) m 0) same
 start-drop from [] (suc i) n j at within = absurd (omega arith)
 start-drop from (end ∷ ends) (suc i) n zero at within = absurd (omega arith)
 start-drop from (end ∷ ends) (suc i) n (suc j) at within = start-drop end ends i n j (omega arith) (omega arith)
 
--- ends that do not fall from one place to another, which is the last, and stand between characters
+-- ends that do not fall from one place to another, which is the last, and lie between characters
 abbrev pub Between : ℕ → List ℕ → ℕ → List ℕ → Type 0
 Between from [] to bytes = from ≡ to
 Between from (end ∷ ends) to bytes = (from ≤ end) × IsCharBoundary bytes end × Between end ends to bytes
@@ -151,7 +151,7 @@ between-at from (end ∷ ends) to bytes zero within between = (between.0, betwee
 between-at from (end ∷ ends) to bytes (suc k) within between =
     let behind = between-at end ends to bytes k (omega arith) between.2 in (omega (arith, between.0, behind.0), behind.1)
 
--- texts of a range of bytes, put behind others
+-- texts of a range of bytes, put after others
 pub moved-pieces : (front bytes : List ℕ) (begin end base from : ℕ) (ends : List ℕ) → begin ≤ from → end ≤ length bytes → base ≡ length front → Between from ends end bytes → pieces (base + (from - begin)) (moved begin base ends) (front ++ slice_range bytes begin end) ≡ pieces from ends bytes
 moved-pieces front bytes begin end base from [] behind within at between = refl
 moved-pieces front bytes begin end base from (next ∷ ends) behind within at between =
@@ -170,7 +170,7 @@ moved-are_pieces front bytes begin end base from (next ∷ ends) behind within a
     let later : begin ≤ next = omega (arith, between.0) in
     (omega (arith, between.0), boundary-moved front bytes begin end base next later order within at between.1, moved-are_pieces front bytes begin end base next ends later within at between.2)
 
--- a range of other texts behind texts
+-- a range of other texts after texts
 pub append-range : (ends bytes other_ends others : List ℕ) (i j base : ℕ) → base ≡ length bytes → i ≤ j → j ≤ length other_ends → IsUtf8 others → ArePieces 0 ends bytes → ArePieces 0 other_ends others → pieces 0 (ends ++ moved (get_or (0 ∷ other_ends) i 0) base (slice_range other_ends i j)) (bytes ++ slice_range others (get_or (0 ∷ other_ends) i 0) (get_or (0 ∷ other_ends) j 0)) ≡ pieces 0 ends bytes ++ slice_range (pieces 0 other_ends others) i j
 append-range ends bytes other_ends others i j base at order within text are are_others =
     let begin : ℕ = get_or (0 ∷ other_ends) i 0 in

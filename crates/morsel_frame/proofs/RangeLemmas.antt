@@ -8,7 +8,7 @@ use Rattle.std.proofs.lemmas.Result.{on_ok_weaker}
 use Rattle.std.specs.Prelude.{Result, OnOk, slice_range}
 use Rattle.std.specs.Str.{IsCharBoundary, IsUtf8}
 
--- a range of what was cut behind it
+-- a range of what was cut after it
 pub range-take : {X : Type 0} (xs : List X) (i j n : ℕ) → j ≤ n → slice_range (take n xs) i j ≡ slice_range xs i j
 range-take xs i j n within =
     between_is (take n xs) i j ∙ ap (drop i) (take-take j n xs within) ∙ sym (between_is xs i j)
@@ -23,13 +23,13 @@ pub range-behind : {X : Type 0} (xs ys : List X) (j : ℕ) → j ≡ length xs +
 range-behind xs ys j all =
     ap (take (j - length xs)) (drop_at xs ys (length xs) refl) ∙ take_all (j - length xs) ys (omega arith)
 
--- a range of what a function gives, put behind what it gives
+-- a range of what a function gives, put after what it gives
 pub range-map : {X Y : Type 0} (f : X → Y) (xs ys : List X) (i j : ℕ) → map f (xs ++ slice_range ys i j) ≡ map f xs ++ slice_range (map f ys) i j
 range-map f xs ys i j =
     map-append f xs (slice_range ys i j)
     ∙ ap (λ zs. map f xs ++ zs) (sym (take-map f (j - i) (drop i ys)) ∙ ap (take (j - i)) (sym (drop-map f i ys)))
 
--- the same behind a call that may fail
+-- the same after a call that may fail
 pub kept_range : {X Y T E : Type 0} (f : X → Y) (r : Result T E) (new old others : List X) (i j : ℕ) → OnOk r (new ≡ old ++ slice_range others i j) → OnOk r (map f new ≡ map f old ++ slice_range (map f others) i j)
 kept_range f r new old others i j appended =
     on_ok_weaker r (λ (e : new ≡ old ++ slice_range others i j). ap (map f) e ∙ range-map f old others i j) appended
@@ -63,12 +63,12 @@ boundary-append bytes tail at text cut = elim (cases_lt at (length bytes)) as (�
 pub length-range : {X : Type 0} (xs : List X) (i j : ℕ) → j ≤ length xs → length (slice_range xs i j) ≡ j - i
 length-range xs i j within = length-take (j - i) (drop i xs) ∙ omega (arith, length-drop i xs)
 
--- a range of a range that stands behind a front
+-- a range of a range that follows a front
 pub range-moved : {X : Type 0} (front xs : List X) (begin end base i j : ℕ) → begin ≤ i → i ≤ j → j ≤ end → end ≤ length xs → base ≡ length front → slice_range (front ++ slice_range xs begin end) (base + (i - begin)) (base + (j - begin)) ≡ slice_range xs i j
 range-moved front xs begin end base i j behind order before within at =
     same_lists _ _ (search (rules, places)) (λ k d h. grind (arith, places))
 
--- the byte at a place of a range that stands behind a front
+-- the byte at a place of a range that follows a front
 pub get_or-moved : (front xs : List ℕ) (begin end base i : ℕ) → begin ≤ i → i < end → end ≤ length xs → base ≡ length front → get_or (front ++ slice_range xs begin end) (base + (i - begin)) 0 ≡ get_or xs i 0
 get_or-moved front xs begin end base i behind before within at = grind (arith, places)
 

@@ -101,11 +101,14 @@ clamped rows offset len height from n lens begins ends =
     ∙ ap (λ m. take m (drop offset rows)) rest ∙ take_min len (drop offset rows)
 
 -- the whole range of each column
-pub range_of_all : (n : ℕ) (columns : List Values) → AreLevel n columns → map (column_range 0 n) columns ≡ columns
+range_of_all : (n : ℕ) (columns : List Values) → AreLevel n columns → map (column_range 0 n) columns ≡ columns
 range_of_all n [] level = refl
 range_of_all n (column ∷ columns) level =
     ap (λ vs. record { kind = column.kind; values = vs } ∷ map (column_range 0 n) columns) (range-whole column.values n (sym level.0))
     ∙ ap (λ cs. column ∷ cs) (range_of_all n columns level.1)
+
+pub range-framed : (fields : List Field) (n : ℕ) (columns : List Values) → IsFramed fields n columns → map (column_range 0 n) columns ≡ columns
+range-framed fields n columns framed = range_of_all n columns (framed-level fields n columns framed)
 
 with_column-append : (vs ws : List Value) (rows more : List Row) → length vs ≡ length rows → with_column (vs ++ ws) (rows ++ more) ≡ with_column vs rows ++ with_column ws more
 with_column-append [] ws [] more same = refl
@@ -113,35 +116,20 @@ with_column-append [] ws (row ∷ rows) more same = absurd (omega arith)
 with_column-append (v ∷ vs) ws [] more same = absurd (omega arith)
 with_column-append (v ∷ vs) ws (row ∷ rows) more same = ap (λ rs. (v ∷ row) ∷ rs) (with_column-append vs ws rows more (omega arith))
 
--- rows of columns one below the other
-pub rows-stacked : (fields : List Field) (height more : ℕ) (columns others : List Values) → Fit fields height columns → Fit fields more others → rows_of (height + more) (stacked columns others) ≡ rows_of height columns ++ rows_of more others
-rows-stacked [] height more [] [] fit fit_others = sym (replicate-append-replicate height more [])
-rows-stacked [] height more (column ∷ columns) others fit fit_others = absurd fit
-rows-stacked [] height more [] (other ∷ others) fit fit_others = absurd fit_others
-rows-stacked (field ∷ fields) height more [] others fit fit_others = absurd fit
-rows-stacked (field ∷ fields) height more (column ∷ columns) [] fit fit_others = absurd fit_others
-rows-stacked (field ∷ fields) height more (column ∷ columns) (other ∷ others) fit fit_others =
-    ap (with_column (column.values ++ other.values)) (rows-stacked fields height more columns others fit.2 fit_others.2)
-    ∙ with_column-append column.values other.values (rows_of height columns) (rows_of more others) (fit.1 ∙ sym (length-rows fields height columns fit.2))
-
-fit-stacked : (fields : List Field) (height more : ℕ) (columns others : List Values) → Fit fields height columns → Fit fields more others → Fit fields (height + more) (stacked columns others)
-fit-stacked [] height more [] [] fit fit_others = tt
-fit-stacked [] height more (column ∷ columns) others fit fit_others = absurd fit
-fit-stacked [] height more [] (other ∷ others) fit fit_others = absurd fit_others
-fit-stacked (field ∷ fields) height more [] others fit fit_others = absurd fit
-fit-stacked (field ∷ fields) height more (column ∷ columns) [] fit fit_others = absurd fit_others
-fit-stacked (field ∷ fields) height more (column ∷ columns) (other ∷ others) fit fit_others =
-    (fit.0, omega (arith, length-append column.values other.values, fit.1, fit_others.1), fit-stacked fields height more columns others fit.2 fit_others.2)
-
--- columns of one schema are of the same types
-pub fit-alike : (fields : List Field) (height more : ℕ) (columns others : List Values) → Fit fields height columns → Fit fields more others → AreAlike columns others
-fit-alike [] height more [] [] fit fit_others = tt
-fit-alike [] height more (column ∷ columns) others fit fit_others = absurd fit
-fit-alike [] height more [] (other ∷ others) fit fit_others = absurd fit_others
-fit-alike (field ∷ fields) height more [] others fit fit_others = absurd fit
-fit-alike (field ∷ fields) height more (column ∷ columns) [] fit fit_others = absurd fit_others
-fit-alike (field ∷ fields) height more (column ∷ columns) (other ∷ others) fit fit_others =
-    (fit_others.0 ∙ sym fit.0, fit-alike fields height more columns others fit.2 fit_others.2)
+-- columns of one schema, one below the other: they are of the same types, they fit, and their rows follow each other
+below-fit : (fields : List Field) (height more : ℕ) (columns others : List Values) → Fit fields height columns → Fit fields more others → AreAlike columns others × Fit fields (height + more) (stacked columns others) × (rows_of (height + more) (stacked columns others) ≡ rows_of height columns ++ rows_of more others)
+below-fit [] height more [] [] fit fit_others = (tt, tt, sym (replicate-append-replicate height more []))
+below-fit [] height more (column ∷ columns) others fit fit_others = absurd fit
+below-fit [] height more [] (other ∷ others) fit fit_others = absurd fit_others
+below-fit (field ∷ fields) height more [] others fit fit_others = absurd fit
+below-fit (field ∷ fields) height more (column ∷ columns) [] fit fit_others = absurd fit_others
+below-fit (field ∷ fields) height more (column ∷ columns) (other ∷ others) fit fit_others =
+    let below = below-fit fields height more columns others fit.2 fit_others.2 in (
+      (fit_others.0 ∙ sym fit.0, below.0),
+      (fit.0, omega (arith, length-append column.values other.values, fit.1, fit_others.1), below.1),
+      ap (with_column (column.values ++ other.values)) below.2
+          ∙ with_column-append column.values other.values (rows_of height columns) (rows_of more others) (fit.1 ∙ sym (length-rows fields height columns fit.2)),
+    )
 
 typed-stacked : (columns others : List Values) → AreAlike columns others → AreTyped columns → AreTyped others → AreTyped (stacked columns others)
 typed-stacked [] [] alike typed typed_others = tt
@@ -151,12 +139,6 @@ typed-stacked (column ∷ columns) (other ∷ others) alike typed typed_others =
     let P : ColType → Type 0 = λ kind. AreOfType kind other.values in
     (of_type-append column.kind column.values other.values typed.0 (subst P alike.0 typed_others.0), typed-stacked columns others alike.1 typed.1 typed_others.1)
 
-pub framed-stacked : (fields : List Field) (height more : ℕ) (columns others : List Values) → Fit fields height columns → Fit fields more others → AreTyped columns → AreTyped others → IsFramed fields (height + more) (stacked columns others)
-framed-stacked fields height more columns others fit fit_others typed typed_others = record {
-  fit = inl (fit-stacked fields height more columns others fit fit_others);
-  typed = typed-stacked columns others (fit-alike fields height more columns others fit fit_others) typed typed_others;
-}
-
 -- where there are rows the columns fit
 pub framed_rows-fit : (fields : List Field) (height : ℕ) (columns : List Values) → 0 < height → IsFramed fields height columns → Fit fields height columns
 framed_rows-fit fields height columns some framed = elim framed.fit as (λ _. Fit fields height columns) [
@@ -164,6 +146,12 @@ framed_rows-fit fields height columns some framed = elim framed.fit as (λ _. Fi
   | inr absent ↦ absurd (omega (arith, absent.0))
 ]
 
--- where there are none
+-- and where there are none they make no rows
 pub framed-nothing : (fields : List Field) (height : ℕ) (columns : List Values) → height ≡ 0 → IsFramed fields height columns → rows_of height columns ≡ []
 framed-nothing fields height columns none framed = nil_from_length (rows_of height columns) (length-framed fields height columns framed ∙ none)
+
+-- framed columns that have rows, one below the other
+pub framed-below : (fields : List Field) (height more : ℕ) (columns others : List Values) → 0 < height → 0 < more → IsFramed fields height columns → IsFramed fields more others → AreAlike columns others × IsFramed fields (height + more) (stacked columns others) × (rows_of (height + more) (stacked columns others) ≡ rows_of height columns ++ rows_of more others)
+framed-below fields height more columns others some some_more framed framed_others =
+    let below = below-fit fields height more columns others (framed_rows-fit fields height columns some framed) (framed_rows-fit fields more others some_more framed_others) in
+    (below.0, record { fit = inl below.1; typed = typed-stacked columns others below.0 framed.typed framed_others.typed }, below.2)

@@ -30,7 +30,7 @@ apart-step : (found : Bool) (front before names : List (List ℕ)) (n y : List �
 apart-step true front before names n y stands none = cc
 apart-step false front before names n y stands none = (any-apart front before n y stands, none)
 
--- where no name stands before it, none is one of those that stood before them all
+-- where no name occurs before it, none is one of those that came before them all
 known-apart : (front before names : List (List ℕ)) (n : List ℕ) → first_known (front ++ n ∷ before) names ≡ None → AllByRecursion (λ y. bytes_eq n y ≡ false) names
 known-apart front before [] n none = tt
 known-apart front before (y ∷ names) n none =
@@ -66,7 +66,7 @@ pub was_absent : (there added : Bool) → added ≡ not there → added ≡ true
 was_absent true added is known = cc
 was_absent false added is known = refl
 
--- a field whose name does not stand before it
+-- a field whose name does not occur before it
 pub known-step : (before : List (List ℕ)) (fields : List Field) (i : ℕ) (field : Field) (name : List ℕ) → name ≡ field.name → i < length fields → field ≡ get_or fields i field → stands_in name before ≡ false → first_known before (names_of (drop i fields)) ≡ first_known (name ∷ before) (names_of (drop (i + 1) fields))
 known-step before fields i field name named within read absent =
     at_drop_more (λ fs. first_known before (names_of fs)) fields i field within

@@ -24,7 +24,7 @@ untouched-set places i at old new y is untouched = λ j away.
     get_or-set_other new at j y no_column (λ same. away i (omega arith) (sym (same ∙ is)))
     ∙ untouched j (λ k before. away k (omega arith))
 
--- a place stands once
+-- a place occurs once
 pub place-apart : (places : List ℕ) (k i : ℕ) → AreDistinctPlaces places → k < i → i < length places → get_or places k 0 ≡ get_or places i 0 → ⊥
 place-apart places k i distinct before within same =
     false≢true (sym (apart_from_distinct nat_eq places k i 0 distinct before within) ∙ eq-eqb (get_or places k 0) (get_or places i 0) same)

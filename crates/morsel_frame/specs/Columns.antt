@@ -5,6 +5,7 @@ use Rattle.morsel_meaning.specs.declared.value.Value.{Value}
 use Rattle.morsel_meaning.specs.declared.value.Value.TheVariants.{Null}
 use Rattle.morsel_meaning.specs.Values.{IsOfType}
 
+-- a column: its type, and its values from the first row on
 pub record Values : Type 0 where
   pub kind : ColType
   pub values : List Value

@@ -1,4 +1,4 @@
--- How columns of one height stand for rows.
+-- Columns of one height, seen as rows.
 use Rattle.std.specs.Prelude.{◌≡◌, ◌⊎◌, ℕ, List, [], ◌∷◌, length, replicate}
 use Rattle.morsel_meaning.specs.declared.value.ColType.TheVariants as types
 use Rattle.morsel_meaning.specs.declared.value.Value.{Value}

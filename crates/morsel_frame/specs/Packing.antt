@@ -1,4 +1,4 @@
--- How a column keeps its values: numbers, truth values or texts side by side, and beside them which are valid.
+-- How a column keeps its values: numbers, truth values or texts side by side, and beside them marks of those that are valid.
 use Rattle.std.specs.Prelude.{◌≡◌, Bool, false, pos, List, [], length, map}
 use Rattle.morsel_meaning.specs.declared.value.ColType.{ColType}
 use Rattle.morsel_meaning.specs.declared.value.ColType.TheVariants as types
@@ -14,6 +14,7 @@ stored (packed.Int numbers) = map values.Int numbers.items
 stored (packed.Bool flags) = map values.Bool flags.items
 stored (packed.Text texts) = map values.Text texts
 
+-- the type of what is kept
 abbrev pub kind_of : Packed → ColType
 kind_of (packed.Int numbers) = types.Int
 kind_of (packed.Bool flags) = types.Bool
@@ -25,6 +26,14 @@ blank_of types.Int = values.Int (pos 0)
 blank_of types.Bool = values.Bool false
 blank_of types.Text = values.Text []
 
+-- what is kept for a value of a type: the value, and a blank for a null
+abbrev pub kept_of : ColType → Value → Value
+kept_of kind values.Null = blank_of kind
+kept_of kind (values.Int n) = values.Int n
+kept_of kind (values.Bool b) = values.Bool b
+kept_of kind (values.Text t) = values.Text t
+
+-- the column that is kept so: its type, and its values under their marks
 abbrev pub unpacked : Packed → List Bool → Values
 unpacked p valid = record { kind = kind_of p; values = masked valid (stored p) }
 

@@ -3,7 +3,7 @@ use Rattle.std.specs.Prelude.{ℕ, List, [], map, get_or}
 use Rattle.morsel_meaning.specs.declared.value.ColType.TheVariants as types
 use Rattle.morsel_frame.specs.Columns.{Values}
 
--- what stands in the place of a column that was moved away
+-- what is left in the place of a column that was moved away
 abbrev pub no_column : Values
 no_column = record { kind = types.Int; values = [] }
 

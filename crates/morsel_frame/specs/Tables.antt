@@ -16,6 +16,7 @@ cell_at at row = get_or row at values.Null
 abbrev pub rows_between : ℕ → ℕ → List Row → List Row
 rows_between offset len rows = take len (drop offset rows)
 
+-- whether two types are the same
 abbrev pub same_kind : ColType → ColType → Bool
 same_kind types.Int types.Int = true
 same_kind types.Bool types.Bool = true

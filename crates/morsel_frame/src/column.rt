@@ -4,6 +4,7 @@ ghost use Rattle.morsel_meaning.specs.Values.{IsOfType};
 ghost use Rattle.morsel_frame.specs.Cells.{value_of};
 ghost use Rattle.morsel_frame.specs.Columns.{AreOfType, masked, value_at, value_or_null};
 
+use crate::cell::{cell_of, has_value};
 use crate::gathers::gather_slice;
 use crate::packed::{Packed, append_slice};
 use crate::row_number::RowNumber;
@@ -77,12 +78,7 @@ impl Column {
         ensures err { OnErr result (self.new ≡ self.old) }
         ensures out_of_memory { IsOkUnless result Fault.OutOfMemory }
     {
-        match &value {
-            Value::Null => self.push_null(),
-            Value::Int(number) => self.push_int(*number),
-            Value::Bool(flag) => self.push_bool(*flag),
-            Value::Text(text) => self.push_text(text.as_str()),
-        }
+        self.push_cell(cell_of(&value))
     }
 
     /// Puts a number last.
@@ -92,10 +88,7 @@ impl Column {
         ensures err { OnErr result (self.new ≡ self.old) }
         ensures out_of_memory { IsOkUnless result Fault.OutOfMemory }
     {
-        self.valid.reserve(1)?;
-        self.packed.push_int(number)?;
-        self.valid.push(true)?;
-        Ok(())
+        self.push_cell(Cell::Int(number))
     }
 
     /// Puts a truth value last.
@@ -105,10 +98,7 @@ impl Column {
         ensures err { OnErr result (self.new ≡ self.old) }
         ensures out_of_memory { IsOkUnless result Fault.OutOfMemory }
     {
-        self.valid.reserve(1)?;
-        self.packed.push_bool(flag)?;
-        self.valid.push(true)?;
-        Ok(())
+        self.push_cell(Cell::Bool(flag))
     }
 
     /// Puts a text last.
@@ -118,10 +108,7 @@ impl Column {
         ensures err { OnErr result (self.new ≡ self.old) }
         ensures out_of_memory { IsOkUnless result Fault.OutOfMemory }
     {
-        self.valid.reserve(1)?;
-        self.packed.push_text(text)?;
-        self.valid.push(true)?;
-        Ok(())
+        self.push_cell(Cell::Text(text))
     }
 
     /// Puts a null last.
@@ -130,25 +117,22 @@ impl Column {
         ensures err { OnErr result (self.new ≡ self.old) }
         ensures out_of_memory { IsOkUnless result Fault.OutOfMemory }
     {
-        self.valid.reserve(1)?;
-        self.packed.push_blank()?;
-        self.valid.push(false)?;
-        Ok(())
+        self.push_cell(Cell::Null)
     }
 
     /// Puts a cell's value last.
+    // Inlined, so that a caller who knows the kind of the cell does not have it tested.
+    #[inline(always)]
     pub fn push_cell(&mut self, cell: Cell<'_>) -> Result<(), Fault>
         requires { IsOfType self.old.kind (value_of cell) }
         ensures ok { OnOk result (self.new ≡ record self.old { values = self.old.values ++ value_of cell.entry ∷ [] }) }
         ensures err { OnErr result (self.new ≡ self.old) }
         ensures out_of_memory { IsOkUnless result Fault.OutOfMemory }
     {
-        match cell {
-            Cell::Null => self.push_null(),
-            Cell::Int(number) => self.push_int(number),
-            Cell::Bool(flag) => self.push_bool(flag),
-            Cell::Text(text) => self.push_text(text),
-        }
+        self.valid.reserve(1)?;
+        self.packed.push(cell)?;
+        self.valid.push(has_value(cell))?;
+        Ok(())
     }
 
     /// Drops the values from row `len` on.

@@ -32,7 +32,7 @@ pub fn with_last_field(
     Schema::new(alloc, fields)
 }
 
-/// The fields behind a first one.
+/// The fields after a first one.
 pub fn with_first_field(
     alloc: Global,
     name: Name,

@@ -1,4 +1,4 @@
-//! Frames: columns of one height beside each other, which contracts see as a table of rows.
+//! Frames: columns of one height side by side, which contracts see as a table of rows.
 ghost use Rattle.std.specs.Prelude.{◌≡◌, ℕ, ◌≢◌, ◌+◌, ◌^◌, ◌<◌, ◌≤◌, ◌++◌, [], ◌∷◌, length, map, take, drop, Some, slice_get, IfOk, OnOk, OnErr, IsOkUnless};
 ghost use Rattle.std.specs.List.{All};
 ghost use Rattle.morsel_meaning.specs.Values.{FitsRows, kinds_of, names_of};
@@ -161,7 +161,7 @@ impl Frame {
         Ok(())
     }
 
-    /// The columns of this frame, and behind them the other's.
+    /// The columns of this frame, and after them the other's.
     pub fn hstack(self, alloc: Global, other: Frame) -> Result<Frame, Fault>
         requires { length self.rows ≡ length other.rows }
         ensures ok { IfOk result (λ frame. frame ≡ record { schema = self.schema ++ other.schema; rows = beside self.rows other.rows }) }
@@ -177,7 +177,7 @@ impl Frame {
         Ok(framed(alloc, schema, columns, height))
     }
 
-    /// The rows with these numbers, one as often as its number stands there.
+    /// The rows with these numbers, each as often as its number is given.
     pub fn gather(&self, alloc: Global, rows: &[usize]) -> Result<Frame, Fault>
         requires { All (λ row. row < length self.now.rows) rows.now }
         ensures ok { IfOk result (λ frame. frame ≡ record self.now { rows = rows_at self.now.rows rows.now }) }
@@ -245,6 +245,7 @@ impl Frame {
     /// The schema, the columns and the height, of which the columns may be left out where it is 0.
     fn into_parts(self) -> (Schema, Vec<Column>, usize)
         ensures schema { result.0 ≡ self.schema }
+        ensures height { result.2 ≡ length self.rows }
         ensures framed { IsFramed self.schema result.2 result.1.items }
         ensures rows { rows_of result.2 result.1.items ≡ self.rows }
     {

@@ -74,7 +74,7 @@ fn gather_one(alloc: Global, column: &Column, rows: &[usize]) -> Result<Column, 
     Ok(picked)
 }
 
-/// The columns behind a first one.
+/// The columns after a first one.
 pub fn with_first(alloc: Global, first: Column, columns: Vec<Column>) -> Result<Vec<Column>, Fault>
     ensures ok { IfOk result (λ all. all.items ≡ first ∷ columns.items) }
     ensures out_of_memory { IsOkUnless result Fault.OutOfMemory }

@@ -1,8 +1,10 @@
 //! The values of a column without their marks, packed by type.
 ghost use Rattle.std.specs.Prelude.{◌≡◌, ◌+◌, ◌≤◌, ◌++◌, ◌∷◌, [], ◌<◌, length, map, take, get_or, OnOk, OnErr, IsOkUnless, slice_range, vec_len, vec_capacity, ◌-◌, replicate, IfOk};
+ghost use Rattle.morsel_meaning.specs.Values.{IsOfType};
 ghost use Rattle.morsel_frame.specs.Cells.{value_of};
-ghost use Rattle.morsel_frame.specs.Packing.{stored, kind_of, blank_of};
+ghost use Rattle.morsel_frame.specs.Packing.{stored, kind_of, blank_of, kept_of};
 
+use crate::cell::{flag_of, number_of, text_of};
 use crate::gathers::{gather_slice, gather_texts};
 use crate::row_number::RowNumber;
 use crate::{Cell, Texts};
@@ -66,62 +68,19 @@ impl Packed {
         }
     }
 
-    /// Puts a number last.
-    pub fn push_int(&mut self, number: i64) -> Result<(), Fault>
-        requires { kind_of self.old ≡ ColType.Int }
+    /// Puts a cell's value last, and a blank for a null.
+    #[inline(always)]
+    pub fn push(&mut self, cell: Cell<'_>) -> Result<(), Fault>
+        requires { IsOfType (kind_of self.old) (value_of cell) }
         ensures kind { kind_of self.new ≡ kind_of self.old }
-        ensures items { OnOk result (stored self.new ≡ stored self.old ++ Value.Int number ∷ []) }
+        ensures items { OnOk result (stored self.new ≡ stored self.old ++ kept_of (kind_of self.old) (value_of cell.entry) ∷ []) }
         ensures err { OnErr result (stored self.new ≡ stored self.old) }
         ensures out_of_memory { IsOkUnless result Fault.OutOfMemory }
     {
         match self {
-            Packed::Int(numbers) => numbers.push(number)?,
-            _ => unreachable!(),
-        }
-        Ok(())
-    }
-
-    /// Puts a truth value last.
-    pub fn push_bool(&mut self, flag: bool) -> Result<(), Fault>
-        requires { kind_of self.old ≡ ColType.Bool }
-        ensures kind { kind_of self.new ≡ kind_of self.old }
-        ensures items { OnOk result (stored self.new ≡ stored self.old ++ Value.Bool flag ∷ []) }
-        ensures err { OnErr result (stored self.new ≡ stored self.old) }
-        ensures out_of_memory { IsOkUnless result Fault.OutOfMemory }
-    {
-        match self {
-            Packed::Bool(flags) => flags.push(flag)?,
-            _ => unreachable!(),
-        }
-        Ok(())
-    }
-
-    /// Puts a text last.
-    pub fn push_text(&mut self, text: &str) -> Result<(), Fault>
-        requires { kind_of self.old ≡ ColType.Text }
-        ensures kind { kind_of self.new ≡ kind_of self.old }
-        ensures items { OnOk result (stored self.new ≡ stored self.old ++ Value.Text text.now ∷ []) }
-        ensures err { OnErr result (stored self.new ≡ stored self.old) }
-        ensures out_of_memory { IsOkUnless result Fault.OutOfMemory }
-    {
-        match self {
-            Packed::Text(texts) => texts.push(text)?,
-            _ => unreachable!(),
-        }
-        Ok(())
-    }
-
-    /// Puts a blank last.
-    pub fn push_blank(&mut self) -> Result<(), Fault>
-        ensures kind { kind_of self.new ≡ kind_of self.old }
-        ensures items { OnOk result (stored self.new ≡ stored self.old ++ blank_of (kind_of self.old) ∷ []) }
-        ensures err { OnErr result (stored self.new ≡ stored self.old) }
-        ensures out_of_memory { IsOkUnless result Fault.OutOfMemory }
-    {
-        match self {
-            Packed::Int(numbers) => numbers.push(0)?,
-            Packed::Bool(flags) => flags.push(false)?,
-            Packed::Text(texts) => texts.push("")?,
+            Packed::Int(numbers) => numbers.push(number_of(cell))?,
+            Packed::Bool(flags) => flags.push(flag_of(cell))?,
+            Packed::Text(texts) => texts.push(text_of(cell))?,
         }
         Ok(())
     }
@@ -201,7 +160,7 @@ pub fn append_slice<T: Copy>(
     Ok(())
 }
 
-/// Moves the other's items behind these.
+/// Moves the other's items to the end of these.
 pub fn append_vec<T: Drop>(items: &mut Vec<T>, more: Vec<T>) -> Result<(), Fault>
     ensures ok { OnOk result (items.new.items ≡ items.old.items ++ more.items) }
     ensures out_of_memory { IsOkUnless result Fault.OutOfMemory }

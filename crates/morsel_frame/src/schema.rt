@@ -31,7 +31,7 @@ impl Model for Schema {
 }
 
 impl Schema {
-    /// Holds the fields. The first name that stands in an earlier field is a duplicate.
+    /// Holds the fields. The first name that an earlier field has is a duplicate.
     pub fn new(alloc: Global, fields: Vec<Field>) -> Result<Schema, Fault>
         ensures ok { IfOk result (λ schema. schema ≡ fields.items) }
         ensures refused { Refuses (repeat_fault fields.items) result }
@@ -98,7 +98,7 @@ impl Schema {
     }
 }
 
-/// The first name that stands before it.
+/// The first name that occurs before it.
 fn repeated(alloc: Global, fields: &[Field]) -> Result<Option<Name>, Fault>
     ensures value { IfOk result (λ name. name ≡ first_repeated (names_of fields.now)) }
     ensures out_of_memory { IsOkUnless result Fault.OutOfMemory }

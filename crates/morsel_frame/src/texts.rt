@@ -1,4 +1,4 @@
-//! A text buffer: texts one behind another in one allocation, and the place where each ends.
+//! A text buffer: texts one after another in one allocation, and the place where each ends.
 ghost use Rattle.std.specs.Prelude.{◌≡◌, ◌+◌, ◌-◌, ◌<◌, ◌≤◌, [], ◌∷◌, ◌++◌, List, ℕ, length, take, map, slice_range, get_or, OnOk, OnErr, IfOk, IsOkUnless, vec_len, vec_capacity, slice_index, ◌^◌, replicate, string_bytes};
 ghost use Rattle.morsel_frame.specs.Pieces.{ArePieces, moved};
 
@@ -62,7 +62,7 @@ impl Texts {
         span(self.bytes.as_str(), self.ends.as_slice(), at, at + 1)
     }
 
-    /// Takes memory for the ends of so many texts more, so that putting them does not grow their list again and again.
+    /// Takes memory for the ends of so many more texts, so that pushing them does not grow the list again and again.
     pub fn reserve(&mut self, more: usize) -> Result<(), Fault>
         ensures same { self.new ≡ self.old }
         ensures out_of_memory { IsOkUnless result Fault.OutOfMemory }
@@ -163,7 +163,7 @@ fn append_span(
     Ok(())
 }
 
-/// Puts ends last, of which one at `from` stands for `base`.
+/// Puts ends last, moved so that an end at `from` comes to `base`.
 fn append_ends(ends: &mut Vec<usize>, others: &[usize], from: usize, base: usize)
     requires room { vec_len ends.old + length others.now ≤ vec_capacity ends.old }
     requires behind { (k : ℕ) → k < length others.now → from ≤ slice_index others.now k }

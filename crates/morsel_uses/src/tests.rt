@@ -1,9 +1,13 @@
 //! Each public call once with ample memory, with values worked out by hand.
-ghost use Rattle.std.specs.Prelude.{◌≡◌, IfOk};
+//!
+//! A helper says `expect` where memory may be out, and gives what it makes to `drop`: a value that is let go at several
+//! exits has each of them proved.
+ghost use Rattle.std.specs.Prelude.{◌≡◌};
 
 use morsel_frame::Column;
-use morsel_meaning::{ColType, Fault};
+use morsel_meaning::ColType;
 use std::alloc::Global;
+use std::process::Abort;
 
 mod columns;
 mod frames;
@@ -15,12 +19,10 @@ mod texts;
 mod told;
 
 /// A column of numbers.
-fn column_of(alloc: Global, numbers: &[i64]) -> Result<Column, Fault>
-    ensures { IfOk result (λ column. column.kind ≡ ColType.Int) }
+fn column_of(rt: &impl Abort, alloc: Global, numbers: &[i64]) -> Column
+    ensures { result.kind ≡ ColType.Int }
 {
-    let mut column = Column::new(alloc, ColType::Int);
-    for number in numbers {
-        column.push_int(*number)?;
-    }
-    Ok(column)
+    let valid = vec![in alloc; true; numbers.len()].expect(rt, "memory");
+    let numbers = Vec::from_slice(alloc, numbers).expect(rt, "memory");
+    Column::from_ints(valid, numbers)
 }

@@ -1,333 +1,252 @@
 //! Frames: each public call once with ample memory, on small tables.
 use super::column_of;
-use morsel_frame::{Cell, Frame, Schema};
+use morsel_frame::{Cell, Column, Frame, Schema};
 use morsel_meaning::{ColType, Fault, Field, Name};
 use std::alloc::Global;
-use std::test::Fail;
+use std::mem::drop;
+use std::process::Abort;
+
+fn name_of(rt: &impl Abort, alloc: Global, name: &str) -> Name {
+    Name::new(alloc, name).expect(rt, "memory")
+}
 
 /// A frame of one column of numbers.
-fn frame_of(alloc: Global, name: &str, numbers: &[i64]) -> Result<Frame, Fault> {
-    let column = column_of(alloc, numbers)?;
+fn frame_of(rt: &impl Abort, alloc: Global, name: &str, numbers: &[i64]) -> Frame {
+    let column = column_of(rt, alloc, numbers);
     let height = column.len();
-    let name = Name::new(alloc, name)?;
-    let fields = vec![in alloc;
-        Field {
-            name,
-            kind: ColType::Int
-        },
-    ]?;
-    let schema = Schema::new(alloc, fields)?;
-    Ok(Frame::new(alloc, schema, vec![in alloc; column]?, height))
-}
-
-/// The numbers of a column, and -1 for a null.
-fn numbers_at(alloc: Global, frame: &Frame, at: usize) -> Result<Vec<i64>, Fault> {
-    let mut numbers = Vec::new(alloc);
-    if at < frame.width() {
-        let column = frame.column(at);
-        for row in 0..column.len() {
-            match column.get(row) {
-                Cell::Int(number) => numbers.push(number)?,
-                _ => numbers.push(-1)?,
-            }
-        }
-    }
-    Ok(numbers)
-}
-
-/// Whether the first column has these numbers, and -1 for a null.
-fn has(alloc: Global, frame: &Frame, wanted: &[i64]) -> Result<bool, Fault> {
-    Ok(numbers_at(alloc, frame, 0)?.as_slice() == wanted)
+    let name = name_of(rt, alloc, name);
+    let kind = ColType::Int;
+    let fields = vec![in alloc; Field { name, kind }].expect(rt, "memory");
+    let schema = Schema::new(alloc, fields).expect(rt, "one name");
+    let columns = vec![in alloc; column].expect(rt, "memory");
+    Frame::new(alloc, schema, columns, height)
 }
 
 /// A frame of a = 1, 2, 3.
-fn worked(alloc: Global) -> Result<Frame, Fault> {
-    frame_of(alloc, "a", &[1, 2, 3])
+fn worked(rt: &impl Abort, alloc: Global) -> Frame {
+    frame_of(rt, alloc, "a", &[1, 2, 3])
 }
 
-fn slices(alloc: Global, frame: &Frame) -> Result<bool, Fault> {
-    let slice = frame.slice(alloc, 1, 5)?;
-    has(alloc, &slice, &[2, 3])
-}
-
-fn sliced(alloc: Global) -> Result<bool, Fault> {
-    let frame = worked(alloc)?;
-    slices(alloc, &frame)
-}
-
-#[test]
-fn a_slice_has_the_rows_that_exist(rt: HostRuntime) -> Result<(), Fail> {
-    assert!(rt; sliced(rt.alloc())?);
-    Ok(())
-}
-
-fn stacks(alloc: Global, frame: &mut Frame, other: &Frame) -> Result<bool, Fault> {
-    if frame.height() > 10 || other.height() > 10 {
-        return Ok(false);
-    }
-    frame.vstack(other)?;
-    has(alloc, frame, &[1, 2, 3, 1, 2, 3])
-}
-
-fn stacked(alloc: Global) -> Result<bool, Fault> {
-    let mut frame = worked(alloc)?;
-    let other = worked(alloc)?;
-    stacks(alloc, &mut frame, &other)
-}
-
-#[test]
-fn a_frame_stands_below_itself(rt: HostRuntime) -> Result<(), Fail> {
-    assert!(rt; stacked(rt.alloc())?);
-    Ok(())
-}
-
-fn mismatches(frame: &mut Frame, other: &Frame) -> bool {
-    if frame.height() > 10 || other.height() > 10 {
-        return false;
-    }
-    match frame.vstack(other) {
-        Err(Fault::SchemaMismatch { name }) => name.as_str() == "a",
-        _ => false,
-    }
-}
-
-fn mismatched(alloc: Global) -> Result<bool, Fault> {
-    let mut frame = worked(alloc)?;
-    let other = frame_of(alloc, "b", &[4])?;
-    Ok(mismatches(&mut frame, &other))
-}
-
-#[test]
-fn another_name_is_a_mismatch_of_the_own(rt: HostRuntime) -> Result<(), Fail> {
-    assert!(rt; mismatched(rt.alloc())?);
-    Ok(())
-}
-
-fn parts_are(alloc: Global, front: &Frame, back: &Frame) -> Result<bool, Fault> {
-    let front_is = has(alloc, front, &[1])?;
-    let back_is = has(alloc, back, &[2, 3])?;
-    Ok(front_is && back_is)
-}
-
-fn splits(alloc: Global, frame: Frame) -> Result<bool, Fault> {
-    if frame.height() < 1 {
-        return Ok(false);
-    }
-    let parts = frame.split_at(alloc, 1)?;
-    parts_are(alloc, &parts.0, &parts.1)
-}
-
-fn split(alloc: Global) -> Result<bool, Fault> {
-    let frame = worked(alloc)?;
-    splits(alloc, frame)
-}
-
-#[test]
-fn a_split_frame_has_the_rows_before_and_behind(rt: HostRuntime) -> Result<(), Fail> {
-    assert!(rt; split(rt.alloc())?);
-    Ok(())
-}
-
-fn gathers(alloc: Global, frame: &Frame, rows: &[usize]) -> Result<bool, Fault> {
-    let height = frame.height();
-    if !rows.iter().all(|row| *row < height) {
-        return Ok(false);
-    }
-    let gathered = frame.gather(alloc, rows)?;
-    has(alloc, &gathered, &[3, 1])
-}
-
-fn gathered(alloc: Global) -> Result<bool, Fault> {
-    let frame = worked(alloc)?;
-    gathers(alloc, &frame, &[2, 0])
-}
-
-#[test]
-fn gathered_rows_come_in_the_order_asked(rt: HostRuntime) -> Result<(), Fail> {
-    assert!(rt; gathered(rt.alloc())?);
-    Ok(())
-}
-
-fn repeats(alloc: Global, frame: Frame, other: Frame) -> bool {
-    if frame.height() != other.height() {
-        return false;
-    }
-    match frame.hstack(alloc, other) {
-        Err(Fault::Duplicate { name }) => name.as_str() == "a",
-        _ => false,
-    }
-}
-
-fn repeated_beside(alloc: Global) -> Result<bool, Fault> {
-    let frame = worked(alloc)?;
-    let other = worked(alloc)?;
-    Ok(repeats(alloc, frame, other))
-}
-
-#[test]
-fn a_frame_beside_itself_repeats_a_name(rt: HostRuntime) -> Result<(), Fail> {
-    assert!(rt; repeated_beside(rt.alloc())?);
-    Ok(())
-}
-
-fn stands_beside(alloc: Global, frame: Frame, other: Frame) -> Result<bool, Fault> {
-    if frame.height() != other.height() {
-        return Ok(false);
-    }
-    let both = frame.hstack(alloc, other)?;
-    Ok(numbers_at(alloc, &both, 1)?.as_slice() == [4, 5, 6].as_slice())
-}
-
-fn stood_beside(alloc: Global) -> Result<bool, Fault> {
-    let frame = worked(alloc)?;
-    let other = frame_of(alloc, "b", &[4, 5, 6])?;
-    stands_beside(alloc, frame, other)
-}
-
-#[test]
-fn columns_of_other_names_stand_beside(rt: HostRuntime) -> Result<(), Fail> {
-    assert!(rt; stood_beside(rt.alloc())?);
-    Ok(())
-}
-
-fn is_indexed(alloc: Global, frame: Frame, name: Name) -> Result<bool, Fault> {
-    let indexed = frame.with_row_index(alloc, name, 7)?;
-    if indexed.schema().find("i").is_none() {
-        return Ok(false);
-    }
-    has(alloc, &indexed, &[7, 8, 9])
-}
-
-fn indexed(alloc: Global) -> Result<bool, Fault> {
-    let name = Name::new(alloc, "i")?;
-    let frame = worked(alloc)?;
-    is_indexed(alloc, frame, name)
-}
-
-#[test]
-fn a_row_index_counts_from_its_offset(rt: HostRuntime) -> Result<(), Fail> {
-    assert!(rt; indexed(rt.alloc())?);
-    Ok(())
-}
-
-fn refusal(alloc: Global, frame: Frame, name: Name, offset: u32) -> u8 {
-    match frame.with_row_index(alloc, name, offset) {
-        Ok(_) => 0,
-        Err(fault) => fault.number(),
-    }
-}
-
-fn index_refusal(alloc: Global, name: &str, offset: u32) -> Result<u8, Fault> {
-    let name = Name::new(alloc, name)?;
-    let frame = worked(alloc)?;
-    Ok(refusal(alloc, frame, name, offset))
-}
-
-#[test]
-fn a_row_index_of_a_name_that_stands_is_a_duplicate(rt: HostRuntime) -> Result<(), Fail> {
-    assert_eq!(rt; index_refusal(rt.alloc(), "a", 0)?, 9);
-    Ok(())
-}
-
-#[test]
-fn a_row_index_past_32_bits_is_refused(rt: HostRuntime) -> Result<(), Fail> {
-    assert_eq!(rt; index_refusal(rt.alloc(), "i", 4294967293)?, 10);
-    Ok(())
-}
-
-/// How often the column has this text.
-fn count_of(frame: &Frame, at: usize, text: &str) -> usize {
-    let mut count = 0usize;
-    if at < frame.width() {
-        let column = frame.column(at);
-        for row in 0..column.len() {
-            if let Cell::Text(found) = column.get(row) {
-                if found == text {
-                    count = count.wrapping_add(1);
-                }
-            }
+/// The column has these numbers.
+fn counts(rt: &impl Abort, column: &Column, numbers: &[i64]) {
+    assert_eq!(rt; column.len(), numbers.len());
+    for row in 0..numbers.len() {
+        if row < column.len() {
+            assert_eq!(rt; column.get(row), Cell::Int(numbers[row]), "at {row}");
         }
     }
-    count
 }
 
-fn is_marked(alloc: Global, frame: Frame, name: Name) -> Result<usize, Fault> {
-    let marked = frame.with_text_column(alloc, name, "f")?;
-    Ok(count_of(&marked, 1, "f"))
+/// The frame has a column of this name at this place, with these numbers.
+fn has(rt: &impl Abort, frame: &Frame, at: usize, name: &str, numbers: &[i64]) {
+    assert_eq!(rt; frame.schema().find(name), Some(at));
+    assert!(rt; at < frame.width());
+    counts(rt, frame.column(at), numbers);
 }
 
-fn marked_rows(alloc: Global) -> Result<usize, Fault> {
-    let name = Name::new(alloc, "p")?;
-    let frame = worked(alloc)?;
-    is_marked(alloc, frame, name)
+/// The frame has one column of this name, with these numbers.
+fn is(rt: &impl Abort, frame: Frame, name: &str, numbers: &[i64]) {
+    assert_eq!(rt; frame.width(), 1);
+    has(rt, &frame, 0, name, numbers);
+    drop(frame);
+}
+
+/// The frame has two columns of these names, with these numbers.
+fn is_pair(rt: &impl Abort, frame: Frame, first: (&str, &[i64]), second: (&str, &[i64])) {
+    assert_eq!(rt; frame.width(), 2);
+    has(rt, &frame, 0, first.0, first.1);
+    has(rt, &frame, 1, second.0, second.1);
+    drop(frame);
+}
+
+fn sliced(rt: &impl Abort, alloc: Global, frame: Frame, offset: usize, len: usize) -> Frame {
+    let slice = frame.slice(alloc, offset, len).expect(rt, "memory");
+    drop(frame);
+    slice
 }
 
 #[test]
-fn a_text_column_has_its_text_in_each_row(rt: HostRuntime) -> Result<(), Fail> {
-    assert_eq!(rt; marked_rows(rt.alloc())?, 3);
-    Ok(())
+fn a_slice_has_the_rows_that_exist(rt: HostRuntime) {
+    let frame = worked(&rt, rt.alloc());
+    is(&rt, sliced(&rt, rt.alloc(), frame, 1, 5), "a", &[2, 3]);
 }
 
-fn selects_nothing(alloc: Global, frame: Frame) -> Result<bool, Fault> {
-    let selected = frame.select(alloc, &[])?;
-    Ok(selected.height() == 3 && selected.width() == 0)
-}
-
-fn selected_nothing(alloc: Global) -> Result<bool, Fault> {
-    let frame = worked(alloc)?;
-    selects_nothing(alloc, frame)
+/// Puts the other's rows below, where both are short.
+fn put_below(rt: &impl Abort, frame: &mut Frame, other: &Frame) -> Result<(), Fault> {
+    assert!(rt; frame.height() < 10 && other.height() < 10);
+    frame.vstack(other)
 }
 
 #[test]
-fn no_columns_leave_the_height(rt: HostRuntime) -> Result<(), Fail> {
-    assert!(rt; selected_nothing(rt.alloc())?);
-    Ok(())
+fn a_frame_is_put_below_itself(rt: HostRuntime) {
+    let mut frame = worked(&rt, rt.alloc());
+    let other = worked(&rt, rt.alloc());
+    put_below(&rt, &mut frame, &other).expect(&rt, "memory");
+    drop(other);
+    is(&rt, frame, "a", &[1, 2, 3, 1, 2, 3]);
 }
 
-fn beside(alloc: Global, frame: Frame, other: Frame) -> Result<Frame, Fault> {
-    if frame.height() != other.height() {
-        return Err(Fault::Usage);
+/// The fault is a mismatch of this name.
+fn is_mismatch(rt: &impl Abort, fault: &Fault, wanted: &str) {
+    match fault {
+        Fault::SchemaMismatch { name } => assert_eq!(rt; name.as_str(), wanted),
+        _ => assert!(rt; false, "another fault"),
     }
+}
+
+#[test]
+fn another_name_is_a_mismatch_of_the_own(rt: HostRuntime) {
+    let mut frame = worked(&rt, rt.alloc());
+    let other = frame_of(&rt, rt.alloc(), "b", &[4]);
+    let fault = put_below(&rt, &mut frame, &other).expect_err(&rt, "a mismatch");
+    is_mismatch(&rt, &fault, "a");
+    drop(fault);
+    drop(other);
+    is(&rt, frame, "a", &[1, 2, 3]);
+}
+
+fn split(rt: &impl Abort, alloc: Global, frame: Frame, at: usize) -> (Frame, Frame) {
+    assert!(rt; at <= frame.height());
+    frame.split_at(alloc, at).expect(rt, "memory")
+}
+
+#[test]
+fn a_split_frame_has_the_rows_before_and_after(rt: HostRuntime) {
+    let frame = worked(&rt, rt.alloc());
+    let (front, back) = split(&rt, rt.alloc(), frame, 1);
+    is(&rt, front, "a", &[1]);
+    is(&rt, back, "a", &[2, 3]);
+}
+
+fn gathered(rt: &impl Abort, alloc: Global, frame: &Frame, rows: &[usize]) -> Frame {
+    let height = frame.height();
+    assert!(rt; rows.iter().all(|row| *row < height));
+    frame.gather(alloc, rows).expect(rt, "memory")
+}
+
+#[test]
+fn gathered_rows_come_in_the_order_asked(rt: HostRuntime) {
+    let frame = worked(&rt, rt.alloc());
+    let rows = gathered(&rt, rt.alloc(), &frame, &[2, 0]);
+    drop(frame);
+    is(&rt, rows, "a", &[3, 1]);
+}
+
+/// Two frames of one height side by side, or why not.
+fn beside(rt: &impl Abort, alloc: Global, frame: Frame, other: Frame) -> Result<Frame, Fault> {
+    assert_eq!(rt; frame.height(), other.height());
     frame.hstack(alloc, other)
 }
 
-/// A frame of a = 1, 2, 3, of b = 4, 5, 6 and of c = 7, 8, 9.
-fn three_columns(alloc: Global) -> Result<Frame, Fault> {
-    let first = worked(alloc)?;
-    let second = beside(alloc, first, frame_of(alloc, "b", &[4, 5, 6])?)?;
-    beside(alloc, second, frame_of(alloc, "c", &[7, 8, 9])?)
-}
-
-/// The third column, and then the first.
-fn selects_two(alloc: Global, frame: Frame) -> Result<Frame, Fault> {
-    if frame.width() != 3 {
-        return Err(Fault::Usage);
+/// The fault is a repeat of this name.
+fn is_repeat(rt: &impl Abort, fault: &Fault, wanted: &str) {
+    match fault {
+        Fault::Duplicate { name } => assert_eq!(rt; name.as_str(), wanted),
+        _ => assert!(rt; false, "another fault"),
     }
-    frame.select(alloc, &[2, 0])
-}
-
-fn selected_two(alloc: Global) -> Result<Frame, Fault> {
-    let frame = three_columns(alloc)?;
-    selects_two(alloc, frame)
-}
-
-/// Whether there are two columns, of these names.
-fn has_names(frame: &Frame, first: &str, second: &str) -> bool {
-    let schema = frame.schema();
-    schema.len() == 2 && schema.find(first) == Some(0) && schema.find(second) == Some(1)
-}
-
-/// Whether the two columns have these numbers.
-fn has_both(alloc: Global, frame: &Frame, first: &[i64], second: &[i64]) -> Result<bool, Fault> {
-    let front = numbers_at(alloc, frame, 0)?;
-    let back = numbers_at(alloc, frame, 1)?;
-    Ok(front.as_slice() == first && back.as_slice() == second)
 }
 
 #[test]
-fn selected_columns_come_in_the_order_asked(rt: HostRuntime) -> Result<(), Fail> {
-    let frame = selected_two(rt.alloc())?;
-    assert!(rt; has_names(&frame, "c", "a"));
-    assert!(rt; has_both(rt.alloc(), &frame, &[7, 8, 9], &[1, 2, 3])?);
-    Ok(())
+fn a_frame_beside_itself_repeats_a_name(rt: HostRuntime) {
+    let frame = worked(&rt, rt.alloc());
+    let other = worked(&rt, rt.alloc());
+    let fault = beside(&rt, rt.alloc(), frame, other).expect_err(&rt, "a repeat");
+    is_repeat(&rt, &fault, "a");
+    drop(fault);
+}
+
+#[test]
+fn columns_of_other_names_are_put_beside(rt: HostRuntime) {
+    let frame = worked(&rt, rt.alloc());
+    let other = frame_of(&rt, rt.alloc(), "b", &[4, 5, 6]);
+    let both = beside(&rt, rt.alloc(), frame, other).expect(&rt, "memory");
+    is_pair(&rt, both, ("a", &[1, 2, 3]), ("b", &[4, 5, 6]));
+}
+
+/// The worked frame with a row index, or why not.
+fn indexed(rt: &impl Abort, alloc: Global, name: &str, offset: u32) -> Result<Frame, Fault> {
+    let name = name_of(rt, alloc, name);
+    worked(rt, alloc).with_row_index(alloc, name, offset)
+}
+
+#[test]
+fn a_row_index_counts_from_its_offset(rt: HostRuntime) {
+    let frame = indexed(&rt, rt.alloc(), "i", 7).expect(&rt, "memory");
+    is_pair(&rt, frame, ("i", &[7, 8, 9]), ("a", &[1, 2, 3]));
+}
+
+#[test]
+fn a_row_index_of_a_name_that_is_there_is_a_duplicate(rt: HostRuntime) {
+    let fault = indexed(&rt, rt.alloc(), "a", 0).expect_err(&rt, "a repeat");
+    is_repeat(&rt, &fault, "a");
+    drop(fault);
+}
+
+#[test]
+fn a_row_index_past_32_bits_is_refused(rt: HostRuntime) {
+    let fault = indexed(&rt, rt.alloc(), "i", 4294967293).expect_err(&rt, "a refusal");
+    assert_eq!(rt; fault.number(), 10);
+    drop(fault);
+}
+
+/// The column has this text in each row.
+fn repeats(rt: &impl Abort, column: &Column, text: &str, len: usize) {
+    assert_eq!(rt; column.len(), len);
+    for row in 0..len {
+        if row < column.len() {
+            assert_eq!(rt; column.get(row), Cell::Text(text), "at {row}");
+        }
+    }
+}
+
+/// The worked frame with a column of one text.
+fn marked(rt: &impl Abort, alloc: Global, name: &str, text: &str) -> Frame {
+    let name = name_of(rt, alloc, name);
+    let frame = worked(rt, alloc);
+    frame
+        .with_text_column(alloc, name, text)
+        .expect(rt, "memory")
+}
+
+#[test]
+fn a_text_column_has_its_text_in_each_row(rt: HostRuntime) {
+    let frame = marked(&rt, rt.alloc(), "p", "f");
+    assert_eq!(rt; frame.width(), 2);
+    repeats(&rt, frame.column(1), "f", 3);
+    drop(frame);
+}
+
+fn selects_nothing(rt: &impl Abort, alloc: Global, frame: Frame) -> Frame {
+    frame.select(alloc, &[]).expect(rt, "memory")
+}
+
+#[test]
+fn no_columns_leave_the_height(rt: HostRuntime) {
+    let frame = worked(&rt, rt.alloc());
+    let frame = selects_nothing(&rt, rt.alloc(), frame);
+    assert_eq!(rt; frame.height(), 3);
+    assert_eq!(rt; frame.width(), 0);
+    drop(frame);
+}
+
+/// A frame of a = 1, 2, 3, of b = 4, 5, 6 and of c = 7, 8, 9.
+fn three_columns(rt: &impl Abort, alloc: Global) -> Frame {
+    let first = worked(rt, alloc);
+    let second = frame_of(rt, alloc, "b", &[4, 5, 6]);
+    let third = frame_of(rt, alloc, "c", &[7, 8, 9]);
+    let both = beside(rt, alloc, first, second).expect(rt, "memory");
+    beside(rt, alloc, both, third).expect(rt, "memory")
+}
+
+/// The third column, and then the first.
+fn selects_two(rt: &impl Abort, alloc: Global, frame: Frame) -> Frame {
+    assert_eq!(rt; frame.width(), 3);
+    frame.select(alloc, &[2, 0]).expect(rt, "memory")
+}
+
+#[test]
+fn selected_columns_come_in_the_order_asked(rt: HostRuntime) {
+    let frame = three_columns(&rt, rt.alloc());
+    let selected = selects_two(&rt, rt.alloc(), frame);
+    is_pair(&rt, selected, ("c", &[7, 8, 9]), ("a", &[1, 2, 3]));
 }

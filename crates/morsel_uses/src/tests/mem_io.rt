@@ -1,30 +1,33 @@
 //! The outside in memory whose numbered calls fail.
-use super::told::{has_asked, has_event, has_line, has_opened, has_sink};
-use morsel_meaning::{Fault, Name};
-use morsel_outside::{AskedFor, FileNo, Io, IoErr, IoEvent, MemIo, Memory};
+use super::told::{has_asked_open, has_event, has_line, has_opened, has_sink};
+use morsel_meaning::Name;
+use morsel_outside::{FileNo, Io, IoErr, IoEvent, MemIo, Memory};
 use std::alloc::Global;
-use std::test::Fail;
+use std::mem::drop;
+use std::process::Abort;
 
 /// The text of the file that is opened.
 const TEXT: &str = "id,name\n1,ann\n2,\n";
 
-fn files(alloc: Global) -> Result<Vec<(Name, Vec<u8>)>, Fault> {
-    let mut files = Vec::new(alloc);
-    for (name, text) in [("a.csv", TEXT), ("a.csv", "later")] {
-        files.push((
-            Name::new(alloc, name)?,
-            Vec::from_slice(alloc, text.as_bytes())?,
-        ))?;
-    }
-    Ok(files)
+fn file(rt: &impl Abort, alloc: Global, name: &str, text: &str) -> (Name, Vec<u8>) {
+    let name = Name::new(alloc, name).expect(rt, "memory");
+    let bytes = Vec::from_slice(alloc, text.as_bytes()).expect(rt, "memory");
+    (name, bytes)
 }
 
-/// An outside of the files, of which the calls of these numbers fail.
-fn outside(alloc: Global, fail_reads: &[u64], fail_writes: &[(u64, u64)]) -> Result<MemIo, Fault> {
-    let files = files(alloc)?;
-    let fail_reads = Vec::from_slice(alloc, fail_reads)?;
-    let fail_writes = Vec::from_slice(alloc, fail_writes)?;
-    Ok(MemIo::new(alloc, files, fail_reads, fail_writes))
+/// An outside of two files of one name, of which the calls of these numbers fail.
+fn outside(
+    rt: &impl Abort,
+    alloc: Global,
+    fail_reads: &[u64],
+    fail_writes: &[(u64, u64)],
+) -> MemIo {
+    let first = file(rt, alloc, "a.csv", TEXT);
+    let later = file(rt, alloc, "a.csv", "later");
+    let files = vec![in alloc; first, later].expect(rt, "memory");
+    let fail_reads = Vec::from_slice(alloc, fail_reads).expect(rt, "memory");
+    let fail_writes = Vec::from_slice(alloc, fail_writes).expect(rt, "memory");
+    MemIo::new(alloc, files, fail_reads, fail_writes)
 }
 
 /// The number and the size of the file that is opened.
@@ -65,23 +68,23 @@ fn two_bytes(io: &mut MemIo) -> Result<[u8; 2], IoErr> {
     Ok(into)
 }
 
-/// Whether so many reads and writes failed.
-fn has_failed(io: &MemIo, reads: u64, writes: u64) -> bool {
-    io.read_faults() == reads && io.write_faults() == writes
+/// Whether so many reads and writes failed, and so many of the writes were prints.
+fn has_failed(io: &MemIo, reads: u64, writes: u64, prints: u64) -> bool {
+    io.read_faults() == reads && io.write_faults() == writes && io.print_faults() == prints
 }
 
 fn reads_where_asked(io: &mut MemIo) -> Result<bool, IoErr> {
     if opens(io)? != (0, 17) || four_bytes(io)? != *b"name" {
         return Ok(false);
     }
-    Ok(has_opened(io.memory(), TEXT.as_bytes()) && has_failed(io, 0, 0) && io.failed() == 0)
+    Ok(has_opened(io.memory(), TEXT.as_bytes()) && has_failed(io, 0, 0, 0) && io.failed() == 0)
 }
 
 #[test]
-fn a_file_is_read_where_it_was_asked(rt: HostRuntime) -> Result<(), Fail> {
-    let mut io = outside(rt.alloc(), &[], &[])?;
-    assert!(rt; reads_where_asked(&mut io)?);
-    Ok(())
+fn a_file_is_read_where_it_was_asked(rt: HostRuntime) {
+    let mut io = outside(&rt, rt.alloc(), &[], &[]);
+    assert_eq!(rt; reads_where_asked(&mut io), Ok(true));
+    drop(io);
 }
 
 fn refuses_an_absent_name(io: &mut MemIo) -> Result<bool, IoErr> {
@@ -89,18 +92,18 @@ fn refuses_an_absent_name(io: &mut MemIo) -> Result<bool, IoErr> {
     Ok(
         open_fails(io, "b.csv")
             && io.memory().opened() == 1
-            && has_failed(io, 1, 0)
+            && has_failed(io, 1, 0, 0)
             && io.failed() == 1
             && io.memory().names() == 2
-            && has_asked(io.memory(), 1, AskedFor::Opening, "b.csv"),
+            && has_asked_open(io.memory(), 1, "b.csv"),
     )
 }
 
 #[test]
-fn an_absent_name_is_refused(rt: HostRuntime) -> Result<(), Fail> {
-    let mut io = outside(rt.alloc(), &[], &[])?;
-    assert!(rt; refuses_an_absent_name(&mut io)?);
-    Ok(())
+fn an_absent_name_is_refused(rt: HostRuntime) {
+    let mut io = outside(&rt, rt.alloc(), &[], &[]);
+    assert_eq!(rt; refuses_an_absent_name(&mut io), Ok(true));
+    drop(io);
 }
 
 fn read_fails(io: &mut MemIo) -> bool {
@@ -117,23 +120,23 @@ fn two_reads_fail(io: &mut MemIo) -> Result<bool, IoErr> {
 }
 
 fn told_of_reads(io: &MemIo) -> bool {
-    let event = IoEvent::Read {
+    let event = IoEvent::ReadAt {
         file: 0,
         at: 0,
         len: 2,
     };
-    has_failed(io, 2, 0)
+    has_failed(io, 2, 0, 0)
         && io.failed() == 0
         && io.memory().events() == 2
         && has_event(io.memory(), 0, event)
 }
 
 #[test]
-fn the_numbered_reads_fail(rt: HostRuntime) -> Result<(), Fail> {
-    let mut io = outside(rt.alloc(), &[0, 2], &[])?;
-    assert!(rt; two_reads_fail(&mut io)?);
+fn the_numbered_reads_fail(rt: HostRuntime) {
+    let mut io = outside(&rt, rt.alloc(), &[0, 2], &[]);
+    assert_eq!(rt; two_reads_fail(&mut io), Ok(true));
     assert!(rt; told_of_reads(&io));
-    Ok(())
+    drop(io);
 }
 
 /// A call that is given something to keep.
@@ -198,13 +201,13 @@ fn told_of_writes(io: &MemIo) -> bool {
         && has_line(memory, "kept")
         && has_written(memory, &[2, 4, 1])
         && memory.names() == 2
-        && has_failed(io, 0, 4)
+        && has_failed(io, 0, 4, 1)
 }
 
 #[test]
-fn the_numbered_writes_fail_after_a_part(rt: HostRuntime) -> Result<(), Fail> {
-    let mut io = outside(rt.alloc(), &[], &[(0, 0), (2, 2), (4, 9), (5, 0)])?;
-    assert!(rt; every_other_call_fails(&mut io)?);
+fn the_numbered_writes_fail_after_a_part(rt: HostRuntime) {
+    let mut io = outside(&rt, rt.alloc(), &[], &[(0, 0), (2, 2), (4, 9), (5, 0)]);
+    assert_eq!(rt; every_other_call_fails(&mut io), Ok(true));
     assert!(rt; told_of_writes(&io));
-    Ok(())
+    drop(io);
 }

@@ -2,11 +2,12 @@
 ghost use Rattle.std.specs.Prelude.{IsOkUnless};
 ghost use Rattle.morsel_outside.specs.Calls.{Opens};
 
-use super::told::{has_asked, has_event, has_line, has_sink};
-use morsel_meaning::{Fault, Name};
-use morsel_outside::{AskedFor, FileNo, Io, IoErr, IoEvent, Memory, SureMemIo};
+use super::told::{has_asked_make, has_asked_open, has_event, has_line, has_sink};
+use morsel_meaning::Name;
+use morsel_outside::{FileNo, Io, IoErr, IoEvent, Memory, SureMemIo};
 use std::alloc::Global;
-use std::test::Fail;
+use std::mem::drop;
+use std::process::Abort;
 
 fn open<H: Io>(io: &mut H, name: &str) -> Result<FileNo, IoErr>
     ensures { Opens (H.seen io.old) name.now result (H.seen io.new) }
@@ -54,17 +55,18 @@ fn opens_absent_names(io: &mut SureMemIo) -> Result<bool, IoErr> {
 }
 
 #[test]
-fn an_absent_name_opens_as_an_empty_file(rt: HostRuntime) -> Result<(), Fail> {
+fn an_absent_name_opens_as_an_empty_file(rt: HostRuntime) {
     let mut io = SureMemIo::new(rt.alloc(), Vec::new(rt.alloc()));
-    assert!(rt; opens_absent_names(&mut io)?);
-    Ok(())
+    assert_eq!(rt; opens_absent_names(&mut io), Ok(true));
+    drop(io);
 }
 
 /// An outside of one file.
-fn outside(alloc: Global) -> Result<SureMemIo, Fault> {
-    let name = Name::new(alloc, "a.csv")?;
-    let bytes = Vec::from_slice(alloc, b"id\n1\n")?;
-    Ok(SureMemIo::new(alloc, vec![in alloc; (name, bytes)]?))
+fn outside(rt: &impl Abort, alloc: Global) -> SureMemIo {
+    let name = Name::new(alloc, "a.csv").expect(rt, "memory");
+    let bytes = Vec::from_slice(alloc, b"id\n1\n").expect(rt, "memory");
+    let files = vec![in alloc; (name, bytes)].expect(rt, "memory");
+    SureMemIo::new(alloc, files)
 }
 
 /// Whether the last two bytes are the last row.
@@ -89,7 +91,7 @@ fn does_all(io: &mut SureMemIo) -> Result<bool, IoErr> {
 
 /// Whether the file was read and the sink written.
 fn told_of_bytes(memory: &Memory) -> bool {
-    let read = IoEvent::Read {
+    let read = IoEvent::ReadAt {
         file: 0,
         at: 3,
         len: 2,
@@ -101,9 +103,7 @@ fn told_of_bytes(memory: &Memory) -> bool {
 
 /// Whether the file was opened and the sink made.
 fn told_of_names(memory: &Memory) -> bool {
-    memory.names() == 2
-        && has_asked(memory, 0, AskedFor::Opening, "a.csv")
-        && has_asked(memory, 1, AskedFor::Making, "o")
+    memory.names() == 2 && has_asked_open(memory, 0, "a.csv") && has_asked_make(memory, 1, "o")
 }
 
 fn told_of_all(memory: &Memory) -> bool {
@@ -114,9 +114,9 @@ fn told_of_all(memory: &Memory) -> bool {
 }
 
 #[test]
-fn all_that_was_done_is_told(rt: HostRuntime) -> Result<(), Fail> {
-    let mut io = outside(rt.alloc())?;
-    assert!(rt; does_all(&mut io)?);
+fn all_that_was_done_is_told(rt: HostRuntime) {
+    let mut io = outside(&rt, rt.alloc());
+    assert_eq!(rt; does_all(&mut io), Ok(true));
     assert!(rt; told_of_all(io.memory()));
-    Ok(())
+    drop(io);
 }

@@ -1,5 +1,5 @@
 //! What an outside in memory tells, compared with what was done.
-use morsel_outside::{AskedFor, FileNo, IoEvent, Memory};
+use morsel_outside::{Asked, FileNo, IoEvent, Memory};
 
 /// Whether one file is open, and has these bytes.
 pub(super) fn has_opened(memory: &Memory, bytes: &[u8]) -> bool {
@@ -21,7 +21,28 @@ pub(super) fn has_event(memory: &Memory, at: usize, event: IoEvent) -> bool {
     at < memory.events() && memory.event(at) == event
 }
 
-/// Whether this was the name of this number, and what it was asked for.
-pub(super) fn has_asked(memory: &Memory, at: usize, what: AskedFor, name: &str) -> bool {
-    at < memory.names() && memory.name(at) == (what, name)
+/// The name that was to be opened, and none where a sink was to be made.
+fn opening(asked: &Asked) -> Option<&str> {
+    match asked {
+        Asked::Open(name) => Some(name.as_str()),
+        Asked::Make(_) => None,
+    }
+}
+
+/// The name of the sink that was to be made, and none where a file was to be opened.
+fn making(asked: &Asked) -> Option<&str> {
+    match asked {
+        Asked::Open(_) => None,
+        Asked::Make(name) => Some(name.as_str()),
+    }
+}
+
+/// Whether a file of this name was asked for, after so many other names.
+pub(super) fn has_asked_open(memory: &Memory, at: usize, name: &str) -> bool {
+    at < memory.names() && opening(memory.asked(at)) == Some(name)
+}
+
+/// Whether a sink of this name was asked for, after so many other names.
+pub(super) fn has_asked_make(memory: &Memory, at: usize, name: &str) -> bool {
+    at < memory.names() && making(memory.asked(at)) == Some(name)
 }

@@ -1,7 +1,7 @@
-use Rattle.std.proofs.Common.{rules, arith, ◌≡◌, ◌∙◌, ◌++◌, ◌<◌, ◌+◌, refl, ap, sym}
+use Rattle.std.proofs.Common.{rules, arith, ◌≡◌, ◌∙◌, ◌++◌, ◌+◌, refl, ap, sym}
 use Rattle.std.proofs.lemmas.List.{append-nil}
 use Rattle.morsel_frame.specs.Frames.{rows_of}
-use Rattle.morsel_frame.proofs.RowLemmas.{level-tall, framed-level, framed_rows-fit, framed-nothing, fit-alike, framed-stacked, rows-stacked, range_of_all}
+use Rattle.morsel_frame.proofs.RowLemmas.{level-tall, framed-level, framed-nothing, framed-below, range-framed}
 use Rattle.morsel_frame.proofs.frame.put_below.Goals as goal
 
 pub returns-then-more-eq0-clause-rows : goal.returns-then-more-eq0-clause-rows
@@ -18,24 +18,22 @@ range_of_each-requires-clause-within c =
 
 pub returns-then-height-eq0-clause-framed : goal.returns-then-height-eq0-clause-framed
 returns-then-height-eq0-clause-framed c =
-    let whole = c.in_ok-columns.ensures.ok ∙ range_of_all c.args.more c.args.others.now (framed-level c.args.schema.now c.args.more c.args.others.now c.requires.others_framed) in
     let same : c.args.height + c.args.more ≡ c.args.more = omega arith in
-    rw (whole, same) c.requires.others_framed
+    rw (c.in_ok-columns.ensures.ok, range-framed c.args.schema.now c.args.more c.args.others.now c.requires.others_framed, same) c.requires.others_framed
 
 pub returns-then-height-eq0-clause-rows : goal.returns-then-height-eq0-clause-rows
 returns-then-height-eq0-clause-rows c =
-    let whole = c.in_ok-columns.ensures.ok ∙ range_of_all c.args.more c.args.others.now (framed-level c.args.schema.now c.args.more c.args.others.now c.requires.others_framed) in
     let same : c.args.height + c.args.more ≡ c.args.more = omega arith in
-    let nothing = framed-nothing c.args.schema.now c.args.height c.args.columns.now.items (search rules) c.requires.framed in
-    rw (whole, same, nothing) refl
+    rw (
+      c.in_ok-columns.ensures.ok,
+      range-framed c.args.schema.now c.args.more c.args.others.now c.requires.others_framed,
+      same,
+      framed-nothing c.args.schema.now c.args.height c.args.columns.now.items (omega arith) c.requires.framed,
+    ) refl
 
 pub stack-requires-clause-alike : goal.stack-requires-clause-alike
 stack-requires-clause-alike c =
-    let some : 0 < c.args.height = omega arith in
-    let more : 0 < c.args.more = omega arith in
-    fit-alike c.args.schema.now c.args.height c.args.more c.args.columns.now.items c.args.others.now
-    (framed_rows-fit c.args.schema.now c.args.height c.args.columns.now.items some c.requires.framed)
-    (framed_rows-fit c.args.schema.now c.args.more c.args.others.now more c.requires.others_framed)
+    (framed-below c.args.schema.now c.args.height c.args.more c.args.columns.now.items c.args.others.now (omega arith) (omega arith) c.requires.framed c.requires.others_framed).0
 
 pub stack-requires-clause-level : goal.stack-requires-clause-level
 stack-requires-clause-level c =
@@ -43,19 +41,10 @@ stack-requires-clause-level c =
 
 pub returns-clause-framed : goal.returns-clause-framed
 returns-clause-framed c =
-    let some : 0 < c.args.height = omega arith in
-    let more : 0 < c.args.more = omega arith in
     rw c.in_ok-stack.ensures.ok
-    (framed-stacked c.args.schema.now c.args.height c.args.more c.args.columns.now.items c.args.others.now
-    (framed_rows-fit c.args.schema.now c.args.height c.args.columns.now.items some c.requires.framed)
-    (framed_rows-fit c.args.schema.now c.args.more c.args.others.now more c.requires.others_framed)
-    c.requires.framed.typed c.requires.others_framed.typed)
+    (framed-below c.args.schema.now c.args.height c.args.more c.args.columns.now.items c.args.others.now (omega arith) (omega arith) c.requires.framed c.requires.others_framed).1
 
 pub returns-clause-rows : goal.returns-clause-rows
 returns-clause-rows c =
-    let some : 0 < c.args.height = omega arith in
-    let more : 0 < c.args.more = omega arith in
     rw c.in_ok-stack.ensures.ok
-    (rows-stacked c.args.schema.now c.args.height c.args.more c.args.columns.now.items c.args.others.now
-    (framed_rows-fit c.args.schema.now c.args.height c.args.columns.now.items some c.requires.framed)
-    (framed_rows-fit c.args.schema.now c.args.more c.args.others.now more c.requires.others_framed))
+    (framed-below c.args.schema.now c.args.height c.args.more c.args.columns.now.items c.args.others.now (omega arith) (omega arith) c.requires.framed c.requires.others_framed).2

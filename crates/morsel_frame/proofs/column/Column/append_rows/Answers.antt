@@ -1,20 +1,14 @@
-use Rattle.std.proofs.Common.{rules, arith, ap, length}
-use Rattle.morsel_frame.specs.Columns.{Values}
-use Rattle.morsel_frame.specs.Packing.{stored}
-use Rattle.morsel_frame.proofs.ColumnLemmas.{length-masked, masked-append, masked-range}
+use Rattle.std.proofs.Common.{rules, arith}
+use Rattle.morsel_frame.proofs.ColumnLemmas.{length-marks, length-kept, masked-append, masked-range}
 use Rattle.morsel_frame.proofs.column.Column.append_rows.Goals as goal
 
 pub append_range-requires-clause-within : goal.append_range-requires-clause-within
 append_range-requires-clause-within c =
-    let lens = length-masked c.other.inside.valid.items (stored c.other.inside.packed) c.other.invariant in
-    let seen = ap (λ (column : Values). length column.values) c.other.view_is in
-    omega (arith, lens, seen, c.other.invariant, c.requires.within)
+    omega (arith, length-kept c.other.inside.packed c.other.inside.valid.items c.args.other.now c.other.invariant c.other.view_is, c.requires.within)
 
 pub append_slice-requires-clause-within : goal.append_slice-requires-clause-within
 append_slice-requires-clause-within c =
-    let lens = length-masked c.other.inside.valid.items (stored c.other.inside.packed) c.other.invariant in
-    let seen = ap (λ (column : Values). length column.values) c.other.view_is in
-    omega (arith, lens, seen, c.requires.within)
+    omega (arith, length-marks c.other.inside.packed c.other.inside.valid.items c.args.other.now c.other.invariant c.other.view_is, c.requires.within)
 
 pub returns-clause-ok : goal.returns-clause-ok
 returns-clause-ok c =

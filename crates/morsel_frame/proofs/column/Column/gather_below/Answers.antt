@@ -1,20 +1,16 @@
-use Rattle.std.proofs.Common.{rules, arith, ap, length}
-use Rattle.morsel_frame.specs.Columns.{Values}
+use Rattle.std.proofs.Common.{rules, arith}
 use Rattle.morsel_frame.specs.Packing.{stored, kind_of, blank_of}
-use Rattle.morsel_frame.proofs.ColumnLemmas.{length-masked, masked-append, masked-gather}
+use Rattle.morsel_frame.proofs.ColumnLemmas.{length-marks, length-kept, masked-append, masked-gather}
 use Rattle.morsel_frame.proofs.column.Column.gather_below.Goals as goal
 
 pub append_gather-requires-clause-within : goal.append_gather-requires-clause-within
 append_gather-requires-clause-within g c =
-    let lens = length-masked c.other.inside.valid.items (stored c.other.inside.packed) c.other.invariant in
-    let seen = ap (λ (column : Values). length column.values) c.other.view_is in
-    omega (arith, lens, seen, c.other.invariant, c.requires.within)
+    omega (arith, length-kept c.other.inside.packed c.other.inside.valid.items c.args.other.now c.other.invariant c.other.view_is, c.requires.within)
 
 pub gather_slice-requires : goal.gather_slice-requires
 gather_slice-requires g c =
-    let lens = length-masked c.other.inside.valid.items (stored c.other.inside.packed) c.other.invariant in
-    let seen = ap (λ (column : Values). length column.values) c.other.view_is in
-    rw c.deref.ensures.value (omega (arith, lens, seen, c.requires.within))
+    rw c.deref.ensures.value
+    (omega (arith, length-marks c.other.inside.packed c.other.inside.valid.items c.args.other.now c.other.invariant c.other.view_is, c.requires.within))
 
 pub returns-clause-ok : goal.returns-clause-ok
 returns-clause-ok g c =

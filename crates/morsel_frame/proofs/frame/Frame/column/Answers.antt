@@ -2,7 +2,7 @@ use Rattle.std.proofs.Common.{arith, ◌<◌, ◌∙◌, sym, ap, length, map}
 use Rattle.morsel_meaning.specs.Values.{Table}
 use Rattle.morsel_frame.specs.Columns.{Values}
 use Rattle.morsel_frame.specs.Tables.{cell_at}
-use Rattle.morsel_frame.proofs.FrameLemmas.{absent_rows, present_fit, kind-of_column, column-of_rows}
+use Rattle.morsel_frame.proofs.FrameLemmas.{absent_rows, kept_column}
 use Rattle.morsel_frame.proofs.frame.Frame.column.Goals as goal
 
 pub returns-then-at-len-clause-values : goal.returns-then-at-len-clause-values
@@ -15,14 +15,10 @@ returns-then-at-len-clause-values c =
 
 pub returns-clause-kind : goal.returns-clause-kind
 returns-clause-kind c =
-    let within : c.args.at < length c.self.inside.columns.items = omega arith in
-    let some : 0 < length c.self.inside.columns.items = omega arith in
     rw (← c.self.view_is)
-    (kind-of_column c.self.inside.schema c.self.inside.height c.self.inside.columns.items c.args.at c.index.result.now (present_fit c.self.inside.schema c.self.inside.height c.self.inside.columns.items c.self.invariant.0 some) within c.index.ensures)
+    (kept_column c.self.inside.schema c.self.inside.height c.self.inside.columns.items c.args.at c.index.result.now c.self.invariant.0 (omega arith) c.index.ensures).0
 
 pub returns-clause-values : goal.returns-clause-values
 returns-clause-values c =
-    let within : c.args.at < length c.self.inside.columns.items = omega arith in
-    let some : 0 < length c.self.inside.columns.items = omega arith in
     rw (← c.self.view_is)
-    (column-of_rows c.self.inside.schema c.self.inside.height c.self.inside.columns.items c.args.at c.index.result.now (present_fit c.self.inside.schema c.self.inside.height c.self.inside.columns.items c.self.invariant.0 some) within c.index.ensures)
+    (kept_column c.self.inside.schema c.self.inside.height c.self.inside.columns.items c.args.at c.index.result.now c.self.invariant.0 (omega arith) c.index.ensures).1

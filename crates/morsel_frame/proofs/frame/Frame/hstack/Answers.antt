@@ -1,34 +1,23 @@
-use Rattle.std.proofs.Common.{arith, ◌≡◌, ◌<◌, [], ap, length, refl}
+use Rattle.std.proofs.Common.{arith, ◌≡◌, ◌<◌, [], refl}
 use Rattle.std.proofs.lemmas.List.{nil_from_length}
-use Rattle.morsel_frame.proofs.FrameLemmas.{length-framed}
 use Rattle.morsel_frame.proofs.BesideLemmas.{framed-hstack, rows-hstack}
 use Rattle.morsel_frame.proofs.frame.Frame.hstack.Goals as goal
 
 pub returns-then-height-eq0-clause-ok : goal.returns-then-height-eq0-clause-ok
 returns-then-height-eq0-clause-ok c =
-    let lens = length-framed c.args.self.schema c.into_parts-schema.result.2 c.into_parts-schema.result.1.items c.into_parts-schema.ensures.framed in
-    let seen = ap length c.into_parts-schema.ensures.rows in
-    let none : c.args.self.rows ≡ [] = nil_from_length c.args.self.rows (omega (arith, lens, seen)) in
+    let none : c.args.self.rows ≡ [] = nil_from_length c.args.self.rows (omega arith) in
     rw (c.empty.ensures, c.in_ok-schema.ensures.ok, c.into_parts-schema.ensures.schema, c.into_parts-other_schema.ensures.schema, none) refl
 
 pub framed-requires : goal.framed-requires
 framed-requires c =
-    let lens = length-framed c.args.self.schema c.into_parts-schema.result.2 c.into_parts-schema.result.1.items c.into_parts-schema.ensures.framed in
-    let lens_other = length-framed c.args.other.schema c.into_parts-other_schema.result.2 c.into_parts-other_schema.result.1.items c.into_parts-other_schema.ensures.framed in
-    let seen = ap length c.into_parts-schema.ensures.rows in
-    let seen_other = ap length c.into_parts-other_schema.ensures.rows in
-    let same : c.into_parts-other_schema.result.2 ≡ c.into_parts-schema.result.2 = omega (arith, lens, lens_other, seen, seen_other, c.requires) in
+    let same : c.into_parts-other_schema.result.2 ≡ c.into_parts-schema.result.2 = omega arith in
     let some : 0 < c.into_parts-schema.result.2 = omega arith in
     rw (c.in_ok-schema.ensures.ok, c.in_ok-append_vec.ensures.ok, c.into_parts-schema.ensures.schema, c.into_parts-other_schema.ensures.schema)
     (framed-hstack c.args.self.schema c.args.other.schema c.into_parts-schema.result.2 c.into_parts-other_schema.result.2 c.into_parts-schema.result.1.items c.into_parts-other_schema.result.1.items same some c.into_parts-schema.ensures.framed c.into_parts-other_schema.ensures.framed)
 
 pub returns-clause-ok : goal.returns-clause-ok
 returns-clause-ok c =
-    let lens = length-framed c.args.self.schema c.into_parts-schema.result.2 c.into_parts-schema.result.1.items c.into_parts-schema.ensures.framed in
-    let lens_other = length-framed c.args.other.schema c.into_parts-other_schema.result.2 c.into_parts-other_schema.result.1.items c.into_parts-other_schema.ensures.framed in
-    let seen = ap length c.into_parts-schema.ensures.rows in
-    let seen_other = ap length c.into_parts-other_schema.ensures.rows in
-    let same : c.into_parts-other_schema.result.2 ≡ c.into_parts-schema.result.2 = omega (arith, lens, lens_other, seen, seen_other, c.requires) in
+    let same : c.into_parts-other_schema.result.2 ≡ c.into_parts-schema.result.2 = omega arith in
     let some : 0 < c.into_parts-schema.result.2 = omega arith in
     rw (
       c.framed.ensures,

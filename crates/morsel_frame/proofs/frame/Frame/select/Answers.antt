@@ -1,15 +1,13 @@
-use Rattle.std.proofs.Common.{arith, ◌≡◌, ◌<◌, [], ap, length, refl}
+use Rattle.std.proofs.Common.{arith, ◌≡◌, ◌<◌, [], refl}
 use Rattle.std.proofs.lemmas.List.{nil_from_length}
-use Rattle.morsel_frame.proofs.FrameLemmas.{length-framed, length-fit}
+use Rattle.morsel_frame.proofs.FrameLemmas.{length-fit}
 use Rattle.morsel_frame.proofs.RowLemmas.{framed_rows-fit}
 use Rattle.morsel_frame.proofs.SelectLemmas.{framed-places, rows-at_places}
 use Rattle.morsel_frame.proofs.frame.Frame.select.Goals as goal
 
 pub returns-then-height-eq0-clause-ok : goal.returns-then-height-eq0-clause-ok
 returns-then-height-eq0-clause-ok c =
-    let lens = length-framed c.args.self.schema c.into_parts-schema.result.2 c.into_parts-schema.result.1.items c.into_parts-schema.ensures.framed in
-    let seen = ap length c.into_parts-schema.ensures.rows in
-    let none : c.args.self.rows ≡ [] = nil_from_length c.args.self.rows (omega (arith, lens, seen)) in
+    let none : c.args.self.rows ≡ [] = nil_from_length c.args.self.rows (omega arith) in
     rw (c.empty.ensures, c.in_ok-schema.ensures.ok, c.into_parts-schema.ensures.schema, none) refl
 
 pub take_columns-requires-clause-within : goal.take_columns-requires-clause-within

@@ -2,30 +2,23 @@ use Rattle.std.proofs.Common.{arith, ◌≡◌, ◌∙◌, ◌<◌, [], ◌∷�
 use Rattle.std.proofs.lemmas.List.{nil_from_length}
 use Rattle.morsel_meaning.specs.declared.value.ColType.TheVariants as types
 use Rattle.morsel_frame.specs.Refusals.{first_fault, index_fault, repeat_fault}
-use Rattle.morsel_frame.proofs.FrameLemmas.{length-framed}
 use Rattle.morsel_frame.proofs.BesideLemmas.{field_of, framed-with_index, rows-with_index, no_index_fault, index_fits, index_too_large}
 use Rattle.morsel_frame.proofs.frame.Frame.with_row_index.Goals as goal
 
 pub returns-then-height-eq0-clause-ok : goal.returns-then-height-eq0-clause-ok
 returns-then-height-eq0-clause-ok c =
-    let lens = length-framed c.args.self.schema c.into_parts-schema.result.2 c.into_parts-schema.result.1.items c.into_parts-schema.ensures.framed in
-    let seen = ap length c.into_parts-schema.ensures.rows in
-    let none : c.args.self.rows ≡ [] = nil_from_length c.args.self.rows (omega (arith, lens, seen)) in
+    let none : c.args.self.rows ≡ [] = nil_from_length c.args.self.rows (omega arith) in
     rw (c.empty.ensures, c.in_ok-schema.ensures.ok, c.into_parts-schema.ensures.schema, none) refl
 
 pub returns-then-height-eq0-clause-refused : goal.returns-then-height-eq0-clause-refused
 returns-then-height-eq0-clause-refused c =
-    let lens = length-framed c.args.self.schema c.into_parts-schema.result.2 c.into_parts-schema.result.1.items c.into_parts-schema.ensures.framed in
-    let seen = ap length c.into_parts-schema.ensures.rows in
-    let none = no_index_fault c.args.offset (length c.args.self.rows) (omega (arith, lens, seen)) in
+    let none = no_index_fault c.args.offset (length c.args.self.rows) (omega arith) in
     ap (λ fields. first_fault (repeat_fault (field_of c.args.name types.Int ∷ fields)) (index_fault c.args.offset (length c.args.self.rows))) (sym c.into_parts-schema.ensures.schema)
     ∙ ap (λ due. first_fault due (index_fault c.args.offset (length c.args.self.rows))) c.in_ok-schema.ensures.refused ∙ none
 
 pub returns-then-height-offset-clause-refused : goal.returns-then-height-offset-clause-refused
 returns-then-height-offset-clause-refused c =
-    let lens = length-framed c.args.self.schema c.into_parts-schema.result.2 c.into_parts-schema.result.1.items c.into_parts-schema.ensures.framed in
-    let seen = ap length c.into_parts-schema.ensures.rows in
-    let due = index_too_large c.args.offset (length c.args.self.rows) (omega (arith, lens, seen)) (omega (arith, lens, seen)) in
+    let due = index_too_large c.args.offset (length c.args.self.rows) (omega arith) (omega arith) in
     ap (λ fields. first_fault (repeat_fault (field_of c.args.name types.Int ∷ fields)) (index_fault c.args.offset (length c.args.self.rows))) (sym c.into_parts-schema.ensures.schema)
     ∙ ap (λ found. first_fault found (index_fault c.args.offset (length c.args.self.rows))) c.in_ok-schema.ensures.refused ∙ due
 
@@ -49,8 +42,6 @@ returns-clause-ok c =
 
 pub returns-clause-refused : goal.returns-clause-refused
 returns-clause-refused c =
-    let lens = length-framed c.args.self.schema c.into_parts-schema.result.2 c.into_parts-schema.result.1.items c.into_parts-schema.ensures.framed in
-    let seen = ap length c.into_parts-schema.ensures.rows in
-    let none = index_fits c.args.offset (length c.args.self.rows) (omega (arith, lens, seen, c.ranges.offset.fits)) in
+    let none = index_fits c.args.offset (length c.args.self.rows) (omega (arith, c.ranges.offset.fits)) in
     ap (λ fields. first_fault (repeat_fault (field_of c.args.name types.Int ∷ fields)) (index_fault c.args.offset (length c.args.self.rows))) (sym c.into_parts-schema.ensures.schema)
     ∙ ap (λ due. first_fault due (index_fault c.args.offset (length c.args.self.rows))) c.in_ok-schema.ensures.refused ∙ none

@@ -3,4 +3,4 @@ use Rattle.morsel_uses.proofs.tests.frames.selects_nothing.Goals as goal
 
 pub select-requires-clause-once : goal.select-requires-clause-once
 unfolding IsDistinct
-select-requires-clause-once c = tt
+select-requires-clause-once g c = tt

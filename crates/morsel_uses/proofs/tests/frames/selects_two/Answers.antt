@@ -4,4 +4,4 @@ use Rattle.morsel_uses.proofs.tests.frames.selects_two.Goals as goal
 
 pub select-requires-clause-once : goal.select-requires-clause-once
 unfolding IsDistinct
-select-requires-clause-once c = ((refl, tt), (tt, tt))
+select-requires-clause-once g c = ((refl, tt), (tt, tt))

@@ -1,8 +1,0 @@
-use Rattle.std.proofs.Common.{rules}
-use Rattle.morsel_frame.proofs.ColumnLemmas.{masked-push}
-use Rattle.morsel_frame.proofs.column.Column.push_int.Goals as goal
-
-pub returns-clause-ok : goal.returns-clause-ok
-returns-clause-ok c =
-    rw (← c.self.view_is, c.in_ok-push.ensures.items, c.in_ok-push_int.ensures.items, c.in_ok-reserve.ensures.items, c.in_ok-push_int.ensures.kind)
-    (rw (masked-push _ _ _ _ c.self.invariant) (search rules))
