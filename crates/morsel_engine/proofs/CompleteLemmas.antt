@@ -17,6 +17,6 @@ pub completes : (old new : Outside) (q : Query) (result : Result ℕ Fault) → 
 completes old new q (Ok count) caused valid none = tt
 completes old new q (Err faults.OutOfMemory) caused valid none = refl
 completes old new q (Err (faults.ReadFault file)) caused valid none = absurd (none.reads caused.1)
-completes old new q (Err faults.WriteFault) caused valid none = absurd (none.writes caused)
+completes old new q (Err faults.WriteFault) caused valid none = absurd (none.writes caused.0)
 completes old new q (Err (faults.Malformed file at)) caused valid none = absurd (valid_not_refused new.held (length old.sizes) q.schema at valid caused.3)
 completes old new q (Err fault) caused valid none = absurd caused

@@ -11,8 +11,8 @@ use Rattle.morsel_outside.specs.declared.events.IoEvent.{IoEvent}
 use Rattle.morsel_outside.specs.declared.events.IoEvent.TheVariants.{ReadAt}
 use Rattle.morsel_outside.specs.declared.events.Asked.TheVariants.{Open, Make}
 use Rattle.morsel_outside.specs.Outside.{Outside, with_more, with_last, with_piece, with_sink, IsSized}
-use Rattle.morsel_outside.specs.Actions.{Action, Opening, FailedOpening, Reading, FailedReading, Making, FailedMaking, Rises, RisesBy, Does, opened_by, sinks_by, print_failures, read_failures, failed_after, event_of, text_by}
-use Rattle.morsel_outside.specs.Calls.{Holds, Opened}
+use Rattle.morsel_outside.specs.Actions.{Action, Opening, FailedOpening, Reading, FailedReading, Making, FailedMaking, Rises, RisesBy, Does, opened_by, sinks_by, read_failures, failed_after, event_of, text_by}
+use Rattle.morsel_outside.specs.Calls.{Holds, IsNextFile}
 use Rattle.morsel_outside.proofs.ActionLemmas.{with_more-nil, does-append, rises_since, rises_by-no_lower}
 use Rattle.morsel_outside.proofs.SinkLemmas.{with_piece-nil, with_piece-with_sink}
 use Rattle.morsel_outside.proofs.TransferLemmas.{AreTransfers, only_transfers}
@@ -20,7 +20,7 @@ use Rattle.morsel_ndjson.specs.Ndjson.{ndjson}
 use Rattle.morsel_engine.specs.FileRows.{ScansFile}
 use Rattle.morsel_engine.specs.Scan.{Scanned, scan_of, IsRefusal, IsScan}
 use Rattle.morsel_engine.specs.Stages.{OpensSource, MakesSink, ReadsWhole, ReadFails, WritesText, WritesTable, Gained}
-use Rattle.morsel_engine.specs.Run.{Query, Runs, ReadsAtMostOnce, ReadsWell, OpensOne, HasBegun, HasCause, HasAllRows, IsFirstRefused, IsFrontOfText, AsksAtMostOnce, AsksEachByte, names_asked}
+use Rattle.morsel_engine.specs.Run.{Query, Runs, ReadsAtMostOnce, NoReadFailed, HasOneFileMore, HasBegun, HasCause, HasAllRows, IsFirstRefused, IsFrontOfText, AsksAtMostOnce, AsksEachByte, names_asked}
 use Rattle.morsel_engine.proofs.AskLemmas.{asks_each_byte-whole, asks_at_most_once-whole, asks_at_most_once-nothing}
 use Rattle.morsel_engine.proofs.EndLemmas.{refuses_within}
 use Rattle.morsel_engine.proofs.FileLemmas.{FileIs, file_is-opened, file_is-read, has_rows-text, is_refused_at-text, is_front-nil, is_front-text}
@@ -51,7 +51,7 @@ opened_held : (old now : Outside) (q : Query) (bytes : List ℕ) (actions : List
 opened_held old now q bytes actions none does = does.held ∙ ap (λ (files : List (List ℕ)). with_more old.held (bytes ∷ files)) none
 
 opens_one : (old now : Outside) (q : Query) (bytes : List ℕ) (actions : List Action) → flat_map opened_by actions ≡ []
-    → Does old (Opening q.file bytes ∷ actions) now → OpensOne old now
+    → Does old (Opening q.file bytes ∷ actions) now → HasOneFileMore old now
 opens_one old now q bytes actions none does = record {
   bytes = bytes;
   sizes = opened_sizes old now q bytes actions none does;
@@ -75,7 +75,7 @@ begins old now q bytes text actions transfers is does =
       held = opened_held old now q bytes (Making q.out ∷ actions) only.opened does;
       made = does.made ∙ only.made (with_sink old.made q.out []) ∙ ap (with_piece (with_sink old.made q.out [])) is ∙ with_piece-with_sink old.made q.out text;
       printed = does.printed ∙ ap (with_more old.printed) only.printed ∙ with_more-nil old.printed;
-      print_faults = subst (λ (n : ℕ). RisesBy n old.print_faults now.print_faults) only.print_failures does.print_faults;
+      print_faults = does.print_faults ∙ only.print_faults old.print_faults;
       events_are = does.events;
       no_lower = rises_by-no_lower _ _ _ does.write_faults;
     }
@@ -96,23 +96,26 @@ runs-not_opened old now q faults.OutOfMemory h = subst (Runs old q (Err faults.O
   asks = inl refl;
   reads = reads_none old old (sym (with_more-nil old.events));
   keeps = record { files = inl (refl, refl); sinks = inl refl; reads = inl (refl, refl) };
+  in_order = inl refl;
   printed = refl;
   print_faults = refl;
   no_lower = omega arith;
 })
 runs-not_opened old now q (faults.ReadFault file) (zeroth, does) =
     let sizes = does.sizes ∙ append-nil old.sizes in
+    let sinks : now.sinks ≡ old.sinks = let n = does.sinks in omega arith in
     record {
       answers = tt;
-      caused = (zeroth, does.read_faults, does.failed, inl (sizes, does.asked));
+      caused = (zeroth, does.read_faults, does.failed, inl (sizes, sinks, does.asked));
       after_fault = inl does.made;
       asks = inr (inl does.asked);
       reads = reads_none old now does.events;
       keeps = record {
         files = inl (sizes, does.held ∙ with_more-nil old.held);
-        sinks = inl (let n = does.sinks in omega arith);
+        sinks = inl sinks;
         reads = inr (does.read_faults, does.failed);
       };
+      in_order = inl (does.events ∙ with_more-nil old.events);
       printed = does.printed ∙ with_more-nil old.printed;
       print_faults = does.print_faults;
       no_lower = rises_by-no_lower 0 _ _ does.write_faults;
@@ -120,7 +123,7 @@ runs-not_opened old now q (faults.ReadFault file) (zeroth, does) =
 runs-not_opened old now q fault h = absurd h
 
 -- the making of the sink ran out of memory, or failed
-pub runs-not_made : (old mid now : Outside) (q : Query) (file : ℕ) (bytes : List ℕ) (fault : Fault) → Opened old q.file file bytes mid → MakesSink mid q.out (Err fault) now → Runs old q (Err fault) now
+pub runs-not_made : (old mid now : Outside) (q : Query) (file : ℕ) (bytes : List ℕ) (fault : Fault) → IsNextFile old q.file file bytes mid → MakesSink mid q.out (Err fault) now → Runs old q (Err fault) now
 runs-not_made old mid now q file bytes faults.OutOfMemory o h =
     let does = o.does in
     subst (Runs old q (Err faults.OutOfMemory)) (sym h) (record {
@@ -130,6 +133,7 @@ runs-not_made old mid now q file bytes faults.OutOfMemory o h =
       asks = inr (inl does.asked);
       reads = reads_none old mid does.events;
       keeps = record { files = inr (opens_one old mid q bytes [] refl does); sinks = inl (let n = does.sinks in omega arith); reads = inl (does.read_faults, does.failed) };
+      in_order = inl (does.events ∙ with_more-nil old.events);
       printed = does.printed ∙ with_more-nil old.printed;
       print_faults = does.print_faults;
       no_lower = rises_by-no_lower 0 _ _ does.write_faults;
@@ -139,11 +143,12 @@ runs-not_made old mid now q file bytes faults.WriteFault o h =
     let one = opens_one old now q bytes (FailedMaking q.out ∷ []) refl does in
     record {
       answers = tt;
-      caused = does.write_faults;
+      caused = (does.write_faults, one, does.asked);
       after_fault = inl does.made;
       asks = inr (inr (one, does.asked));
       reads = reads_none old now does.events;
       keeps = record { files = inr one; sinks = inl (let n = does.sinks in omega arith); reads = inl (does.read_faults, does.failed) };
+      in_order = inl (does.events ∙ with_more-nil old.events);
       printed = does.printed ∙ with_more-nil old.printed;
       print_faults = does.print_faults;
       no_lower = rises_by-no_lower 1 _ _ does.write_faults;
@@ -154,15 +159,16 @@ runs-not_made old mid now q file bytes fault o h = absurd h
 stops : (old now : Outside) (q : Query) (bytes text : List ℕ) (events : List IoEvent) (fault : Fault) → Begun old q bytes text events now
     → IsFrontOfText (with_last old.held bytes) (length old.sizes) q.schema text
     → AsksAtMostOnce (length old.sizes) (length bytes) events
-    → ReadsWell old now ⊎ (Rises old.read_faults now.read_faults × (now.failed ≡ length old.sizes))
+    → NoReadFailed old now ⊎ (Rises old.read_faults now.read_faults × (now.failed ≡ length old.sizes))
     → HasCause old q fault now → Runs old q (Err fault) now
 stops old now q bytes text events fault b front once reads cause = record {
   answers = tt;
   caused = cause;
-  after_fault = inr (b.begun.asked, text, subst (λ held. IsFrontOfText held (length old.sizes) q.schema text) (sym b.held) front, b.made);
+  after_fault = inr (b.begun, text, subst (λ held. IsFrontOfText held (length old.sizes) q.schema text) (sym b.held) front, b.made);
   asks = inr (inr (b.begun.opened, b.begun.asked));
   reads = record { events = events; gained = b.events_are; once = subst (λ (n : ℕ). AsksAtMostOnce (length old.sizes) n events) (sym b.size) once };
-  keeps = record { files = inr b.begun.opened; sinks = inr b.begun.one_sink; reads = reads };
+  keeps = record { files = inr b.begun.opened; sinks = inr b.begun; reads = reads };
+  in_order = inr b.begun;
   printed = b.printed;
   print_faults = b.print_faults;
   no_lower = b.no_lower;
@@ -179,7 +185,7 @@ pub record IsFetched (old : Outside) (q : Query) (bytes text : List ℕ) (now : 
   pub same : length text ≡ length bytes
   pub does : Does old (Opening q.file bytes ∷ Making q.out ∷ Reading (length old.sizes) 0 (length bytes) ∷ []) now
 
-pub is_sunk : (old mid now : Outside) (q : Query) (file : ℕ) (bytes : List ℕ) → Opened old q.file file bytes mid → MakesSink mid q.out (Ok tt) now → IsSunk old q bytes now
+pub is_sunk : (old mid now : Outside) (q : Query) (file : ℕ) (bytes : List ℕ) → IsNextFile old q.file file bytes mid → MakesSink mid q.out (Ok tt) now → IsSunk old q bytes now
 is_sunk old mid now q file bytes o h = record {
   is = file_is-opened old.held bytes old.sizes (subst (λ held. IsSized held (old.sizes ++ length bytes ∷ [])) o.does.held (subst (λ sizes. IsSized mid.held sizes) o.does.sizes o.sized));
   does = does-append old mid now (Opening q.file bytes ∷ []) (Making q.out ∷ []) o.does h;
@@ -247,7 +253,7 @@ runs-refused old now q bytes text fault f h =
 -- what is told once a text is written
 pub record IsWritten (old : Outside) (q : Query) (bytes piece : List ℕ) (actions : List Action) (now : Outside) : Type 0 where
   pub begun : Begun old q bytes piece (ReadAt (length old.sizes) 0 (length bytes) ∷ flat_map event_of actions) now
-  pub well : ReadsWell old now
+  pub well : NoReadFailed old now
 
 is_written : (old mid now : Outside) (q : Query) (bytes text piece : List ℕ) → IsFetched old q bytes text mid → (w : Gained mid piece now) → IsWritten old q bytes piece w.actions now
 is_written old mid now q bytes text piece f w =
@@ -274,13 +280,15 @@ runs-not_written : (old mid now : Outside) (q : Query) (bytes text : List ℕ) (
     → WritesText mid (ndjson (names_of table.schema) table.rows) (Err fault) now → Runs old q (Err fault) now
 runs-not_written old mid now q bytes text table faults.OutOfMemory f s (n, w) = runs-stopped old mid now q bytes text table n faults.OutOfMemory f s w tt
 runs-not_written old mid now q bytes text table faults.WriteFault f s (n, w, rises) =
-    runs-stopped old mid now q bytes text table n faults.WriteFault f s w (rises_since _ _ _ (fetched old mid q bytes text f).no_lower rises)
+    let b = (is_written old mid now q bytes text _ f w).begun in
+    runs-stopped old mid now q bytes text table n faults.WriteFault f s w
+    (rises_since _ _ _ (fetched old mid q bytes text f).no_lower rises, b.begun.opened, b.begun.asked)
 runs-not_written old mid now q bytes text table fault f s h = absurd h
 
 -- all was written
 runs-whole : (old mid now : Outside) (q : Query) (bytes text : List ℕ) (table : Table) → IsFetched old q bytes text mid → IsScan q.schema text table
-    → Gained mid (ndjson (names_of table.schema) table.rows) now → Runs old q (Ok (length table.rows)) now
-runs-whole old mid now q bytes text table f s w =
+    → Gained mid (ndjson (names_of table.schema) table.rows) now → now.write_faults ≡ mid.write_faults → Runs old q (Ok (length table.rows)) now
+runs-whole old mid now q bytes text table f s w well =
     let is = is_written old mid now q bytes text _ f w in
     let b = is.begun in
     record {
@@ -291,6 +299,7 @@ runs-whole old mid now q bytes text table f s w =
         opened = b.begun.opened;
         one_sink = b.begun.one_sink;
         read_well = is.well;
+        write_well = well ∙ f.does.write_faults;
         made = b.made ∙ ap (λ fields. with_sink old.made q.out (ndjson (names_of fields) table.rows)) s.schema;
         asked = b.begun.asked;
         events = ReadAt (length old.sizes) 0 (length bytes) ∷ flat_map event_of w.actions;
@@ -307,7 +316,8 @@ runs-whole old mid now q bytes text table f s w =
         once = subst (λ (n : ℕ). AsksAtMostOnce (length old.sizes) n (ReadAt (length old.sizes) 0 (length bytes) ∷ flat_map event_of w.actions)) (sym b.size)
             (asks_at_most_once-whole (length old.sizes) (length bytes) w.actions w.writings);
       };
-      keeps = record { files = inr b.begun.opened; sinks = inr b.begun.one_sink; reads = inl is.well };
+      keeps = record { files = inr b.begun.opened; sinks = inr b.begun; reads = inl is.well };
+      in_order = inr b.begun;
       printed = b.printed;
       print_faults = b.print_faults;
       no_lower = b.no_lower;
@@ -316,5 +326,5 @@ runs-whole old mid now q bytes text table f s w =
 -- all was written, or the beginning of it
 pub runs-written : (old mid now : Outside) (q : Query) (bytes text : List ℕ) (table : Table) (result : Result ℕ Fault) → IsFetched old q bytes text mid → IsScan q.schema text table
     → WritesTable mid table result now → Runs old q result now
-runs-written old mid now q bytes text table (Ok count) f s (counted, w) = subst (λ n. Runs old q (Ok n) now) (sym counted) (runs-whole old mid now q bytes text table f s w)
+runs-written old mid now q bytes text table (Ok count) f s (counted, w, well) = subst (λ n. Runs old q (Ok n) now) (sym counted) (runs-whole old mid now q bytes text table f s w well)
 runs-written old mid now q bytes text table (Err fault) f s h = runs-not_written old mid now q bytes text table fault f s h

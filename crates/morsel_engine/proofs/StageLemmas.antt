@@ -46,9 +46,9 @@ gained-append a b c t u first second = record {
   does = does-append a b c first.actions second.actions first.does second.does;
 }
 
--- one piece was written
-pub gained-piece : (old new : Outside) (piece : List ℕ) → Does old (Writing piece ∷ []) new → Gained old piece new
-gained-piece old new piece does = record { actions = Writing piece ∷ []; writings = tt; text_is = append-nil piece; does = does }
+-- one piece was written, and the write did not fail
+pub gained-piece : (old new : Outside) (piece : List ℕ) → Does old (Writing piece ∷ []) new → Gained old piece new × (new.write_faults ≡ old.write_faults)
+gained-piece old new piece does = (record { actions = Writing piece ∷ []; writings = tt; text_is = append-nil piece; does = does }, does.write_faults)
 
 -- a write that ran out of memory
 pub writes-short : (old new : Outside) (piece : List ℕ) → Writes old piece (Err OutOfMemory) new → (n : ℕ) × Gained old (take n piece) new

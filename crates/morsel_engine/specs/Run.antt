@@ -48,45 +48,46 @@ abbrev pub AsksEachByte : ℕ → ℕ → List IoEvent → Type 0
 AsksEachByte file size events = (byte : ℕ) → byte < size → times_asked file byte events ≡ 1
 
 -- one file more is open, with the bytes that are held of it
-pub record OpensOne (old new : Outside) : Type 0 where
+pub record HasOneFileMore (old new : Outside) : Type 0 where
   pub bytes : List ℕ
   pub sizes : new.sizes ≡ old.sizes ++ length bytes ∷ []
   pub held : new.held ≡ with_last old.held bytes
 
 -- no read failed
-abbrev pub ReadsWell : Outside → Outside → Type 0
-ReadsWell old new = (new.read_faults ≡ old.read_faults) × (new.failed ≡ old.failed)
+abbrev pub NoReadFailed : Outside → Outside → Type 0
+NoReadFailed old new = (new.read_faults ≡ old.read_faults) × (new.failed ≡ old.failed)
 
 -- the file was opened and then the sink made, and no other file or sink
 pub record HasBegun (old : Outside) (q : Query) (new : Outside) : Type 0 where
-  pub opened : OpensOne old new
+  pub opened : HasOneFileMore old new
   pub asked : new.asked ≡ old.asked ++ names_asked q
   pub one_sink : new.sinks ≡ old.sinks + 1
 
 -- the file could not be opened, and no other name was asked for
 abbrev pub StopsAtOpening : Outside → Query → Outside → Type 0
-StopsAtOpening old q new = (new.sizes ≡ old.sizes) × (new.asked ≡ old.asked ++ Open q.file ∷ [])
+StopsAtOpening old q new = (new.sizes ≡ old.sizes) × (new.sinks ≡ old.sinks) × (new.asked ≡ old.asked ++ Open q.file ∷ [])
 
 -- the file was opened, the sink has the text of its rows, and nothing else was made or printed
 pub record Answers (old : Outside) (q : Query) (count : ℕ) (new : Outside) : Type 0 where
   pub rows : List Row
   pub of_file : HasAllRows new.held (length old.sizes) q.schema rows
   pub counted : count ≡ length rows
-  pub opened : OpensOne old new
+  pub opened : HasOneFileMore old new
   pub one_sink : new.sinks ≡ old.sinks + 1
-  pub read_well : ReadsWell old new
+  pub read_well : NoReadFailed old new
+  pub write_well : new.write_faults ≡ old.write_faults
   pub made : new.made ≡ with_sink old.made q.out (ndjson (names_of q.schema) rows)
   pub asked : new.asked ≡ old.asked ++ names_asked q
   pub events : List IoEvent
   pub gained : new.events ≡ with_more old.events events
   pub every_byte : AsksEachByte (length old.sizes) (get_or new.sizes (length old.sizes) 0) events
 
--- when each fault may be answered; a file is read, and a record of it refused, only after the sink was made
+-- when each fault may be answered: a refused record, and a read fault of an opened file, only where the sink was made
 abbrev pub HasCause : Outside → Query → Fault → Outside → Type 0
 HasCause old q OutOfMemory new = Unit {0}
 HasCause old q (ReadFault file) new = (file ≡ 0) × Rises old.read_faults new.read_faults × (new.failed ≡ length old.sizes)
     × (StopsAtOpening old q new ⊎ HasBegun old q new)
-HasCause old q WriteFault new = Rises old.write_faults new.write_faults
+HasCause old q WriteFault new = Rises old.write_faults new.write_faults × HasOneFileMore old new × (new.asked ≡ old.asked ++ names_asked q)
 HasCause old q (Malformed file at) new = (file ≡ 0) × HasBegun old q new
     × (at < get_or new.sizes (length old.sizes) 0) × IsFirstRefused new.held (length old.sizes) q.schema at
 HasCause old q fault new = ⊥
@@ -94,26 +95,26 @@ HasCause old q fault new = ⊥
 -- no sink was made, or one whose text is the beginning of the rows' text
 abbrev pub MadeSome : Outside → Query → Outside → Type 0
 MadeSome old q new = (new.made ≡ old.made)
-    ⊎ ((new.asked ≡ old.asked ++ names_asked q) × (text : List ℕ)
+    ⊎ (HasBegun old q new × (text : List ℕ)
     × IsFrontOfText new.held (length old.sizes) q.schema text × (new.made ≡ with_sink old.made q.out text))
 
 -- no name was asked for; or the file's; or the file was opened, and the sink's was asked for too
 abbrev pub AsksSome : Outside → Query → Outside → Type 0
 AsksSome old q new = (new.asked ≡ old.asked)
     ⊎ (new.asked ≡ old.asked ++ Open q.file ∷ [])
-    ⊎ (OpensOne old new × (new.asked ≡ old.asked ++ names_asked q))
+    ⊎ (HasOneFileMore old new × (new.asked ≡ old.asked ++ names_asked q))
 
--- the reads of a run, whatever it answers
+-- the reads of a run, whatever it answers: no byte of the file twice, and no other byte
 pub record ReadsAtMostOnce (old : Outside) (new : Outside) : Type 0 where
   pub events : List IoEvent
   pub gained : new.events ≡ with_more old.events events
   pub once : AsksAtMostOnce (length old.sizes) (get_or new.sizes (length old.sizes) 0) events
 
--- what else a run may change: one file more is open, one sink more was made, a read of the file failed
-pub record Keeps (old new : Outside) : Type 0 where
-  pub files : ((new.sizes ≡ old.sizes) × (new.held ≡ old.held)) ⊎ OpensOne old new
-  pub sinks : (new.sinks ≡ old.sinks) ⊎ (new.sinks ≡ old.sinks + 1)
-  pub reads : ReadsWell old new ⊎ (Rises old.read_faults new.read_faults × (new.failed ≡ length old.sizes))
+-- what else a run may change: at most one file more is open, at most one sink more was made, and a read fault can only be of that file
+pub record Keeps (old : Outside) (q : Query) (new : Outside) : Type 0 where
+  pub files : ((new.sizes ≡ old.sizes) × (new.held ≡ old.held)) ⊎ HasOneFileMore old new
+  pub sinks : (new.sinks ≡ old.sinks) ⊎ HasBegun old q new
+  pub reads : NoReadFailed old new ⊎ (Rises old.read_faults new.read_faults × (new.failed ≡ length old.sizes))
 
 -- what a number of rows says
 abbrev pub Answered : Outside → Query → Result ℕ Fault → Outside → Type 0
@@ -137,7 +138,8 @@ pub record Runs (old : Outside) (q : Query) (result : Result ℕ Fault) (new : O
   pub after_fault : AfterFault old q result new
   pub asks : AsksSome old q new
   pub reads : ReadsAtMostOnce old new
-  pub keeps : Keeps old new
+  pub keeps : Keeps old q new
+  pub in_order : (new.events ≡ old.events) ⊎ HasBegun old q new  -- nothing is read or written before the sink is made
   pub printed : new.printed ≡ old.printed
   pub print_faults : new.print_faults ≡ old.print_faults
   pub no_lower : old.write_faults ≤ new.write_faults

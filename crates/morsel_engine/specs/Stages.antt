@@ -7,17 +7,17 @@ use Rattle.morsel_meaning.specs.Values.{Table, names_of}
 use Rattle.morsel_outside.specs.declared.io.FileNo.{FileNo}
 use Rattle.morsel_outside.specs.Outside.{Outside}
 use Rattle.morsel_outside.specs.Actions.{Action, FailedOpening, Reading, FailedReading, Making, FailedMaking, Writing, FailedWriting, Rises, Does, text_by}
-use Rattle.morsel_outside.specs.Calls.{Holds, Opened}
+use Rattle.morsel_outside.specs.Calls.{Holds, IsNextFile}
 use Rattle.morsel_ndjson.specs.Ndjson.{ndjson}
 
--- the file was opened, or could not be
+-- the file was opened; or could not be; or memory ran out, and nothing changed
 abbrev pub OpensSource : Outside → List ℕ → Result FileNo Fault → Outside → Type 0
-OpensSource old name (Ok file) new = (bytes : List ℕ) × Opened old name file.0 bytes new
+OpensSource old name (Ok file) new = (bytes : List ℕ) × IsNextFile old name file.0 bytes new
 OpensSource old name (Err OutOfMemory) new = new ≡ old
 OpensSource old name (Err (ReadFault number)) new = (number ≡ 0) × Does old (FailedOpening (length old.sizes) name ∷ []) new
 OpensSource old name (Err fault) new = ⊥
 
--- the sink was made, or could not be
+-- the sink was made; or could not be; or memory ran out, and nothing changed
 abbrev pub MakesSink : Outside → List ℕ → Result (Unit {0}) Fault → Outside → Type 0
 MakesSink old name (Ok _) new = Does old (Making name ∷ []) new
 MakesSink old name (Err OutOfMemory) new = new ≡ old
@@ -30,7 +30,7 @@ pub record ReadsWhole (old : Outside) (file : ℕ) (bytes : List ℕ) (new : Out
   pub held : Holds old.held file 0 bytes
   pub does : Does old (Reading file 0 (length bytes) ∷ []) new
 
--- not all of the file came
+-- the read failed; or memory ran out, and nothing changed
 abbrev pub ReadFails : Outside → ℕ → Fault → Outside → Type 0
 ReadFails old file OutOfMemory new = new ≡ old
 ReadFails old file (ReadFault number) new = (number ≡ 0) × Does old (FailedReading file 0 (get_or old.sizes file 0) ∷ []) new
@@ -43,21 +43,21 @@ AreWritings (Writing piece ∷ actions) = AreWritings actions
 AreWritings (FailedWriting piece ∷ actions) = AreWritings actions
 AreWritings (action ∷ actions) = ⊥
 
--- writes, and nothing else, gave the text of the last sink this more
+-- only writes were done, and together they appended this text
 pub record Gained (old : Outside) (text : List ℕ) (new : Outside) : Type 0 where
   pub actions : List Action
   pub writings : AreWritings actions
   pub text_is : flat_map text_by actions ≡ text
   pub does : Does old actions new
 
--- a text was written, or the beginning of it
+-- the text was written, and no write failed; or, after a failed write or out of memory, its first bytes were
 abbrev pub WritesText : Outside → List ℕ → Result (Unit {0}) Fault → Outside → Type 0
-WritesText old text (Ok _) new = Gained old text new
+WritesText old text (Ok _) new = Gained old text new × (new.write_faults ≡ old.write_faults)
 WritesText old text (Err OutOfMemory) new = (n : ℕ) × Gained old (take n text) new
 WritesText old text (Err WriteFault) new = (n : ℕ) × Gained old (take n text) new × Rises old.write_faults new.write_faults
 WritesText old text (Err fault) new = ⊥
 
--- the rows of a table were written as NDJSON, this many, or the beginning of their text
+-- the rows of a table were written as NDJSON, this many; or the first bytes of their text
 abbrev pub WritesTable : Outside → Table → Result ℕ Fault → Outside → Type 0
-WritesTable old table (Ok count) new = (count ≡ length table.rows) × Gained old (ndjson (names_of table.schema) table.rows) new
+WritesTable old table (Ok count) new = (count ≡ length table.rows) × Gained old (ndjson (names_of table.schema) table.rows) new × (new.write_faults ≡ old.write_faults)
 WritesTable old table (Err fault) new = WritesText old (ndjson (names_of table.schema) table.rows) (Err fault) new

@@ -6,7 +6,7 @@ use Rattle.std.proofs.lemmas.List.{map-append}
 use Rattle.std.proofs.lemmas.List.Concat.{flat_map-append}
 use Rattle.std.proofs.lemmas.List.Sums.{fold-append, sum_by-append}
 use Rattle.morsel_outside.specs.Outside.{Outside, with_more}
-use Rattle.morsel_outside.specs.Actions.{Action, Opening, FailedOpening, Reading, FailedReading, Making, FailedMaking, Writing, FailedWriting, Printing, FailedPrinting, Rises, RisesBy, Does, DoesAfter, EventsTellTexts, opened_by, made_after, sinks_by, printed_by, event_of, asked_by, read_failures, write_failures, print_failures, failed_after, text_by, bytes_told}
+use Rattle.morsel_outside.specs.Actions.{Action, Opening, FailedOpening, Reading, FailedReading, Making, FailedMaking, Writing, FailedWriting, Printing, FailedPrinting, Rises, RisesBy, Does, DoesAfter, EventsTellTexts, opened_by, made_after, sinks_by, printed_by, event_of, asked_by, read_failures, write_failures, print_faults_after, failed_after, text_by, bytes_told}
 
 -- nothing more
 pub with_more-nil : {A : Type 0} (items : Option (List A)) → with_more items [] ≡ items
@@ -73,7 +73,7 @@ does-append old between new first second one two = record {
   events = more_by event_of first second old.events between.events new.events one.events two.events;
   read_faults = failures-add read_failures first second _ _ _ one.read_faults two.read_faults;
   write_faults = failures-add write_failures first second _ _ _ one.write_faults two.write_faults;
-  print_faults = failures-add print_failures first second _ _ _ one.print_faults two.print_faults;
+  print_faults = two.print_faults ∙ ap (λ count. fold print_faults_after count second) one.print_faults ∙ sym (fold-append print_faults_after old.print_faults first second);
   failed = two.failed ∙ ap (λ failed. fold failed_after failed second) one.failed ∙ sym (fold-append failed_after old.failed first second);
   asked = two.asked
       ∙ ap (λ asked. asked ++ flat_map asked_by second) one.asked

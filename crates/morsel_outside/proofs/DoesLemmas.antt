@@ -4,7 +4,7 @@ use Rattle.std.proofs.Common.{ap, ◌∙◌, sym, subst, append-nil, add-zero}
 use Rattle.morsel_outside.specs.declared.events.IoEvent.TheVariants.{ReadAt, Wrote}
 use Rattle.morsel_outside.specs.declared.events.Asked.TheVariants.{Open, Make}
 use Rattle.morsel_outside.specs.Outside.{Outside, with_more, with_last, with_piece, with_sink}
-use Rattle.morsel_outside.specs.Actions.{Action, Opening, FailedOpening, Reading, FailedReading, Making, FailedMaking, Writing, FailedWriting, Printing, FailedPrinting, Rises, Does}
+use Rattle.morsel_outside.specs.Actions.{Action, Opening, FailedOpening, Reading, FailedReading, Making, FailedMaking, Writing, FailedWriting, Printing, FailedPrinting, Rises, Does, raised}
 use Rattle.morsel_outside.proofs.ActionLemmas.{with_more-nil}
 
 -- nothing was done
@@ -181,9 +181,9 @@ does-printing old new line after = subst (Does old (Printing line ∷ [])) (sym 
 })
 
 -- a line could not be printed
-pub does-failed_printing : (old new : Outside) (count prints : ℕ) → Rises old.write_faults count → Rises old.print_faults prints
-    → new ≡ record old { write_faults = count; print_faults = prints } → Does old (FailedPrinting ∷ []) new
-does-failed_printing old new count prints rises more after = subst (Does old (FailedPrinting ∷ [])) (sym after) (record {
+pub does-failed_printing : (old new : Outside) (count : ℕ) → Rises old.write_faults count
+    → new ≡ record old { write_faults = count; print_faults = raised old.print_faults } → Does old (FailedPrinting ∷ []) new
+does-failed_printing old new count rises after = subst (Does old (FailedPrinting ∷ [])) (sym after) (record {
   sizes = sym (append-nil old.sizes);
   held = sym (with_more-nil old.held);
   sinks = sym (add-zero old.sinks);
@@ -192,7 +192,7 @@ does-failed_printing old new count prints rises more after = subst (Does old (Fa
   events = sym (with_more-nil old.events);
   read_faults = refl;
   write_faults = rises;
-  print_faults = more;
+  print_faults = refl;
   failed = refl;
   asked = sym (append-nil old.asked);
 })

@@ -52,4 +52,4 @@ writes-kept old piece (Err Failed) new kept = (
 pub prints-kept : (old : FaultyMemory) (line : List ℕ) (result : Result (Unit {0}) IoErr) (new : FaultyMemory) → PrintsKept old line result new → Prints (told_of old) line result (told_of new)
 prints-kept old line (Ok done) new kept = does-printing _ _ line (ap told_of kept.1)
 prints-kept old line (Err OutOfMemory) new kept = ap told_of kept
-prints-kept old line (Err Failed) new kept = does-failed_printing _ _ _ _ kept.1 kept.2 (ap told_of kept.3)
+prints-kept old line (Err Failed) new kept = does-failed_printing _ _ _ kept.1 (ap told_of kept.2)

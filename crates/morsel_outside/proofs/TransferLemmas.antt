@@ -3,7 +3,7 @@ use Rattle.std.specs.Prelude.{◌≡◌, ℕ, zero, suc, ◌+◌, Option, List, 
 use Rattle.std.specs.List.{fold, flat_map, sum_by}
 use Rattle.std.proofs.Common.{ap, sym, ◌∙◌, arith}
 use Rattle.morsel_outside.specs.Outside.{Sink, with_piece}
-use Rattle.morsel_outside.specs.Actions.{Action, Opening, FailedOpening, Reading, FailedReading, Making, FailedMaking, Writing, FailedWriting, Printing, FailedPrinting, opened_by, made_after, sinks_by, printed_by, asked_by, print_failures, text_by}
+use Rattle.morsel_outside.specs.Actions.{Action, Opening, FailedOpening, Reading, FailedReading, Making, FailedMaking, Writing, FailedWriting, Printing, FailedPrinting, opened_by, made_after, sinks_by, printed_by, asked_by, print_faults_after, text_by}
 use Rattle.morsel_outside.proofs.SinkLemmas.{with_piece-nil, with_piece-with_piece}
 
 -- each action is a read or a write
@@ -21,7 +21,7 @@ pub record OnlyTransfers (actions : List Action) : Type 0 where
   pub sinks : sum_by sinks_by actions ≡ 0
   pub made : (made : Option (List Sink)) → fold made_after made actions ≡ with_piece made (flat_map text_by actions)
   pub printed : flat_map printed_by actions ≡ []
-  pub print_failures : sum_by print_failures actions ≡ 0
+  pub print_faults : (count : ℕ) → fold print_faults_after count actions ≡ count
   pub asked : flat_map asked_by actions ≡ []
 
 pub only_transfers : (actions : List Action) → AreTransfers actions → OnlyTransfers actions
@@ -30,7 +30,7 @@ only_transfers [] h = record {
   sinks = refl;
   made = λ made. sym (with_piece-nil made);
   printed = refl;
-  print_failures = refl;
+  print_faults = λ count. refl;
   asked = refl;
 }
 only_transfers (Reading file at len ∷ actions) h = let r = only_transfers actions h in record {
@@ -38,7 +38,7 @@ only_transfers (Reading file at len ∷ actions) h = let r = only_transfers acti
   sinks = let n = r.sinks in omega arith;
   made = r.made;
   printed = r.printed;
-  print_failures = let n = r.print_failures in omega arith;
+  print_faults = r.print_faults;
   asked = r.asked;
 }
 only_transfers (FailedReading file at len ∷ actions) h = let r = only_transfers actions h in record {
@@ -46,7 +46,7 @@ only_transfers (FailedReading file at len ∷ actions) h = let r = only_transfer
   sinks = let n = r.sinks in omega arith;
   made = r.made;
   printed = r.printed;
-  print_failures = let n = r.print_failures in omega arith;
+  print_faults = r.print_faults;
   asked = r.asked;
 }
 only_transfers (Writing piece ∷ actions) h = let r = only_transfers actions h in record {
@@ -54,7 +54,7 @@ only_transfers (Writing piece ∷ actions) h = let r = only_transfers actions h 
   sinks = let n = r.sinks in omega arith;
   made = λ made. r.made (with_piece made piece) ∙ with_piece-with_piece made piece (flat_map text_by actions);
   printed = r.printed;
-  print_failures = let n = r.print_failures in omega arith;
+  print_faults = r.print_faults;
   asked = r.asked;
 }
 only_transfers (FailedWriting piece ∷ actions) h = let r = only_transfers actions h in record {
@@ -62,7 +62,7 @@ only_transfers (FailedWriting piece ∷ actions) h = let r = only_transfers acti
   sinks = let n = r.sinks in omega arith;
   made = λ made. r.made (with_piece made piece) ∙ with_piece-with_piece made piece (flat_map text_by actions);
   printed = r.printed;
-  print_failures = let n = r.print_failures in omega arith;
+  print_faults = r.print_faults;
   asked = r.asked;
 }
 only_transfers (Opening name bytes ∷ actions) h = absurd h

@@ -71,11 +71,6 @@ write_failures (FailedWriting piece) = 1
 write_failures FailedPrinting = 1
 write_failures action = 0
 
--- whether a print failed, as a number
-abbrev pub print_failures : Action → ℕ
-print_failures FailedPrinting = 1
-print_failures action = 0
-
 -- the file of the last read fault, after an action
 abbrev pub failed_after : ℕ → Action → ℕ
 failed_after failed (FailedOpening number name) = number
@@ -91,12 +86,17 @@ pub record Rises (before now : ℕ) : Type 0 where
 abbrev pub raised : ℕ → ℕ
 raised count = min (count + 1) (2 ^ 64 - 1)
 
--- a count of faults after so many more: the same after none, and risen after some
+-- what so many failures do to a count: none leave it, and some make it rise, by how much is not told
 abbrev pub RisesBy : ℕ → ℕ → ℕ → Type 0
 RisesBy zero before now = now ≡ before
 RisesBy (suc more) before now = Rises before now
 
--- these actions, one after another, made the new outside of the old one
+-- the count of prints that failed, after an action; it is exact
+abbrev pub print_faults_after : ℕ → Action → ℕ
+print_faults_after count FailedPrinting = raised count
+print_faults_after count action = count
+
+-- the new outside is the old one after these actions, one by one; whether each was allowed is not said here
 pub record Does (old : Outside) (actions : List Action) (new : Outside) : Type 0 where
   pub sizes : new.sizes ≡ old.sizes ++ map length (flat_map opened_by actions)
   pub held : new.held ≡ with_more old.held (flat_map opened_by actions)
@@ -106,11 +106,11 @@ pub record Does (old : Outside) (actions : List Action) (new : Outside) : Type 0
   pub events : new.events ≡ with_more old.events (flat_map event_of actions)
   pub read_faults : RisesBy (sum_by read_failures actions) old.read_faults new.read_faults
   pub write_faults : RisesBy (sum_by write_failures actions) old.write_faults new.write_faults
-  pub print_faults : RisesBy (sum_by print_failures actions) old.print_faults new.print_faults
+  pub print_faults : new.print_faults ≡ fold print_faults_after old.print_faults actions
   pub failed : new.failed ≡ fold failed_after old.failed actions
   pub asked : new.asked ≡ old.asked ++ flat_map asked_by actions
 
--- the law of actions: what is done after other actions is done after both
+-- the law of actions: what is done after other actions is, with them, one list of actions
 abbrev pub DoesAfter : Type 0
 DoesAfter = (old between new : Outside) (first second : List Action) → Does old first between → Does between second new → Does old (first ++ second) new
 

@@ -12,14 +12,14 @@ Holds None file at bytes = Unit {0}
 Holds (Some files) file at bytes = slice_range (get_or files file []) at (at + length bytes) ≡ bytes
 
 -- a file with these bytes has the next number
-pub record Opened (old : Outside) (name : List ℕ) (file : ℕ) (bytes : List ℕ) (new : Outside) : Type 0 where
+pub record IsNextFile (old : Outside) (name : List ℕ) (file : ℕ) (bytes : List ℕ) (new : Outside) : Type 0 where
   pub number : file ≡ length old.sizes
   pub sized : IsSized new.held new.sizes
   pub does : Does old (Opening name bytes ∷ []) new
 
 -- the file is open, with some bytes; or it could not be opened
 abbrev pub Opens : Outside → List ℕ → Result FileNo IoErr → Outside → Type 0
-Opens old name (Ok file) new = (bytes : List ℕ) × Opened old name file.0 bytes new
+Opens old name (Ok file) new = (bytes : List ℕ) × IsNextFile old name file.0 bytes new
 Opens old name (Err OutOfMemory) new = new ≡ old
 Opens old name (Err Failed) new = Does old (FailedOpening (length old.sizes) name ∷ []) new
 

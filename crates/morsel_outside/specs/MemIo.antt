@@ -130,4 +130,4 @@ abbrev pub PrintsKept : FaultyMemory → List ℕ → Result (Unit {0}) IoErr �
 PrintsKept old line (Ok _) new = (next_taken old ≡ None) × (new ≡ after_write old (with_printed old.contents line))
 PrintsKept old line (Err OutOfMemory) new = new ≡ old
 PrintsKept old line (Err Failed) new = IsSome (next_taken old) × Rises old.write_faults (raised old.write_faults)
-    × Rises old.print_faults (raised old.print_faults) × (new ≡ after_print_fault old)
+    × (new ≡ after_print_fault old)

@@ -54,7 +54,7 @@ told contents read_faults write_faults print_faults failed = record {
   asked = contents.asked;
 }
 
--- an outside that never fails
+-- what an outside that never fails tells: its counts are 0
 abbrev pub sure : Contents → Outside
 sure contents = told contents 0 0 0 0
 

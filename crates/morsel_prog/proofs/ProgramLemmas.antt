@@ -12,7 +12,7 @@ use Rattle.morsel_outside.specs.Actions.{Printing, FailedPrinting, Rises, Does}
 use Rattle.morsel_outside.proofs.ActionLemmas.{with_more-nil, rises_since, rises_by-no_lower}
 use Rattle.morsel_outside.proofs.DoesLemmas.{printing-change, failed_printing-change}
 use Rattle.morsel_ndjson.specs.Ndjson.{ndjson}
-use Rattle.morsel_engine.specs.Run.{Query, OpensOne, HasBegun, StopsAtOpening, Runs, Answers, HasCause, MadeSome, AsksSome, ReadsAtMostOnce, Keeps, HasAllRows, IsFrontOfText}
+use Rattle.morsel_engine.specs.Run.{Query, HasOneFileMore, HasBegun, StopsAtOpening, Runs, Answers, HasCause, MadeSome, AsksSome, ReadsAtMostOnce, Keeps, HasAllRows, IsFrontOfText}
 use Rattle.morsel_prog.specs.Words.{Command, ScanFile}
 use Rattle.morsel_prog.specs.Program.{query_of, RunsWords, ReportsFault, Reports, AnswersWords, TellsFault, CausesWords, LeavesAfterFault, AsksNames, ReadsOnce, KeepsRest}
 
@@ -61,21 +61,22 @@ not_zero ran new fault status (inr (inl h)) z = let e = h.0 in omega arith
 not_zero ran new fault status (inr (inr h)) z = let e = h.0 in omega arith
 
 -- what a run opened is open after its report
-opens_kept : (old ran new : Outside) → OpensOne old ran → OpensOne old (printed_on ran new)
+opens_kept : (old ran new : Outside) → HasOneFileMore old ran → HasOneFileMore old (printed_on ran new)
 opens_kept old ran new one = record { bytes = one.bytes; sizes = one.sizes; held = one.held }
 
 begun_kept : (old ran new : Outside) (q : Query) → HasBegun old q ran → HasBegun old q (printed_on ran new)
 begun_kept old ran new q begun = record { opened = opens_kept old ran new begun.opened; asked = begun.asked; one_sink = begun.one_sink }
 
 -- a report leaves an answer as it is
-answers_kept : (old ran new : Outside) (q : Query) (count : ℕ) → Answers old q count ran → Answers old q count (printed_on ran new)
-answers_kept old ran new q count a = record {
+answers_kept : (old ran new : Outside) (q : Query) (count : ℕ) → new.write_faults ≡ ran.write_faults → Answers old q count ran → Answers old q count (printed_on ran new)
+answers_kept old ran new q count well a = record {
   rows = a.rows;
   of_file = a.of_file;
   counted = a.counted;
   opened = opens_kept old ran new a.opened;
   one_sink = a.one_sink;
   read_well = a.read_well;
+  write_well = well ∙ a.write_well;
   made = a.made;
   asked = a.asked;
   events = a.events;
@@ -89,7 +90,7 @@ answers_words old new command status ran (Err fault) runs reports z = absurd (no
 answers_words old new None status ran (Ok count) runs reports z = absurd runs
 answers_words old new (Some (ScanFile file schema out)) status ran (Ok count) runs (inl h) z =
     let r = reported_line ran new _ h.1 in
-    (count, subst (Answers old (query_of file schema out) count) (sym r.after) (answers_kept old ran new _ count runs.answers), h.1.printed ∙ ap (λ p. with_last p (decimal count)) runs.printed)
+    (count, subst (Answers old (query_of file schema out) count) (sym r.after) (answers_kept old ran new _ count h.1.write_faults runs.answers), h.1.printed ∙ ap (λ p. with_last p (decimal count)) runs.printed)
 answers_words old new (Some (ScanFile file schema out)) status ran (Ok count) runs (inr (inl h)) z = absurd (not_zero _ new faults.WriteFault status h.2 z)
 answers_words old new (Some (ScanFile file schema out)) status ran (Ok count) runs (inr (inr h)) z = absurd (not_zero ran new faults.OutOfMemory status h z)
 
@@ -116,16 +117,20 @@ reads_once old new None status ran (Ok count) runs reports = absurd runs
 reads_once old new None status ran (Err fault) runs reports =
     let r = reported ran new (Err fault) status reports in ap (λ (o : Outside). o.events) r.after ∙ ap (λ (o : Outside). o.events) runs.0
 
-files_kept : (old ran new : Outside) → ((ran.sizes ≡ old.sizes) × (ran.held ≡ old.held)) ⊎ OpensOne old ran
-    → ((ran.sizes ≡ old.sizes) × (ran.held ≡ old.held)) ⊎ OpensOne old (printed_on ran new)
+files_kept : (old ran new : Outside) → ((ran.sizes ≡ old.sizes) × (ran.held ≡ old.held)) ⊎ HasOneFileMore old ran
+    → ((ran.sizes ≡ old.sizes) × (ran.held ≡ old.held)) ⊎ HasOneFileMore old (printed_on ran new)
 files_kept old ran new (inl same) = inl same
 files_kept old ran new (inr one) = inr (opens_kept old ran new one)
+
+sinks_kept : (old ran new : Outside) (q : Query) → (ran.sinks ≡ old.sinks) ⊎ HasBegun old q ran → (ran.sinks ≡ old.sinks) ⊎ HasBegun old q (printed_on ran new)
+sinks_kept old ran new q (inl same) = inl same
+sinks_kept old ran new q (inr begun) = inr (begun_kept old ran new q begun)
 
 -- and what else changed
 pub keeps_rest : (old new : Outside) (command : Option Command) (status : ℕ) → (ran : Outside) (answer : Result ℕ Fault) → RunsWords old command answer ran → Reports ran answer status new → KeepsRest old command new
 keeps_rest old new (Some (ScanFile file schema out)) status ran answer runs reports =
     let r = reported ran new answer status reports in
-    subst (Keeps old) (sym r.after) (record { files = files_kept old ran new runs.keeps.files; sinks = runs.keeps.sinks; reads = runs.keeps.reads })
+    subst (Keeps old (query_of file schema out)) (sym r.after) (record { files = files_kept old ran new runs.keeps.files; sinks = sinks_kept old ran new (query_of file schema out) runs.keeps.sinks; reads = runs.keeps.reads })
 keeps_rest old new None status ran (Ok count) runs reports = absurd runs
 keeps_rest old new None status ran (Err fault) runs reports =
     let r = reported ran new (Err fault) status reports in
@@ -142,16 +147,20 @@ front_whole None file schema rows h = tt
 front_whole (Some files) file schema rows h =
     let text = ndjson (names_of schema) rows in (rows, None, length text, h, sym (take_all (length text) text (omega arith)))
 
+made_kept : (old ran new : Outside) (q : Query) → MadeSome old q ran → MadeSome old q (printed_on ran new)
+made_kept old ran new q (inl none) = inl none
+made_kept old ran new q (inr (begun, text, front, made)) = inr (begun_kept old ran new q begun, text, front, made)
+
 -- what a run leaves, whatever it answered
 made_some : (old ran : Outside) (q : Query) (answer : Result ℕ Fault) → Runs old q answer ran → MadeSome old q ran
 made_some old ran q (Err fault) runs = runs.after_fault
 made_some old ran q (Ok count) runs =
-    let a = runs.answers in inr (a.asked, ndjson (names_of q.schema) a.rows, front_whole ran.held (length old.sizes) q.schema a.rows a.of_file, a.made)
+    let a = runs.answers in inr (record { opened = a.opened; asked = a.asked; one_sink = a.one_sink }, ndjson (names_of q.schema) a.rows, front_whole ran.held (length old.sizes) q.schema a.rows a.of_file, a.made)
 
 pub leaves_after_fault : (old new : Outside) (command : Option Command) (status : ℕ) → (ran : Outside) (answer : Result ℕ Fault) → RunsWords old command answer ran → Reports ran answer status new → LeavesAfterFault old command new
 leaves_after_fault old new (Some (ScanFile file schema out)) status ran answer runs reports =
     let r = reported ran new answer status reports in
-    subst (MadeSome old (query_of file schema out)) (sym r.after) (made_some old ran _ answer runs)
+    subst (MadeSome old (query_of file schema out)) (sym r.after) (made_kept old ran new (query_of file schema out) (made_some old ran _ answer runs))
 leaves_after_fault old new None status ran (Ok count) runs reports = absurd runs
 leaves_after_fault old new None status ran (Err fault) runs reports =
     let r = reported ran new (Err fault) status reports in ap (λ (o : Outside). o.made) r.after ∙ ap (λ (o : Outside). o.made) runs.0
@@ -179,7 +188,12 @@ cause_reported old ran new q faults.OutOfMemory told status h reports = tt
 cause_reported old ran new q (faults.ReadFault file) told status (zeroth, rises, failed, stops) reports =
     let is = reported_fault ran new told status reports in
     subst (HasCause old q (faults.ReadFault file)) (sym is.after) (zeroth, rises, failed, stops_kept old ran new q stops)
-cause_reported old ran new q faults.WriteFault told status h reports = rises_reported old ran new told status h reports
+cause_reported old ran new q faults.WriteFault told status (rises, opened, asked) reports =
+    let is = reported_fault ran new told status reports in (
+      rises_reported old ran new told status rises reports,
+      subst (HasOneFileMore old) (sym is.after) (opens_kept old ran new opened),
+      ap (λ (o : Outside). o.asked) is.after ∙ asked,
+    )
 cause_reported old ran new q (faults.Malformed file at) told status (zeroth, begun, within, refused) reports =
     let is = reported_fault ran new told status reports in
     subst (HasCause old q (faults.Malformed file at)) (sym is.after) (zeroth, begun_kept old ran new q begun, within, refused)
@@ -193,11 +207,16 @@ causes_words old new None status ran (Err fault) runs reports z =
 causes_words old new (Some (ScanFile file schema out)) status ran (Err fault) runs reports z =
     (fault, cause_reported old ran new (query_of file schema out) fault fault status runs.caused reports, tells_fault old ran new fault status runs.printed runs.no_lower reports)
 causes_words old new (Some (ScanFile file schema out)) status ran (Ok count) runs (inl h) z = absurd (z h.0)
-causes_words old new (Some (ScanFile file schema out)) status ran (Ok count) runs (inr (inl (failed, failing, later))) z =
-    let since = rises_since _ _ _ runs.no_lower failing.write_faults in (
+causes_words old new (Some (ScanFile file schema out)) status ran (Ok count) runs (inr (inl (unprinted, failing, later))) z =
+    let since = rises_since _ _ _ runs.no_lower failing.write_faults in
+    let is = reported ran new (Ok count) status (inr (inl (unprinted, failing, later))) in (
       faults.WriteFault,
-      rises_reported old failed new faults.WriteFault status since later,
-      tells_fault old failed new faults.WriteFault status (failing.printed ∙ with_more-nil ran.printed ∙ runs.printed) since.no_lower later,
+      (
+        rises_reported old unprinted new faults.WriteFault status since later,
+        subst (HasOneFileMore old) (sym is.after) (opens_kept old ran new runs.answers.opened),
+        ap (λ (o : Outside). o.asked) is.after ∙ runs.answers.asked,
+      ),
+      tells_fault old unprinted new faults.WriteFault status (failing.printed ∙ with_more-nil ran.printed ∙ runs.printed) since.no_lower later,
     )
 causes_words old new (Some (ScanFile file schema out)) status ran (Ok count) runs (inr (inr h)) z =
     (faults.OutOfMemory, tt, tells_fault old ran new faults.OutOfMemory status runs.printed runs.no_lower h)

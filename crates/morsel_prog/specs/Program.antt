@@ -7,7 +7,7 @@ use Rattle.morsel_meaning.specs.Faults.{fault_line, fault_status}
 use Rattle.morsel_outside.specs.Outside.{Outside, with_last}
 use Rattle.morsel_outside.specs.Actions.{Printing, FailedPrinting, Rises, Does}
 use Rattle.morsel_engine.specs.Complete.{NoneRises}
-use Rattle.morsel_engine.specs.Run.{Query, Runs, Answers, HasCause, MadeSome, AsksSome, ReadsAtMostOnce, ReadsWell, Keeps}
+use Rattle.morsel_engine.specs.Run.{Query, Runs, Answers, HasCause, MadeSome, AsksSome, ReadsAtMostOnce, NoReadFailed, Keeps}
 use Rattle.morsel_prog.specs.Complete.{IsValidCommand, IsDone}
 use Rattle.morsel_prog.specs.Words.{Command, ScanFile}
 
@@ -39,7 +39,7 @@ PrintsCount old count (Err fault) new = ⊥
 abbrev pub ReportsCount : Outside → ℕ → ℕ → Outside → Type 0
 ReportsCount old count status new =
     ((status ≡ 0) × Does old (Printing (decimal count) ∷ []) new)
-    ⊎ ((failed : Outside) × Does old (FailedPrinting ∷ []) failed × ReportsFault failed faults.WriteFault status new)
+    ⊎ ((unprinted : Outside) × Does old (FailedPrinting ∷ []) unprinted × ReportsFault unprinted faults.WriteFault status new)
     ⊎ ReportsFault old faults.OutOfMemory status new
 
 -- the answer of a run was reported
@@ -47,12 +47,12 @@ abbrev pub Reports : Outside → Result ℕ Fault → ℕ → Outside → Type 0
 Reports old (Ok count) status new = ReportsCount old count status new
 Reports old (Err fault) status new = ReportsFault old fault status new
 
--- a run, which prints nothing, and then the report of what it answered; so a fault of printing comes after the run
+-- a run in which nothing was printed and no print failed, and then the report of its answer
 pub record RunsAndReports (old : Outside) (command : Option Command) (status : ℕ) (new : Outside) : Type 0 where
   pub result : Result ℕ Fault  -- what the run answered
   pub between : Outside  -- the outside after the run and before its report
   pub ran : RunsWords old command result between
-  pub reported : Reports between result status new
+  pub report : Reports between result status new
 
 -- status 0: the words are a command, the sink has the text of all rows, and their number was printed
 abbrev pub AnswersWords : Outside → Option Command → Outside → Type 0
@@ -90,10 +90,10 @@ abbrev pub ReadsOnce : Outside → Option Command → Outside → Type 0
 ReadsOnce old (Some (ScanFile file schema out)) new = ReadsAtMostOnce old new
 ReadsOnce old None new = new.events ≡ old.events
 
--- whatever the status, one file more is open at most, one sink more was made, and a read of the file failed; for words that are no command none
+-- whatever the status, at most one file more is open, at most one sink more was made, and a read fault can only be of that file; for words that are no command none
 abbrev pub KeepsRest : Outside → Option Command → Outside → Type 0
-KeepsRest old (Some (ScanFile file schema out)) new = Keeps old new
-KeepsRest old None new = (new.sizes ≡ old.sizes) × (new.held ≡ old.held) × (new.sinks ≡ old.sinks) × ReadsWell old new
+KeepsRest old (Some (ScanFile file schema out)) new = Keeps old (query_of file schema out) new
+KeepsRest old None new = (new.sizes ≡ old.sizes) × (new.held ≡ old.held) × (new.sinks ≡ old.sinks) × NoReadFailed old new
 
 -- the query theorem: what a status says of the outside before and after
 pub record QueryTheorem (old : Outside) (command : Option Command) (status : ℕ) (new : Outside) : Type 0 where
@@ -109,7 +109,7 @@ pub record QueryTheorem (old : Outside) (command : Option Command) (status : ℕ
   pub asks : AsksNames old command new
   -- no byte of the file is asked twice, and none past its size
   pub reads : ReadsOnce old command new
-  -- one file more is open, one sink more was made, a read of the file failed: nothing else changed but what the other fields name
+  -- at most one file more is open, at most one sink more was made, and a read fault can only be of that file
   pub keeps : KeepsRest old command new
-  -- the run comes first, whole, and then its report: the first fault is told, and where only the printing fails the text is whole
+  -- a run without a failed print, and then its report: where the line of a fault cannot be printed its status still tells it, and where only the printing fails the text is whole
   pub reported : RunsAndReports old command status new

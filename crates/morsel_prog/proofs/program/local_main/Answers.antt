@@ -7,12 +7,12 @@ returns g c =
     let r = c.run_and_report.ensures in
     let status = c.run_and_report.result in
     record {
-      answers = λ zero. answers_words _ _ _ status r.between r.result r.ran r.reported zero;
-      caused = λ other. causes_words _ _ _ status r.between r.result r.ran r.reported other;
-      complete = λ valid none. completes_words _ _ _ status (λ other. causes_words _ _ _ status r.between r.result r.ran r.reported other) valid none;
-      after_fault = λ other. leaves_after_fault _ _ _ status r.between r.result r.ran r.reported;
-      asks = asks_names _ _ _ status r.between r.result r.ran r.reported;
-      reads = reads_once _ _ _ status r.between r.result r.ran r.reported;
-      keeps = keeps_rest _ _ _ status r.between r.result r.ran r.reported;
+      answers = λ zero. answers_words _ _ _ status r.between r.result r.ran r.report zero;
+      caused = λ other. causes_words _ _ _ status r.between r.result r.ran r.report other;
+      complete = λ valid none. completes_words _ _ _ status (λ other. causes_words _ _ _ status r.between r.result r.ran r.report other) valid none;
+      after_fault = λ other. leaves_after_fault _ _ _ status r.between r.result r.ran r.report;
+      asks = asks_names _ _ _ status r.between r.result r.ran r.report;
+      reads = reads_once _ _ _ status r.between r.result r.ran r.report;
+      keeps = keeps_rest _ _ _ status r.between r.result r.ran r.report;
       reported = r;
     }
