@@ -303,13 +303,13 @@ where
     }
 
     fn make_sink(&mut self, name: &str) -> Result<(), IoErr> {
-        let Ok(kept) = self.room_for_sink(name) else {
+        let Ok(sink_name) = self.room_for_sink(name) else {
             return Err(IoErr::OutOfMemory);
         };
         let Ok(()) = self.ask_sink(name) else {
             return Err(IoErr::OutOfMemory);
         };
-        let Err(error) = self.keep_sink(kept) else {
+        let Err(error) = self.keep_sink(sink_name) else {
             return Ok(());
         };
         let reason = reason_of(self.alloc, name, &error);
