@@ -5,17 +5,15 @@ ghost use Rattle.morsel_outside.specs.Memory.{sure};
 ghost use Rattle.morsel_prog.specs.Words.{command_of};
 ghost use Rattle.morsel_prog.specs.Complete.{IsValidCommand, IsDone};
 
-use super::{ROWS, TEXT, files, words_of};
+use super::{ROWS, SCAN, TEXT, files, words_of};
 use crate::program::{local_main, morsel_main};
-use morsel_meaning::Fault;
 use morsel_outside::{OpenGate, SureMemIo};
 use std::alloc::Global;
-use std::process::Abort;
+use std::mem::drop;
 use std::sync::Wait;
-use std::test::Fail;
 use std::thread::Threads;
 
-/// A command over a valid file ends with status 0, or that of want of memory, and for no other reason with another.
+/// A command over a valid file ends with status 0, or that of being out of memory, and for no other reason with another.
 fn in_memory(alloc: Global, words: &[String], io: &mut SureMemIo) -> u8
     ensures { IsValidCommand (sure io.old) (command_of (map string_bytes words.now)) (sure io.new) → IsDone result }
 {
@@ -34,26 +32,25 @@ fn in_memory_on_threads<R: Threads + Wait + Sync>(
     morsel_main(rt, alloc, words, io, &OpenGate)
 }
 
-fn is_answered(rt: &impl Abort, alloc: Global) -> Result<(), Fault> {
-    let words = words_of(alloc, "scan a.csv id:int,name:text o")?;
-    let mut io = SureMemIo::new(alloc, files(alloc, ROWS.as_bytes())?);
-    assert_eq!(rt; in_memory(alloc, &words, &mut io), 0);
+#[test]
+fn a_valid_file_in_memory_is_answered(rt: HostRuntime) {
+    let words = words_of(&rt, rt.alloc(), SCAN);
+    let mut io = SureMemIo::new(rt.alloc(), files(&rt, rt.alloc(), ROWS.as_bytes()));
+    assert_eq!(rt; in_memory(rt.alloc(), words.as_slice(), &mut io), 0);
     assert_eq!(rt; io.memory().sinks(), 1);
     assert_eq!(rt; io.memory().text(0), TEXT.as_bytes());
-    Ok(())
+    drop(io);
+    drop(words);
 }
 
 #[test]
-fn a_valid_file_in_memory_is_answered(rt: HostRuntime) -> Result<(), Fail> {
-    is_answered(&rt, rt.alloc())?;
-    Ok(())
-}
-
-#[test]
-fn a_valid_file_in_memory_is_answered_on_threads(rt: HostRuntime) -> Result<(), Fail> {
-    let alloc = rt.alloc();
-    let words = words_of(alloc, "scan a.csv id:int,name:text o")?;
-    let mut io = SureMemIo::new(alloc, files(alloc, ROWS.as_bytes())?);
-    assert_eq!(rt; in_memory_on_threads(&rt, alloc, &words, &mut io), 0);
-    Ok(())
+fn a_valid_file_in_memory_is_answered_on_threads(rt: HostRuntime) {
+    let words = words_of(&rt, rt.alloc(), SCAN);
+    let mut io = SureMemIo::new(rt.alloc(), files(&rt, rt.alloc(), ROWS.as_bytes()));
+    assert_eq!(rt;
+        in_memory_on_threads(&rt, rt.alloc(), words.as_slice(), &mut io),
+        0
+    );
+    drop(io);
+    drop(words);
 }

@@ -86,12 +86,14 @@ fn a_frame_is_put_below_itself(rt: HostRuntime) {
     is(&rt, frame, "a", &[1, 2, 3, 1, 2, 3]);
 }
 
-/// The fault is a mismatch of this name.
-fn is_mismatch(rt: &impl Abort, fault: &Fault, wanted: &str) {
-    match fault {
-        Fault::SchemaMismatch { name } => assert_eq!(rt; name.as_str(), wanted),
-        _ => assert!(rt; false, "another fault"),
-    }
+/// The number of a fault, and the name that a mismatch or a repeat gives.
+fn told(fault: &Fault) -> (u8, &str) {
+    let name = match fault {
+        Fault::SchemaMismatch { name } => name.as_str(),
+        Fault::Duplicate { name } => name.as_str(),
+        _ => "",
+    };
+    (fault.number(), name)
 }
 
 #[test]
@@ -99,7 +101,7 @@ fn another_name_is_a_mismatch_of_the_own(rt: HostRuntime) {
     let mut frame = worked(&rt, rt.alloc());
     let other = frame_of(&rt, rt.alloc(), "b", &[4]);
     let fault = put_below(&rt, &mut frame, &other).expect_err(&rt, "a mismatch");
-    is_mismatch(&rt, &fault, "a");
+    assert_eq!(rt; told(&fault), (8, "a"));
     drop(fault);
     drop(other);
     is(&rt, frame, "a", &[1, 2, 3]);
@@ -138,20 +140,12 @@ fn beside(rt: &impl Abort, alloc: Global, frame: Frame, other: Frame) -> Result<
     frame.hstack(alloc, other)
 }
 
-/// The fault is a repeat of this name.
-fn is_repeat(rt: &impl Abort, fault: &Fault, wanted: &str) {
-    match fault {
-        Fault::Duplicate { name } => assert_eq!(rt; name.as_str(), wanted),
-        _ => assert!(rt; false, "another fault"),
-    }
-}
-
 #[test]
 fn a_frame_beside_itself_repeats_a_name(rt: HostRuntime) {
     let frame = worked(&rt, rt.alloc());
     let other = worked(&rt, rt.alloc());
     let fault = beside(&rt, rt.alloc(), frame, other).expect_err(&rt, "a repeat");
-    is_repeat(&rt, &fault, "a");
+    assert_eq!(rt; told(&fault), (9, "a"));
     drop(fault);
 }
 
@@ -178,14 +172,14 @@ fn a_row_index_counts_from_its_offset(rt: HostRuntime) {
 #[test]
 fn a_row_index_of_a_name_that_is_there_is_a_duplicate(rt: HostRuntime) {
     let fault = indexed(&rt, rt.alloc(), "a", 0).expect_err(&rt, "a repeat");
-    is_repeat(&rt, &fault, "a");
+    assert_eq!(rt; told(&fault), (9, "a"));
     drop(fault);
 }
 
 #[test]
 fn a_row_index_past_32_bits_is_refused(rt: HostRuntime) {
     let fault = indexed(&rt, rt.alloc(), "i", 4294967293).expect_err(&rt, "a refusal");
-    assert_eq!(rt; fault.number(), 10);
+    assert_eq!(rt; told(&fault), (10, ""));
     drop(fault);
 }
 

@@ -1,5 +1,5 @@
 //! The outside in memory whose numbered calls fail.
-use super::told::{has_asked_open, has_event, has_line, has_opened, has_sink};
+use super::told::{has_asked_open, has_event, has_line, has_opened, has_sink, read_within};
 use morsel_meaning::Name;
 use morsel_outside::{FileNo, Io, IoErr, IoEvent, MemIo, Memory};
 use std::alloc::Global;
@@ -46,12 +46,7 @@ fn read(io: &mut MemIo, at: u64, into: &mut [u8]) -> Result<bool, IoErr> {
     if io.memory().opened() == 0 {
         return Ok(false);
     }
-    let size = io.size(file);
-    if at > size || into.len() as u64 > size - at {
-        return Ok(false);
-    }
-    io.read_range(file, at, into)?;
-    Ok(true)
+    read_within(io, file, at, into)
 }
 
 /// The four bytes from place 3 on.

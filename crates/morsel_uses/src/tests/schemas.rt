@@ -2,46 +2,27 @@
 use morsel_frame::Schema;
 use morsel_meaning::{ColType, Fault, Field, Name};
 use std::alloc::Global;
-use std::test::Fail;
+use std::mem::drop;
+use std::process::Abort;
 
-fn put_field(
-    alloc: Global,
-    fields: &mut Vec<Field>,
-    name: &str,
-    kind: ColType,
-) -> Result<(), Fault> {
-    let name = Name::new(alloc, name)?;
-    fields.push(Field { name, kind })?;
-    Ok(())
+fn field(rt: &impl Abort, alloc: Global, name: &str, kind: ColType) -> Field {
+    let name = Name::new(alloc, name).expect(rt, "memory");
+    Field { name, kind }
 }
 
-fn schema_fault(alloc: Global, fields: Vec<Field>) -> u8 {
-    match Schema::new(alloc, fields) {
-        Ok(_) => 0,
-        Err(fault) => fault.number(),
-    }
-}
-
-fn repeated_name(alloc: Global, first: &str, second: &str) -> Result<u8, Fault> {
-    let mut fields = Vec::new(alloc);
-    put_field(alloc, &mut fields, first, ColType::Text)?;
-    put_field(alloc, &mut fields, second, ColType::Text)?;
-    Ok(schema_fault(alloc, fields))
+/// The schema of numbers and of truth values under these names, or why there is none.
+fn schema_of(rt: &impl Abort, alloc: Global, first: &str, second: &str) -> Result<Schema, Fault> {
+    let first = field(rt, alloc, first, ColType::Int);
+    let second = field(rt, alloc, second, ColType::Bool);
+    let fields = vec![in alloc; first, second].expect(rt, "memory");
+    Schema::new(alloc, fields)
 }
 
 #[test]
-fn a_repeated_name_is_a_duplicate(rt: HostRuntime) -> Result<(), Fail> {
-    assert_eq!(rt; repeated_name(rt.alloc(), "a", "a")?, 9);
-    assert_eq!(rt; repeated_name(rt.alloc(), "a", "b")?, 0);
-    Ok(())
-}
-
-/// The numbers `n` and the truth values `b`.
-fn two_fields(alloc: Global) -> Result<Schema, Fault> {
-    let mut fields = Vec::new(alloc);
-    put_field(alloc, &mut fields, "n", ColType::Int)?;
-    put_field(alloc, &mut fields, "b", ColType::Bool)?;
-    Schema::new(alloc, fields)
+fn a_repeated_name_is_a_duplicate(rt: HostRuntime) {
+    let fault = schema_of(&rt, rt.alloc(), "a", "a").expect_err(&rt, "a repeat");
+    assert_eq!(rt; fault.number(), 9);
+    drop(fault);
 }
 
 /// Whether the field at this place has this name and type.
@@ -53,7 +34,7 @@ fn is_field(schema: &Schema, at: usize, name: &str, kind: ColType) -> bool {
     field.name.as_str() == name && field.kind == kind
 }
 
-/// Whether these are the two fields, and no more.
+/// Whether the fields are the numbers `n` and the truth values `b`, and no more.
 fn are_both(schema: &Schema) -> bool {
     schema.len() == 2
         && is_field(schema, 0, "n", ColType::Int)
@@ -61,10 +42,11 @@ fn are_both(schema: &Schema) -> bool {
 }
 
 #[test]
-fn a_schema_again_has_the_same_fields(rt: HostRuntime) -> Result<(), Fail> {
-    let schema = two_fields(rt.alloc())?;
-    let again = schema.again()?;
+fn a_schema_again_has_the_same_fields(rt: HostRuntime) {
+    let schema = schema_of(&rt, rt.alloc(), "n", "b").expect(&rt, "two names");
+    let again = schema.again().expect(&rt, "memory");
     assert!(rt; are_both(&again));
+    drop(again);
     assert!(rt; are_both(&schema));
-    Ok(())
+    drop(schema);
 }

@@ -2,7 +2,7 @@
 ghost use Rattle.std.specs.Prelude.{IsOkUnless};
 ghost use Rattle.morsel_outside.specs.Calls.{Opens};
 
-use super::told::{has_asked_make, has_asked_open, has_event, has_line, has_sink};
+use super::told::{has_asked_make, has_asked_open, has_event, has_line, has_sink, read_within};
 use morsel_meaning::Name;
 use morsel_outside::{FileNo, Io, IoErr, IoEvent, Memory, SureMemIo};
 use std::alloc::Global;
@@ -36,12 +36,7 @@ fn read(io: &mut SureMemIo, file: FileNo, at: u64, into: &mut [u8]) -> Result<bo
     if file.0 >= io.memory().opened() {
         return Ok(false);
     }
-    let size = io.size(file);
-    if at > size || into.len() as u64 > size - at {
-        return Ok(false);
-    }
-    io.read_range(file, at, into)?;
-    Ok(true)
+    read_within(io, file, at, into)
 }
 
 fn opens_absent_names(io: &mut SureMemIo) -> Result<bool, IoErr> {

@@ -1,5 +1,7 @@
-//! What an outside in memory tells, compared with what was done.
-use morsel_outside::{Asked, FileNo, IoEvent, Memory};
+//! What an outside in memory tells, compared with what was done; and reads that stay within a file.
+ghost use Rattle.std.specs.Prelude.{◌<◌, length};
+
+use morsel_outside::{Asked, FileNo, Io, IoErr, IoEvent, Memory};
 
 /// Whether one file is open, and has these bytes.
 pub(super) fn has_opened(memory: &Memory, bytes: &[u8]) -> bool {
@@ -45,4 +47,21 @@ pub(super) fn has_asked_open(memory: &Memory, at: usize, name: &str) -> bool {
 /// Whether a sink of this name was asked for, after so many other names.
 pub(super) fn has_asked_make(memory: &Memory, at: usize, name: &str) -> bool {
     at < memory.names() && making(memory.asked(at)) == Some(name)
+}
+
+/// Fills `into` from place `at` of an opened file on, and answers whether the file reaches so far.
+pub(super) fn read_within<H: Io>(
+    io: &mut H,
+    file: FileNo,
+    at: u64,
+    into: &mut [u8],
+) -> Result<bool, IoErr>
+    requires { file.0 < length (H.seen io.old).sizes }
+{
+    let size = io.size(file);
+    if at > size || into.len() as u64 > size - at {
+        return Ok(false);
+    }
+    io.read_range(file, at, into)?;
+    Ok(true)
 }

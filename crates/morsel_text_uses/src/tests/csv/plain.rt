@@ -1,12 +1,12 @@
 //! Both readers over every short text of six bytes that the rules of CSV name.
-use super::schema;
+use crate::tests::schema_of;
 use morsel_frame::{Frame, Schema};
-use morsel_meaning::{ColType, Fault};
 use morsel_grammar::CsvOptions;
+use morsel_meaning::{ColType, Fault};
 use morsel_text::{read_records, read_records_plainly};
 use std::alloc::Global;
+use std::mem::drop;
 use std::process::Abort;
-use std::test::Fail;
 
 /// A letter, a digit, the separator, the quote, the line feed and the return.
 const ALPHABET: [u8; 6] = *b"a1,\"\n\r";
@@ -42,7 +42,22 @@ fn same_rows(rt: &impl Abort, a: &Frame, b: &Frame) {
     }
 }
 
-/// Both readers answer the same rows, or the same fault with its place.
+/// The rows, and whether the header is still to come; or why there are none.
+type Answer = Result<(Frame, bool), Fault>;
+
+/// Both answers have the same rows, or the same fault with its place.
+fn same_answers(rt: &impl Abort, a: &Answer, b: &Answer) {
+    match (a, b) {
+        (Ok((rows, still)), Ok((plain, other))) => {
+            assert_eq!(rt; still, other);
+            same_rows(rt, rows, plain);
+        }
+        (Err(fault), Err(plain)) => assert_eq!(rt; fault, plain),
+        _ => assert!(rt; false, "one reader refuses"),
+    }
+}
+
+/// Both readers answer the same.
 fn agree(
     rt: &impl Abort,
     alloc: Global,
@@ -52,20 +67,12 @@ fn agree(
     head: bool,
     options: &CsvOptions,
 ) {
-    if text.len() > 1000 || used.len() != schema.len() {
-        return;
-    }
-    match (
-        read_records(alloc, text, PLACE, 3, schema, used, head, options),
-        read_records_plainly(alloc, text, PLACE, 3, schema, used, head, options),
-    ) {
-        (Ok((rows, still)), Ok((plain, other))) => {
-            assert_eq!(rt; still, other);
-            same_rows(rt, &rows, &plain);
-        }
-        (Err(fault), Err(plain)) => assert_eq!(rt; fault, plain),
-        _ => assert!(rt; false, "one reader refuses"),
-    }
+    assert!(rt; text.len() < 1000 && used.len() == schema.len());
+    let read = read_records(alloc, text, PLACE, 3, schema, used, head, options);
+    let plain = read_records_plainly(alloc, text, PLACE, 3, schema, used, head, options);
+    same_answers(rt, &read, &plain);
+    drop(read);
+    drop(plain);
 }
 
 /// Both readers agree of every text of this length.
@@ -74,53 +81,61 @@ fn agree_of_length(
     alloc: Global,
     len: usize,
     count: usize,
-    kinds: &[ColType],
+    schema: &Schema,
     head: bool,
-) -> Result<(), Fault> {
-    let schema = schema(alloc, kinds)?;
-    let options = CsvOptions::standard(alloc)?;
-    let used = vec![in alloc; true; kinds.len()]?;
+    options: &CsvOptions,
+) {
+    let used = vec![in alloc; true; schema.len()].expect(rt, "memory");
     let mut text = Vec::new(alloc);
     for number in 0..count {
-        write_text(&mut text, number, len)?;
-        agree(rt, alloc, text.as_slice(), &schema, &used, head, &options);
+        write_text(&mut text, number, len).expect(rt, "memory");
+        agree(
+            rt,
+            alloc,
+            text.as_slice(),
+            schema,
+            used.as_slice(),
+            head,
+            options,
+        );
     }
-    Ok(())
+    drop(text);
+    drop(used);
 }
 
 /// Both readers agree of every text of up to six bytes.
-fn agree_up_to_six(
-    rt: &impl Abort,
-    alloc: Global,
-    kinds: &[ColType],
-    head: bool,
-) -> Result<(), Fault> {
+fn agree_up_to_six(rt: &impl Abort, alloc: Global, columns: &[(&str, ColType)], head: bool) {
+    let schema = schema_of(rt, alloc, columns);
+    let options = CsvOptions::standard(alloc).expect(rt, "memory");
     for (len, count) in COUNTS.iter().enumerate() {
-        agree_of_length(rt, alloc, len, *count, kinds, head)?;
+        agree_of_length(rt, alloc, len, *count, &schema, head, &options);
     }
-    Ok(())
+    drop(options);
+    drop(schema);
+}
+
+/// One number.
+const ONE: &[(&str, ColType)] = &[("c0", ColType::Int)];
+
+/// A text and a number.
+const TWO: &[(&str, ColType)] = &[("c0", ColType::Text), ("c1", ColType::Int)];
+
+#[test]
+fn both_readers_agree_of_one_column_after_a_header(rt: HostRuntime) {
+    agree_up_to_six(&rt, rt.alloc(), ONE, true);
 }
 
 #[test]
-fn both_readers_agree_of_one_column_behind_a_header(rt: HostRuntime) -> Result<(), Fail> {
-    agree_up_to_six(&rt, rt.alloc(), &[ColType::Int], true)?;
-    Ok(())
+fn both_readers_agree_of_one_column_without_a_header(rt: HostRuntime) {
+    agree_up_to_six(&rt, rt.alloc(), ONE, false);
 }
 
 #[test]
-fn both_readers_agree_of_one_column_without_a_header(rt: HostRuntime) -> Result<(), Fail> {
-    agree_up_to_six(&rt, rt.alloc(), &[ColType::Int], false)?;
-    Ok(())
+fn both_readers_agree_of_two_columns_after_a_header(rt: HostRuntime) {
+    agree_up_to_six(&rt, rt.alloc(), TWO, true);
 }
 
 #[test]
-fn both_readers_agree_of_two_columns_behind_a_header(rt: HostRuntime) -> Result<(), Fail> {
-    agree_up_to_six(&rt, rt.alloc(), &[ColType::Text, ColType::Int], true)?;
-    Ok(())
-}
-
-#[test]
-fn both_readers_agree_of_two_columns_without_a_header(rt: HostRuntime) -> Result<(), Fail> {
-    agree_up_to_six(&rt, rt.alloc(), &[ColType::Text, ColType::Int], false)?;
-    Ok(())
+fn both_readers_agree_of_two_columns_without_a_header(rt: HostRuntime) {
+    agree_up_to_six(&rt, rt.alloc(), TWO, false);
 }
