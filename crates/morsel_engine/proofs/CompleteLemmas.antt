@@ -1,4 +1,4 @@
--- A run of a valid file has no cause for a fault but want of memory, where no count of faults rose.
+-- A run of a valid file has no cause for a fault but out of memory, where no count of faults rose.
 use Rattle.std.specs.Prelude.{ℕ, Option, Some, None, Result, Ok, Err, List, length, IsOkUnless, refl}
 use Rattle.morsel_meaning.specs.declared.fault.Fault.{Fault}
 use Rattle.morsel_meaning.specs.declared.fault.Fault.TheVariants as faults

@@ -31,16 +31,16 @@ IsPlainEnd limit fields bytes rows refused more refusal = ((length more ≤ limi
 -- an ending, compressed or not
 abbrev IsEnd : ℕ → List Field → List ℕ → List Row → Option ℕ → Type 0
 IsEnd limit fields bytes rows refused = ((is_compressed bytes ≡ true) × (rows ≡ []) × (refused ≡ Some 0))
-    ⊎ ((is_compressed bytes ≡ false) × (more : List Row) × (still : Bool) × (refusal : Option Refusal)
-    × RowsOfFile fields bytes more still refusal × IsPlainEnd limit fields bytes rows refused more refusal)
+    ⊎ ((is_compressed bytes ≡ false) × (more : List Row) × (awaits_header : Bool) × (refusal : Option Refusal)
+    × RowsOfFile fields bytes more awaits_header refusal × IsPlainEnd limit fields bytes rows refused more refusal)
 
 is_end : (limit : ℕ) (fields : List Field) (bytes : List ℕ) (rows : List Row) (refused : Option ℕ) → Ends limit fields bytes rows refused → IsEnd limit fields bytes rows refused
-is_end limit fields bytes rows None all = inr (all.plain, rows, all.still, None, all.of_file, inl (all.few, refl, refl))
+is_end limit fields bytes rows None all = inr (all.plain, rows, all.awaits_header, None, all.of_file, inl (all.few, refl, refl))
 is_end limit fields bytes rows (Some at) (inl compressed) = inl (compressed.0, compressed.1, ap (λ (n : ℕ). Some n) compressed.2)
 is_end limit fields bytes rows (Some at) (inr (inl flaw)) =
-    inr (flaw.plain, rows, flaw.still, Some flaw.refusal, flaw.of_file, inl (flaw.few, refl, ap (λ (n : ℕ). Some n) flaw.place))
+    inr (flaw.plain, rows, flaw.awaits_header, Some flaw.refusal, flaw.of_file, inl (flaw.few, refl, ap (λ (n : ℕ). Some n) flaw.place))
 is_end limit fields bytes rows (Some at) (inr (inr behind)) =
-    inr (behind.plain, behind.more, behind.still, behind.refusal, behind.of_file, inr (behind.many, behind.first, (at, behind.before, behind.cells, refl, behind.counted, behind.behind)))
+    inr (behind.plain, behind.more, behind.awaits_header, behind.refusal, behind.of_file, inr (behind.many, behind.first, (at, behind.before, behind.cells, refl, behind.counted, behind.behind)))
 
 plain_ends : (limit : ℕ) (fields : List Field) (bytes : List ℕ) (rows others more most : List Row) (refused found : Option ℕ) (refusal other : Option Refusal)
     → more ≡ most → place_in refusal ≡ place_in other → IsPlainEnd limit fields bytes rows refused more refusal → IsPlainEnd limit fields bytes others found most other
@@ -75,7 +75,7 @@ one_end = λ fields bytes rows others refused found is also.
 pub rows_or_place : (fields : List Field) (bytes : List ℕ) (rows others : List Row) (at : ℕ) → ScansFile fields bytes rows None → ScansFile fields bytes others (Some at) → ⊥
 rows_or_place fields bytes rows others at all place = let once = (one_end fields bytes rows others None (Some at) all place).1 in cc
 
--- the mark and what stands behind it are the file
+-- the mark and what follows it are the file
 marked : (t : Bool) (a b c : ℕ) (bytes : List ℕ) → (let n : ℕ = if t then 3 else 0 in n + length (drop n (a ∷ b ∷ c ∷ bytes)) ≡ length (a ∷ b ∷ c ∷ bytes))
 marked true a b c bytes = omega arith
 marked false a b c bytes = omega arith
@@ -90,10 +90,10 @@ some_bytes : (bytes : List ℕ) → bytes ≢ [] → 0 < length bytes
 some_bytes [] some = absurd (some refl)
 some_bytes (b ∷ bytes) some = omega arith
 
--- a place behind whole records, and before something
-within : (kinds : List ColType) (bytes : List ℕ) (at : ℕ) (cells : List (List CsvCell)) (still : Bool) (rest : List ℕ)
-    → HasRowsBefore standard kinds true (mark_len bytes) (unmarked bytes) at cells still rest → at < length bytes
-within kinds bytes at cells still rest before =
+-- a place after whole records, and before something
+within : (kinds : List ColType) (bytes : List ℕ) (at : ℕ) (cells : List (List CsvCell)) (awaits_header : Bool) (rest : List ℕ)
+    → HasRowsBefore standard kinds true (mark_len bytes) (unmarked bytes) at cells awaits_header rest → at < length bytes
+within kinds bytes at cells awaits_header rest before =
     let all = mark_and_rest bytes in
     let split = ap length before.split ∙ length-append before.front rest in
     let place = before.place_is in

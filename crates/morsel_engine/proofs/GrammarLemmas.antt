@@ -27,7 +27,7 @@ standard_fits = record {
   comment = tt;
 }
 
--- a row of cells stands at the place of the row of values with this number
+-- a row of cells is at the place of the row of values with this number
 abbrev StandsAt : List (ℕ × List CsvCell) → Read → ℕ → Type 0
 StandsAt rows read k = (before : List (ℕ × List CsvCell)) × (cells : List CsvCell) × (after : List (ℕ × List CsvCell))
     × (rows ≡ before ++ (get_or (row_places read) k 0, cells) ∷ after) × (length before ≡ k)
@@ -51,13 +51,13 @@ rows_of_file : (fields : List Field) (bytes : List ℕ) → RowsOfFile fields by
 rows_of_file fields bytes = read_of-rows standard (kinds_of fields) (replicate (length fields) true) true (mark_len bytes) (unmarked bytes) standard_fits
 
 -- few rows end at the end of the file, or at the record that is refused
-ends_within : (limit : ℕ) (fields : List Field) (bytes : List ℕ) (rows : List Row) (still : Bool) (refusal : Option Refusal)
-    → is_compressed bytes ≡ false → length rows ≤ limit → RowsOfFile fields bytes rows still refusal → Ends limit fields bytes rows (refused_place refusal)
-ends_within limit fields bytes rows still None plain few is = record { plain = plain; still = still; of_file = is; few = few }
-ends_within limit fields bytes rows still (Some refusal) plain few is =
-    inr (inl (record { plain = plain; still = still; refusal = refusal; of_file = is; place = refl; few = few }))
+ends_within : (limit : ℕ) (fields : List Field) (bytes : List ℕ) (rows : List Row) (awaits_header : Bool) (refusal : Option Refusal)
+    → is_compressed bytes ≡ false → length rows ≤ limit → RowsOfFile fields bytes rows awaits_header refusal → Ends limit fields bytes rows (refused_place refusal)
+ends_within limit fields bytes rows awaits_header None plain few is = record { plain = plain; awaits_header = awaits_header; of_file = is; few = few }
+ends_within limit fields bytes rows awaits_header (Some refusal) plain few is =
+    inr (inl (record { plain = plain; awaits_header = awaits_header; refusal = refusal; of_file = is; place = refl; few = few }))
 
--- more rows end at the row behind the limit
+-- more rows end at the row after the limit
 ends_beyond : (limit : ℕ) (fields : List Field) (bytes : List ℕ) → is_compressed bytes ≡ false → limit < length (read_file fields bytes).rows
     → EndAtLimit limit fields bytes (map (λ (r : ℕ × Row). r.1) (take limit (read_file fields bytes).rows)) (get_or (row_places (read_file fields bytes)) limit 0)
 ends_beyond limit fields bytes plain many =
@@ -69,7 +69,7 @@ ends_beyond limit fields bytes plain many =
     record {
       plain = plain;
       more = map (λ (r : ℕ × Row). r.1) read.rows;
-      still = read.head;
+      awaits_header = read.head;
       refusal = read.refusal;
       of_file = rows_of_file fields bytes;
       many = omega arith;

@@ -60,13 +60,13 @@ limited-refused limit read = either (nat_le (length read.rows) limit) refl
     either true e = let h : length read.rows ≤ limit = grind (arith, nat_tests) in ap (λ s. s.refused) (limited-within limit read h) ∙ sym (refused_at-within limit read.rows read.refusal h)
     either false e = let h : limit < length read.rows = grind (arith, nat_tests) in limited-beyond limit read h ∙ sym (refused_at-beyond limit read.rows read.refusal h)
 
--- each row stands from the first place on
+-- each row begins at the first place or later
 rising-row : (lo : ℕ) (rows : List (ℕ × List CsvCell)) (refusal : Option Refusal) (k p : ℕ) → Rising lo rows refusal → slice_get (map (λ r. r.0) rows) k ≡ Some p → lo ≤ p
 rising-row lo [] refusal k p h is = absurd (cc)
 rising-row lo (row ∷ rows) refusal zero p (first, later) is = let e : row.0 ≡ p = cc in omega arith
 rising-row lo (row ∷ rows) refusal (suc k) p (first, later) is = let le = rising-row row.0 rows refusal k p later is in omega arith
 
--- a row that is refused itself stands no earlier either
+-- a row that is refused itself begins no earlier either
 earlier-value : (head : Bool) (lo at : ℕ) (row : Option Row) (later : Read) → lo ≤ at → earlier (refused_place later.refusal) lo ≡ lo → earlier (refused_place (value_then head at row later).refusal) lo ≡ lo
 earlier-value head lo at None later le h = omega arith
 earlier-value head lo at (Some row) later le h = h
@@ -88,7 +88,7 @@ unfolding refused_at
 refused_at-first head at None later p is none_before = let e : at ≡ min at p = omega arith in ap Some e
 refused_at-first head at (Some row) later p is none_before = rw (← is) (ap Some (sym none_before))
 
--- the first row is refused itself, or the rows end behind it
+-- the first row is refused itself, or the rows end after it
 refused_at-next : (head : Bool) (at : ℕ) (row : Option Row) (later : Read) (limit p : ℕ) → at ≤ p → refused_at limit later.rows later.refusal ≡ Some (earlier (refused_place later.refusal) p)
     → refused_at (suc limit) (value_then head at row later).rows (value_then head at row later).refusal ≡ Some (earlier (refused_place (value_then head at row later).refusal) p)
 unfolding refused_at
@@ -114,7 +114,7 @@ used_rows-at_most : (used : List Bool) (head : Bool) (rows : List (ℕ × List C
 used_rows-at_most used head [] refusal = omega arith
 used_rows-at_most used head (row ∷ rows) refusal = count-value head row.0 (length rows) (used_values used row.1) (used_rows used head rows refusal) (used_rows-at_most used head rows refusal)
 
--- no row stands at this number
+-- no row has this number
 none_at : (rows : List (ℕ × List CsvCell)) (limit : ℕ) → slice_get (map (λ r. r.0) rows) limit ≡ None → length rows ≤ limit
 none_at [] limit is = omega arith
 none_at (row ∷ rows) zero is = absurd (cc)
@@ -173,7 +173,7 @@ scans-read fields used o at text answer all is answered =
     let h = answered-standard fields used o at text (Ok answer) all is answered in
     (h.1 ∙ chosen-all fields, cc (ap refused_place h.0, h.2))
 
--- a flaw is given on as malformed at its place
+-- a flaw is malformed at its place
 flawed : (at : ℕ) (flaw : Flaw) (fault : Fault) → Some (flaw_fault 0 at flaw) ≡ Some fault → IsFaultAt (Some at) (as_malformed fault)
 flawed at Malformed fault is = let e : faults.Malformed 0 at ≡ fault = cc in subst (λ f. IsFaultAt (Some at) (as_malformed f)) e (refl, refl)
 flawed at NotUtf8 fault is = let e : faults.ComputeError kinds.NotUtf8 0 at ≡ fault = cc in subst (λ f. IsFaultAt (Some at) (as_malformed f)) e (refl, refl)
@@ -184,7 +184,7 @@ refused-malformed : (refusal : Option Refusal) (fault : Fault) → refusal_fault
 refused-malformed None fault is = absurd (cc)
 refused-malformed (Some refusal) fault is = flawed refusal.at refusal.flaw fault is
 
--- and want of memory as it is
+-- and out of memory as it is
 given_on : (refusal : Option Refusal) (fault : Fault) → IsRefused 0 refusal fault → IsFaultAt (refused_place refusal) (as_malformed fault)
 given_on refusal faults.OutOfMemory h = tt
 given_on refusal fault h = refused-malformed refusal fault h

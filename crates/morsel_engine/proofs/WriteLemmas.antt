@@ -43,7 +43,7 @@ front_behind : (a b c : List ℕ) (k : ℕ) → (m : ℕ) × (a ++ take k b ≡ 
 front_behind [] b c k = front_of_second b c k
 front_behind (x ∷ a) b c k = let later = front_behind a b c k in (suc later.0, ap (λ xs. x ∷ xs) later.1)
 
--- a front of a part, behind the parts before it, is a front of the text of all rows
+-- a front of a part, after the parts before it, is a front of the text of all rows
 front_of_all : (names : List (List ℕ)) (rows : List Row) (n len k : ℕ) → (m : ℕ) × (ndjson names (take n rows) ++ take k (ndjson names (rows_between n len rows)) ≡ take m (ndjson names rows))
 front_of_all names rows n len k =
     let f = front_behind (ndjson names (take n rows)) (ndjson names (rows_between n len rows)) (ndjson names (drop (n + len) rows)) k in

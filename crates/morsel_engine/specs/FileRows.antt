@@ -9,34 +9,34 @@ use Rattle.morsel_grammar.specs.Reading.{Refusal}
 use Rattle.morsel_grammar.specs.GrammarRows.{RowsOfGrammar, HasRowAt}
 use Rattle.morsel_engine.specs.Scan.{is_compressed, row_limit}
 
--- rows of all columns up to the end of a file, or up to a record that is refused; the first record behind the mark is the header
+-- rows of all columns up to the end of a file, or up to a record that is refused; after the mark the header comes first, and `awaits_header` says whether it is still to come
 abbrev pub RowsOfFile : List Field → List ℕ → List Row → Bool → Option Refusal → Type 0
-RowsOfFile fields bytes rows still refusal =
-    RowsOfGrammar standard (kinds_of fields) (replicate (length fields) true) true (mark_len bytes) (unmarked bytes) rows still refusal
+RowsOfFile fields bytes rows awaits_header refusal =
+    RowsOfGrammar standard (kinds_of fields) (replicate (length fields) true) true (mark_len bytes) (unmarked bytes) rows awaits_header refusal
 
 -- these are all rows of the file, no more than the limit
 pub record AreAllRows (limit : ℕ) (fields : List Field) (bytes : List ℕ) (rows : List Row) : Type 0 where
   pub plain : is_compressed bytes ≡ false
-  pub still : Bool
-  pub of_file : RowsOfFile fields bytes rows still None
+  pub awaits_header : Bool
+  pub of_file : RowsOfFile fields bytes rows awaits_header None
   pub few : length rows ≤ limit
 
--- these rows, no more than the limit, stand before a record at the place, which the grammar or the columns refuse
+-- these rows, no more than the limit, come before a record at the place, which the grammar or the columns refuse
 pub record EndAtFlaw (limit : ℕ) (fields : List Field) (bytes : List ℕ) (rows : List Row) (at : ℕ) : Type 0 where
   pub plain : is_compressed bytes ≡ false
-  pub still : Bool
+  pub awaits_header : Bool
   pub refusal : Refusal
-  pub of_file : RowsOfFile fields bytes rows still (Some refusal)
+  pub of_file : RowsOfFile fields bytes rows awaits_header (Some refusal)
   pub place : at ≡ refusal.at
   pub few : length rows ≤ limit
 
--- these are as many rows as the limit, and at the place stands the record of the row behind them
+-- these are as many rows as the limit, and at the place begins the record of the row after them
 pub record EndAtLimit (limit : ℕ) (fields : List Field) (bytes : List ℕ) (rows : List Row) (at : ℕ) : Type 0 where
   pub plain : is_compressed bytes ≡ false
   pub more : List Row
-  pub still : Bool
+  pub awaits_header : Bool
   pub refusal : Option Refusal
-  pub of_file : RowsOfFile fields bytes more still refusal
+  pub of_file : RowsOfFile fields bytes more awaits_header refusal
   pub many : limit < length more
   pub first : rows ≡ take limit more
   pub before : List (List CsvCell)
@@ -53,6 +53,6 @@ abbrev pub Ends : ℕ → List Field → List ℕ → List Row → Option ℕ �
 Ends limit fields bytes rows None = AreAllRows limit fields bytes rows
 Ends limit fields bytes rows (Some at) = (IsCompressed bytes rows at) ⊎ (EndAtFlaw limit fields bytes rows at) ⊎ (EndAtLimit limit fields bytes rows at)
 
--- so of a scan
+-- all rows of a file up to the limit of a scan, or those before the first record that is refused, at its place
 abbrev pub ScansFile : List Field → List ℕ → List Row → Option ℕ → Type 0
 ScansFile fields bytes rows refused = Ends row_limit fields bytes rows refused

@@ -16,7 +16,7 @@ read_text fields at text = read_of (replicate (length fields) true) (reading sta
 abbrev pub unlimited : Read → Scanned
 unlimited read = record { rows = map (λ r. r.1) read.rows; refused = refused_place read.refusal }
 
--- the fault of a record that is refused at this place, or at any time want of memory
+-- the fault of a record that is refused at this place, or at any time out of memory
 abbrev pub IsFaultAt : Option ℕ → Fault → Type 0
 IsFaultAt place OutOfMemory = Unit {0}
 IsFaultAt place (Malformed file at) = (file ≡ 0) × (place ≡ Some at)
@@ -37,7 +37,7 @@ abbrev pub not_after : ℕ → Fault → Fault
 not_after place (Malformed file at) = Malformed 0 (min at place)
 not_after place fault = fault
 
--- what was answered of all rows, where the row behind the limit stands at this place
+-- what was answered of all rows, where the row after the limit begins at this place
 abbrev pub ended_at : Option ℕ → Result Table Fault → Result Table Fault
 ended_at None answer = answer
 ended_at (Some place) (Ok table) = Err (Malformed 0 place)

@@ -23,24 +23,27 @@ is_compressed bytes = false
 abbrev pub row_limit : ℕ
 row_limit = 4294967295
 
+-- the place of a refused record, where there is one
 abbrev pub refused_place : Option Refusal → Option ℕ
 refused_place None = None
 refused_place (Some refusal) = Some refusal.at
 
+-- the place of each row's record
 abbrev pub row_places : Read → List ℕ
 row_places read = map (λ r. r.0) read.rows
 
--- the record of the row behind the greatest number of rows is refused too
+-- the rows up to the limit; the record of the row after it is refused too
 abbrev pub limited : ℕ → Read → Scanned
 limited limit read = if nat_le (length read.rows) limit
     then record { rows = map (λ r. r.1) read.rows; refused = refused_place read.refusal }
     else record { rows = map (λ r. r.1) (take limit read.rows); refused = Some (get_or (row_places read) limit 0) }
 
--- every column is used, and the header is still to come
+-- what reading a file gives: every column is used, and the header is still to come
 abbrev pub read_file : List Field → List ℕ → Read
 read_file fields bytes = read_of (replicate (length fields) true)
     (reading standard (kinds_of fields) true (mark_len bytes) (unmarked bytes))
 
+-- what a scan of a file gives; a compressed file is refused at its beginning
 abbrev pub scan_of : List Field → List ℕ → Scanned
 scan_of fields bytes = if is_compressed bytes then record { rows = []; refused = Some 0 } else limited row_limit (read_file fields bytes)
 

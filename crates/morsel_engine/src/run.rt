@@ -15,7 +15,7 @@ use std::alloc::Global;
 ///
 /// The file has a header, which is skipped, and is read whole before the first row is written. It is opened before the
 /// sink is made. `Malformed` names the first record that is refused: one outside the grammar, with another number of
-/// fields than the schema has columns, not UTF-8, with a field that does not fit its column, or behind 4,294,967,295
+/// fields than the schema has columns, not UTF-8, with a field that does not fit its column, or after 4,294,967,295
 /// rows; or place 0 of a file that begins as gzip or zstd files do.
 pub fn run_scan<H: Io>(
     alloc: Global,

@@ -67,7 +67,7 @@ fn scan_rows(
     ended_at(end, read_all(alloc, text, at, schema))
 }
 
-/// The place of the record that gives the row behind the limit, if there is one.
+/// The place of the record that gives the row after the limit, if there is one.
 ///
 /// A text with no more bytes than the limit is not looked at, since each row takes a byte.
 fn place_of_limit(
@@ -114,7 +114,7 @@ fn all_used(alloc: Global, width: usize) -> Result<Vec<bool>, Fault>
     Ok(vec![in alloc; true; width]?)
 }
 
-/// Gives a flaw of a record on as `Malformed`.
+/// Every flaw of a record is `Malformed`.
 fn as_malformed(fault: Fault) -> Fault
     ensures { result ≡ as_malformed fault }
 {

@@ -7,6 +7,7 @@ use Rattle.morsel_meaning.specs.declared.fault.ComputeKind.TheVariants as kinds
 use Rattle.morsel_meaning.specs.declared.fault.Fault.{Fault}
 use Rattle.morsel_meaning.specs.declared.fault.Fault.TheVariants as faults
 
+-- the number of a fault, from 1 to 12
 abbrev pub fault_number : Fault → ℕ
 fault_number faults.OutOfMemory = 1
 fault_number (faults.ReadFault file) = 2
@@ -21,6 +22,7 @@ fault_number (faults.ComputeError kind file at) = 10
 fault_number faults.QueryText = 11
 fault_number faults.Usage = 12
 
+-- the text of the flaw of a query
 abbrev pub why_text : Why → List ℕ
 why_text whys.OptionRange = codes "option range"
 why_text whys.NoSource = codes "no source"
@@ -34,6 +36,7 @@ why_text whys.UnequalKeys = codes "unequal keys"
 why_text whys.SinkIsSource = codes "sink is source"
 why_text whys.PredDepth = codes "predicate depth"
 
+-- the text of what could not be computed
 abbrev pub kind_text : ComputeKind → List ℕ
 kind_text kinds.NegativeSlice = codes "negative slice"
 kind_text kinds.NotUtf8 = codes "not utf8"
@@ -45,12 +48,13 @@ kind_text kinds.LenTooLarge = codes "len too large"
 kind_text kinds.TooManyGroups = codes "too many groups"
 kind_text kinds.FooterTooLarge = codes "footer too large"
 
--- two kinds have a place: the record at this byte of this file
+-- the same, with the record's place for the two kinds that have one
 abbrev pub compute_text : ComputeKind → ℕ → ℕ → List ℕ
 compute_text kinds.NotUtf8 file at = codes "not utf8, file " ++ decimal file ++ codes ", at " ++ decimal at
 compute_text kinds.IllTyped file at = codes "ill typed, file " ++ decimal file ++ codes ", at " ++ decimal at
 compute_text kind file at = kind_text kind
 
+-- the text of a fault, without its number
 abbrev pub fault_text : Fault → List ℕ
 fault_text faults.OutOfMemory = codes "out of memory"
 fault_text (faults.ReadFault file) = codes "read fault in file " ++ decimal file
@@ -65,9 +69,10 @@ fault_text (faults.ComputeError kind file at) = compute_text kind file at
 fault_text faults.QueryText = codes "query text"
 fault_text faults.Usage = codes "usage"
 
--- the line that the program prints of a fault, and its status
+-- the line that the program prints of a fault
 abbrev pub fault_line : Fault → List ℕ
 fault_line fault = codes "error " ++ decimal (fault_number fault) ++ codes ": " ++ fault_text fault
 
+-- the status that tells a fault
 abbrev pub fault_status : Fault → ℕ
 fault_status fault = 10 + fault_number fault

@@ -29,10 +29,11 @@ abbrev pub FitsRows : List ColType → List Row → Type 0
 FitsRows kinds [] = Unit {0}
 FitsRows kinds (row ∷ rows) = FitsRow kinds row × FitsRows kinds rows
 
--- a schema's names, and its types
+-- the names of a schema
 abbrev pub names_of : List Field → List (List ℕ)
 names_of fields = map (λ f. f.name) fields
 
+-- the types of a schema
 abbrev pub kinds_of : List Field → List ColType
 kinds_of fields = map (λ f. f.kind) fields
 

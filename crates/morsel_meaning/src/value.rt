@@ -12,7 +12,7 @@ pub enum ColType {
     Text,
 }
 
-/// What stands in a row under a column. Values are ordered null first, then numbers, then false and true, then texts
+/// What a row has under a column. Values are ordered null first, then numbers, then false and true, then texts
 /// by their bytes.
 #[derive(Clone, Debug, Drop, PartialEq, Eq, PartialOrd, Ord)]
 pub enum Value {

@@ -1,8 +1,8 @@
 //! The outside: files that are opened and read, sinks that are made and written, lines that are printed; and the gate
 //! that a scheduler passes.
 //!
-//! `Io` is what the engine asks of the outside. `MemIo` and `SureMemIo` keep it in memory; the files of the system stand
-//! in the program. What contracts see of an object is one record, `Outside`.
+//! `Io` is what the engine asks of the outside. `MemIo` and `SureMemIo` keep it in memory; the files of the system
+//! belong to the program. What contracts see of an object is one record, `Outside`.
 #![tactic(auto)]
 
 mod events;

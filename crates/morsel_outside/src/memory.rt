@@ -275,7 +275,7 @@ fn copy(alloc: Global, files: &[(Name, Vec<u8>)], name: &str) -> Result<Vec<u8>,
     }
 }
 
-/// Fills `into` with what stands from place `at` on.
+/// Fills `into` with the bytes from place `at` on.
 fn copy_range(bytes: &[u8], at: usize, into: &mut [u8])
     requires { at + length into.old ≤ length bytes.now }
     ensures { into.new ≡ slice_range bytes.now at (at + length into.new) }

@@ -1,4 +1,4 @@
--- A command over a valid file ends with status 0 or for want of memory, by the causes of the other statuses.
+-- A command over a valid file ends with status 0 or that of `OutOfMemory`, by the causes of the other statuses.
 use Rattle.std.specs.Prelude.{◌≡◌, ℕ, zero, suc, Option, Some, None, Err, refl}
 use Rattle.std.proofs.Common.{ap, ◌∙◌, arith, inl, inr}
 use Rattle.morsel_meaning.specs.declared.fault.Fault.{Fault}
@@ -17,7 +17,7 @@ only_memory : (old new : Outside) (command : Option Command) (fault : Fault) →
 only_memory old new None fault cause valid none = absurd valid
 only_memory old new (Some (ScanFile file schema out)) fault cause valid none = completes old new (query_of file schema out) (Err fault) cause valid none
 
--- however want of memory is told, the status is its own
+-- however out of memory is told, the status is its own
 told_of_memory : (old new : Outside) (fault : Fault) (status : ℕ) → fault ≡ faults.OutOfMemory → TellsFault old fault status new → status ≡ fault_status faults.OutOfMemory
 told_of_memory old new fault status is (inl told) = told.0 ∙ ap fault_status is
 told_of_memory old new fault status is (inr (inl untold)) = untold.0 ∙ ap fault_status is

@@ -4,7 +4,7 @@ use Rattle.memchr.specs.Find.{IsFirstByte, is_byte}
 use Rattle.std.proofs.Common.{ap, ◌∙◌, arith, add-one}
 use Rattle.morsel_prog.specs.Words.{cut_at, parts_at, before_next}
 
--- the part before a cut, and the parts behind it
+-- the part before a cut, and the parts after it
 abbrev pub parts_of : (List ℕ → List (List ℕ)) → List ℕ × Option (List ℕ) → List (List ℕ)
 parts_of parts cut = behind cut.0 cut.1
   where
@@ -26,7 +26,7 @@ cut_some-step : (byte b at : ℕ) (bs : List ℕ) (t : Bool) → (b == byte) ≡
 cut_some-step byte b at bs true e not_here later = absurd (not_here refl)
 cut_some-step byte b at bs false e not_here later = rw (e, later) refl
 
--- the first such byte stands at a place
+-- the first such byte is at a place
 pub cut_at-some : (byte : ℕ) (text : List ℕ) (at : ℕ) → at < length text → ((k : ℕ) → k < at → (get_or text k 0 == byte) ≡ true → ⊥) → (get_or text at 0 == byte) ≡ true → cut_at byte text ≡ (take at text, Some (drop (suc at) text))
 cut_at-some byte [] at within before here = absurd (omega arith)
 cut_at-some byte (b ∷ bs) zero within before here = rw here refl

@@ -13,6 +13,7 @@ abbrev pub cut_at : ℕ → List ℕ → List ℕ × Option (List ℕ)
 cut_at byte [] = ([], None)
 cut_at byte (b ∷ bs) = if b == byte then ([], Some bs) else (b ∷ (cut_at byte bs).0, (cut_at byte bs).1)
 
+-- the parts of a text, the first of which begins with a byte more
 abbrev pub before_next : ℕ → List (List ℕ) → List (List ℕ)
 before_next b [] = (b ∷ []) ∷ []
 before_next b (part ∷ parts) = (b ∷ part) ∷ parts
@@ -22,16 +23,19 @@ abbrev pub parts_at : ℕ → List ℕ → List (List ℕ)
 parts_at byte [] = [] ∷ []
 parts_at byte (b ∷ bs) = if b == byte then [] ∷ parts_at byte bs else before_next b (parts_at byte bs)
 
+-- the type that a word names
 abbrev pub kind_named : List ℕ → Option ColType
 kind_named text = if same_text text (codes "int") then Some types.Int
     else (if same_text text (codes "bool") then Some types.Bool
     else (if same_text text (codes "text") then Some types.Text else None))
 
+-- a field of a name and a type, where there is a type and the name is not empty
 abbrev pub field_of_kind : List ℕ → Option ColType → Option Field
 field_of_kind name None = None
 field_of_kind [] (Some kind) = None
 field_of_kind (b ∷ name) (Some kind) = Some (record { name = b ∷ name; kind = kind })
 
+-- the field of a name and what follows its colon
 abbrev pub field_of_cut : List ℕ × Option (List ℕ) → Option Field
 field_of_cut cut = typed cut.0 cut.1
   where
@@ -43,11 +47,13 @@ field_of_cut cut = typed cut.0 cut.1
 abbrev pub field_of : List ℕ → Option Field
 field_of part = field_of_cut (cut_at 58 part)
 
+-- a field before others, where all are fields
 abbrev pub with_first_field : Option Field → Option (List Field) → Option (List Field)
 with_first_field None fields = None
 with_first_field (Some f) None = None
 with_first_field (Some f) (Some fields) = Some (f ∷ fields)
 
+-- the fields of a schema's parts, where each is one
 abbrev pub fields_of : List (List ℕ) → Option (List Field)
 fields_of [] = Some []
 fields_of (part ∷ parts) = with_first_field (field_of part) (fields_of parts)
@@ -56,6 +62,7 @@ fields_of (part ∷ parts) = with_first_field (field_of part) (fields_of parts)
 abbrev pub column_limit : ℕ
 column_limit = 65535
 
+-- fields that are a schema: few enough, and of distinct names
 abbrev pub schema_if : Option (List Field) → Option (List Field)
 schema_if None = None
 schema_if (Some fields) = if nat_le (length fields) column_limit && is_none (first_repeated (names_of fields)) then Some fields else None
@@ -68,6 +75,7 @@ schema_of text = schema_if (fields_of (parts_at 44 text))
 pub data Command : Type 0 where
   ScanFile : List ℕ → List Field → List ℕ → Command  -- file, schema, sink
 
+-- the command of a file, a schema and a sink, where there is a schema
 abbrev pub scan_if : List ℕ → Option (List Field) → List ℕ → Option Command
 scan_if file None out = None
 scan_if file (Some schema) out = Some (ScanFile file schema out)
