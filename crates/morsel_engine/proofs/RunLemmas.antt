@@ -1,6 +1,6 @@
 -- What a run answers and leaves at each of its exits, over what its calls did.
-use Rattle.std.specs.Prelude.{◌≡◌, ◌⊎◌, ℕ, ◌+◌, ◌<◌, ◌≤◌, Some, None, Result, Ok, Err, List, [], ◌∷◌, ◌++◌, map, length, take, get_or, refl}
-use Rattle.std.specs.List.{fold, flat_map, sum_by}
+use Rattle.std.specs.Prelude.{◌≡◌, ◌⊎◌, ℕ, ◌+◌, ◌<◌, ◌≤◌, Some, Result, Ok, Err, List, [], ◌∷◌, ◌++◌, map, length, take, get_or, refl}
+use Rattle.std.specs.List.{flat_map, sum_by}
 use Rattle.std.proofs.Common.{sym, ap, subst, ◌∙◌, append-nil, arith, inl, inr}
 use Rattle.std.proofs.lemmas.List.Sums.{sum_by-append}
 use Rattle.std.proofs.Math.Seq.{get_or-append_seam}
@@ -11,16 +11,16 @@ use Rattle.morsel_outside.specs.declared.events.IoEvent.{IoEvent}
 use Rattle.morsel_outside.specs.declared.events.IoEvent.TheVariants.{ReadAt}
 use Rattle.morsel_outside.specs.declared.events.Asked.TheVariants.{Open, Make}
 use Rattle.morsel_outside.specs.Outside.{Outside, with_more, with_last, with_piece, with_sink, IsSized}
-use Rattle.morsel_outside.specs.Actions.{Action, Opening, FailedOpening, Reading, FailedReading, Making, FailedMaking, Rises, RisesBy, Does, opened_by, sinks_by, read_failures, failed_after, event_of, text_by}
+use Rattle.morsel_outside.specs.Actions.{Action, Opening, Reading, FailedReading, Making, FailedMaking, Rises, RisesBy, Does, opened_by, sinks_by, event_of, text_by}
 use Rattle.morsel_outside.specs.Calls.{Holds, IsNextFile}
 use Rattle.morsel_outside.proofs.ActionLemmas.{with_more-nil, does-append, rises_since, rises_by-no_lower}
-use Rattle.morsel_outside.proofs.SinkLemmas.{with_piece-nil, with_piece-with_sink}
+use Rattle.morsel_outside.proofs.SinkLemmas.{with_piece-with_sink}
 use Rattle.morsel_outside.proofs.TransferLemmas.{AreTransfers, only_transfers}
 use Rattle.morsel_ndjson.specs.Ndjson.{ndjson}
 use Rattle.morsel_engine.specs.FileRows.{ScansFile}
 use Rattle.morsel_engine.specs.Scan.{Scanned, scan_of, IsRefusal, IsScan}
 use Rattle.morsel_engine.specs.Stages.{OpensSource, MakesSink, ReadsWhole, ReadFails, WritesText, WritesTable, Gained}
-use Rattle.morsel_engine.specs.Run.{Query, Runs, ReadsAtMostOnce, NoReadFailed, HasOneFileMore, HasBegun, HasCause, HasAllRows, IsFirstRefused, IsFrontOfText, AsksAtMostOnce, AsksEachByte, names_asked}
+use Rattle.morsel_engine.specs.Run.{Query, Runs, ReadsAtMostOnce, NoReadFailed, HasOneFileMore, HasBegun, HasCause, HasAllRows, IsFirstRefused, IsFrontOfText, AsksAtMostOnce, AsksEachByte}
 use Rattle.morsel_engine.proofs.AskLemmas.{asks_each_byte-whole, asks_at_most_once-whole, asks_at_most_once-nothing}
 use Rattle.morsel_engine.proofs.EndLemmas.{refuses_within}
 use Rattle.morsel_engine.proofs.FileLemmas.{FileIs, file_is-opened, file_is-read, has_rows-text, is_refused_at-text, is_front-nil, is_front-text}

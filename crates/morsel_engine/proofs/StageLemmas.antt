@@ -1,5 +1,5 @@
 -- What writes leave: pieces one after another are one piece.
-use Rattle.std.specs.Prelude.{◌≡◌, ℕ, ◌≤◌, Err, List, [], ◌∷◌, ◌++◌, take, refl}
+use Rattle.std.specs.Prelude.{◌≡◌, ℕ, Err, List, [], ◌∷◌, ◌++◌, take, refl}
 use Rattle.std.specs.List.{fold, flat_map, sum_by}
 use Rattle.std.proofs.Common.{ap, ◌∙◌, subst, sym, append-nil, arith}
 use Rattle.std.proofs.lemmas.List.Concat.{flat_map-append}

@@ -3,8 +3,8 @@ use Rattle.std.specs.Prelude.{◌≡◌, ℕ, ◌+◌, List, [], ◌∷◌, ◌+
 use Rattle.std.proofs.Common.{ap, ◌∙◌, sym, subst, append-nil, add-zero}
 use Rattle.morsel_outside.specs.declared.events.IoEvent.TheVariants.{ReadAt, Wrote}
 use Rattle.morsel_outside.specs.declared.events.Asked.TheVariants.{Open, Make}
-use Rattle.morsel_outside.specs.Outside.{Outside, with_more, with_last, with_piece, with_sink}
-use Rattle.morsel_outside.specs.Actions.{Action, Opening, FailedOpening, Reading, FailedReading, Making, FailedMaking, Writing, FailedWriting, Printing, FailedPrinting, Rises, Does, raised}
+use Rattle.morsel_outside.specs.Outside.{Outside, with_last, with_piece, with_sink}
+use Rattle.morsel_outside.specs.Actions.{Opening, FailedOpening, Reading, FailedReading, Making, FailedMaking, Writing, FailedWriting, Printing, FailedPrinting, Rises, Does, raised}
 use Rattle.morsel_outside.proofs.ActionLemmas.{with_more-nil}
 
 -- nothing was done

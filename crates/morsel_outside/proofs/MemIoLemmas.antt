@@ -1,16 +1,15 @@
 -- What an outside in memory whose numbered calls fail does is what any outside may do.
-use Rattle.std.specs.Prelude.{◌≡◌, ℕ, min, List, [], ◌∷◌, ◌++◌, map, length, take, slice_range, get_or, Result, Ok, Err, unwrap_or, refl}
+use Rattle.std.specs.Prelude.{ℕ, min, List, length, Result, Ok, Err, unwrap_or, refl}
 use Rattle.std.proofs.Common.{ap, sym, arith, ◌∙◌}
-use Rattle.std.proofs.lemmas.List.{length-take, map-append}
 use Rattle.morsel_outside.specs.declared.io.FileNo.{FileNo}
 use Rattle.morsel_outside.specs.declared.io.IoErr.{IoErr}
 use Rattle.morsel_outside.specs.declared.io.IoErr.TheVariants.{OutOfMemory, Failed}
 use Rattle.morsel_outside.specs.Actions.{raised}
 use Rattle.morsel_outside.specs.Calls.{Opens, Reads, Makes, Writes, Prints}
-use Rattle.morsel_outside.specs.Memory.{Contents, told, sizes_of, bytes_or_none, with_opened, with_made, with_written}
+use Rattle.morsel_outside.specs.Memory.{bytes_or_none}
 use Rattle.morsel_outside.specs.MemIo.{FaultyMemory, told_of, OpensStored, ReadsHeld, MakesKept, WritesKept, PrintsKept, next_taken, part_taken}
 use Rattle.morsel_outside.proofs.DoesLemmas.{does-opening, does-failed_opening, does-reading, does-failed_reading, does-making, does-failed_making, does-writing, does-failed_writing, does-printing, does-failed_printing}
-use Rattle.morsel_outside.proofs.MemoryLemmas.{length-append_last, told-opened, told-made, told-written}
+use Rattle.morsel_outside.proofs.MemoryLemmas.{told-opened, told-made, told-written}
 
 -- an opening of a stored file
 pub opens-stored : (old : FaultyMemory) (name : List ℕ) (result : Result FileNo IoErr) (new : FaultyMemory) → OpensStored old name result new → Opens (told_of old) name result (told_of new)

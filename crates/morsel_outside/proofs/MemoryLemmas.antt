@@ -1,7 +1,7 @@
 -- Sinks and sizes of an outside in memory.
 use Rattle.std.specs.Prelude.{◌≡◌, ℕ, ◌+◌, ◌<◌, Some, List, [], ◌∷◌, ◌++◌, map, length, Vec}
 use Rattle.std.specs.declared.alloc.Global.{Global}
-use Rattle.std.proofs.Common.{refl, ap, ◌∙◌, arith, get_or, zero, suc, length-append}
+use Rattle.std.proofs.Common.{refl, ap, arith, get_or, zero, suc, length-append}
 use Rattle.std.proofs.lemmas.List.{map-append}
 use Rattle.std.proofs.Math.ListN.{set}
 use Rattle.morsel_outside.specs.declared.events.IoEvent.TheVariants.{Wrote}

@@ -1,7 +1,7 @@
 -- What reads and writes leave as it was, and what they add.
-use Rattle.std.specs.Prelude.{◌≡◌, ℕ, zero, suc, ◌+◌, Option, List, [], ◌∷◌, ◌++◌, refl}
+use Rattle.std.specs.Prelude.{◌≡◌, ℕ, Option, List, [], ◌∷◌, refl}
 use Rattle.std.specs.List.{fold, flat_map, sum_by}
-use Rattle.std.proofs.Common.{ap, sym, ◌∙◌, arith}
+use Rattle.std.proofs.Common.{sym, ◌∙◌, arith}
 use Rattle.morsel_outside.specs.Outside.{Sink, with_piece}
 use Rattle.morsel_outside.specs.Actions.{Action, Opening, FailedOpening, Reading, FailedReading, Making, FailedMaking, Writing, FailedWriting, Printing, FailedPrinting, opened_by, made_after, sinks_by, printed_by, asked_by, print_faults_after, text_by}
 use Rattle.morsel_outside.proofs.SinkLemmas.{with_piece-nil, with_piece-with_piece}
