@@ -1,4 +1,4 @@
-//! Times of the parts of the engine. Without a word it runs each part on a few rows and prints counts alone; with a
+//! Times of the parts of the engine. Without an argument it runs each part on a few rows and prints counts alone; with a
 //! number of rows it also prints the time of each row.
 #![tactic(auto)]
 

@@ -31,7 +31,7 @@ pub enum Rhs {
     Lit(Value),
 }
 
-/// A predicate as a tree. A tree of any depth can be dropped: that takes neither memory nor a stack frame for each level.
+/// A predicate as a tree. One of any depth can be dropped: that takes no memory, and no stack frame for each level.
 ///
 /// Since it has a `drop` of its own, its parts cannot be moved out of it by a pattern.
 #[derive(Debug)]

@@ -45,27 +45,32 @@ fn is_lone(frame: &Frame, number: i64) -> bool {
     column.len() == 1 && column.get(0) == Cell::Int(number)
 }
 
-fn keeps_one(alloc: Global, frame: Frame, mask: &[Truth]) -> Result<bool, Fault> {
+/// The rows that are true, and the frame as it is where it has another number of rows than the mask.
+fn kept_of(alloc: Global, frame: Frame, mask: &[Truth]) -> Result<Frame, Fault> {
     if frame.height() != mask.len() {
-        return Ok(false);
+        return Ok(frame);
     }
-    let kept = filter(alloc, frame, mask)?;
-    Ok(is_lone(&kept, 1))
+    filter(alloc, frame, mask)
 }
 
 fn truths_below_three(alloc: Global, frame: &Frame) -> Result<Vec<Truth>, Fault> {
     truths_of(alloc, below_three(alloc)?, frame)
 }
 
-fn kept_below_three(alloc: Global) -> Result<bool, Fault> {
+fn kept_below_three(alloc: Global) -> Result<Frame, Fault> {
     let frame = worked(alloc)?;
     let truths = truths_below_three(alloc, &frame)?;
-    keeps_one(alloc, frame, &truths)
+    kept_of(alloc, frame, &truths)
+}
+
+fn keeps_one(alloc: Global) -> Result<bool, Fault> {
+    let kept = kept_below_three(alloc)?;
+    Ok(is_lone(&kept, 1))
 }
 
 #[test]
 fn a_filter_keeps_the_rows_that_are_true(rt: HostRuntime) -> Result<(), Fail> {
-    assert!(rt; kept_below_three(rt.alloc())?);
+    assert!(rt; keeps_one(rt.alloc())?);
     Ok(())
 }
 
