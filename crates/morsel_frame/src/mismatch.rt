@@ -1,8 +1,8 @@
 //! Why the rows under one schema are no rows under another.
 ghost use Rattle.std.specs.Prelude.{◌≡◌, IfOk, IsOkUnless, length};
-ghost use Rattle.morsel_frame.specs.Tables.{same_kind, same_field, first_difference, difference};
+ghost use Rattle.morsel_frame.specs.Tables.{same_field, first_difference, difference};
 
-use morsel_meaning::{ColType, Fault, Field, Name};
+use morsel_meaning::{Fault, Field, Name};
 use std::alloc::Global;
 
 /// The name of the first field that differs from the other's at its place, and no name where the widths differ.
@@ -35,17 +35,5 @@ fn first_mismatch(alloc: Global, fields: &[Field], others: &[Field]) -> Result<O
 fn is_same_field(field: &Field, other: &Field) -> bool
     ensures { result ≡ same_field field.now other.now }
 {
-    field.name == other.name && is_same_kind(field.kind, other.kind)
-}
-
-/// Whether two types are the same.
-fn is_same_kind(kind: ColType, other: ColType) -> bool
-    ensures { result ≡ same_kind kind other }
-{
-    match (kind, other) {
-        (ColType::Int, ColType::Int) => true,
-        (ColType::Bool, ColType::Bool) => true,
-        (ColType::Text, ColType::Text) => true,
-        _ => false,
-    }
+    field.name == other.name && field.kind == other.kind
 }
