@@ -4,7 +4,7 @@
 //! exits has each of them proved.
 ghost use Rattle.std.specs.Prelude.{◌≡◌};
 
-use morsel_frame::Column;
+use morsel_frame::{Cell, Column};
 use morsel_meaning::ColType;
 use std::alloc::Global;
 use std::process::Abort;
@@ -25,4 +25,14 @@ fn column_of(rt: &impl Abort, alloc: Global, numbers: &[i64]) -> Column
     let valid = vec![in alloc; true; numbers.len()].expect(rt, "memory");
     let numbers = Vec::from_slice(alloc, numbers).expect(rt, "memory");
     Column::from_ints(valid, numbers)
+}
+
+/// The column has these values.
+fn has(rt: &impl Abort, column: &Column, wanted: &[Cell<'_>]) {
+    assert_eq!(rt; column.len(), wanted.len());
+    for row in 0..wanted.len() {
+        if row < column.len() {
+            assert_eq!(rt; column.get(row), wanted[row], "at {row}");
+        }
+    }
 }

@@ -1,7 +1,7 @@
 //! Columns, and the texts that they lend: each public call once with ample memory.
 ghost use Rattle.std.specs.Prelude.{◌≡◌};
 
-use super::column_of;
+use super::{column_of, has};
 use morsel_frame::{Cell, Column, Texts};
 use morsel_meaning::{ColType, Fault, Name, Value};
 use std::alloc::Global;
@@ -11,16 +11,6 @@ use std::process::Abort;
 const X: Cell<'static> = Cell::Text("x");
 
 const YZ: Cell<'static> = Cell::Text("yz");
-
-/// The column has these values.
-fn has(rt: &impl Abort, column: &Column, wanted: &[Cell<'_>]) {
-    assert_eq!(rt; column.len(), wanted.len());
-    for row in 0..wanted.len() {
-        if row < column.len() {
-            assert_eq!(rt; column.get(row), wanted[row], "at {row}");
-        }
-    }
-}
 
 /// A column of two nulls.
 fn is_made_of_nulls(rt: &impl Abort, alloc: Global, kind: ColType) {

@@ -1,6 +1,7 @@
 //! Frames: each public call once with ample memory, on small tables.
-use super::column_of;
-use morsel_frame::{Cell, Column, Frame, Schema};
+use super::{column_of, has};
+use morsel_frame::Cell::{self, Int};
+use morsel_frame::{Frame, Schema};
 use morsel_meaning::{ColType, Fault, Field, Name};
 use std::alloc::Global;
 use std::mem::drop;
@@ -27,35 +28,25 @@ fn worked(rt: &impl Abort, alloc: Global) -> Frame {
     frame_of(rt, alloc, "a", &[1, 2, 3])
 }
 
-/// The column has these numbers.
-fn counts(rt: &impl Abort, column: &Column, numbers: &[i64]) {
-    assert_eq!(rt; column.len(), numbers.len());
-    for row in 0..numbers.len() {
-        if row < column.len() {
-            assert_eq!(rt; column.get(row), Cell::Int(numbers[row]), "at {row}");
-        }
-    }
-}
-
-/// The frame has a column of this name at this place, with these numbers.
-fn has(rt: &impl Abort, frame: &Frame, at: usize, name: &str, numbers: &[i64]) {
+/// The frame has a column of this name at this place, with these values.
+fn has_column(rt: &impl Abort, frame: &Frame, at: usize, name: &str, values: &[Cell<'_>]) {
     assert_eq!(rt; frame.schema().find(name), Some(at));
     assert!(rt; at < frame.width());
-    counts(rt, frame.column(at), numbers);
+    has(rt, frame.column(at), values);
 }
 
-/// The frame has one column of this name, with these numbers.
-fn is(rt: &impl Abort, frame: Frame, name: &str, numbers: &[i64]) {
+/// The frame has one column of this name, with these values.
+fn is(rt: &impl Abort, frame: Frame, name: &str, values: &[Cell<'_>]) {
     assert_eq!(rt; frame.width(), 1);
-    has(rt, &frame, 0, name, numbers);
+    has_column(rt, &frame, 0, name, values);
     drop(frame);
 }
 
-/// The frame has two columns of these names, with these numbers.
-fn is_pair(rt: &impl Abort, frame: Frame, first: (&str, &[i64]), second: (&str, &[i64])) {
+/// The frame has two columns of these names, with these values.
+fn is_pair(rt: &impl Abort, frame: Frame, first: (&str, &[Cell<'_>]), second: (&str, &[Cell<'_>])) {
     assert_eq!(rt; frame.width(), 2);
-    has(rt, &frame, 0, first.0, first.1);
-    has(rt, &frame, 1, second.0, second.1);
+    has_column(rt, &frame, 0, first.0, first.1);
+    has_column(rt, &frame, 1, second.0, second.1);
     drop(frame);
 }
 
@@ -68,7 +59,12 @@ fn sliced(rt: &impl Abort, alloc: Global, frame: Frame, offset: usize, len: usiz
 #[test]
 fn a_slice_has_the_rows_that_exist(rt: HostRuntime) {
     let frame = worked(&rt, rt.alloc());
-    is(&rt, sliced(&rt, rt.alloc(), frame, 1, 5), "a", &[2, 3]);
+    is(
+        &rt,
+        sliced(&rt, rt.alloc(), frame, 1, 5),
+        "a",
+        &[Int(2), Int(3)],
+    );
 }
 
 /// Puts the other's rows below, where both are short.
@@ -83,7 +79,12 @@ fn a_frame_is_put_below_itself(rt: HostRuntime) {
     let other = worked(&rt, rt.alloc());
     put_below(&rt, &mut frame, &other).expect(&rt, "memory");
     drop(other);
-    is(&rt, frame, "a", &[1, 2, 3, 1, 2, 3]);
+    is(
+        &rt,
+        frame,
+        "a",
+        &[Int(1), Int(2), Int(3), Int(1), Int(2), Int(3)],
+    );
 }
 
 /// The number of a fault, and the name that a mismatch or a repeat gives.
@@ -104,7 +105,7 @@ fn another_name_is_a_mismatch_of_the_own(rt: HostRuntime) {
     assert_eq!(rt; told(&fault), (8, "a"));
     drop(fault);
     drop(other);
-    is(&rt, frame, "a", &[1, 2, 3]);
+    is(&rt, frame, "a", &[Int(1), Int(2), Int(3)]);
 }
 
 fn split(rt: &impl Abort, alloc: Global, frame: Frame, at: usize) -> (Frame, Frame) {
@@ -116,8 +117,8 @@ fn split(rt: &impl Abort, alloc: Global, frame: Frame, at: usize) -> (Frame, Fra
 fn a_split_frame_has_the_rows_before_and_after(rt: HostRuntime) {
     let frame = worked(&rt, rt.alloc());
     let (front, back) = split(&rt, rt.alloc(), frame, 1);
-    is(&rt, front, "a", &[1]);
-    is(&rt, back, "a", &[2, 3]);
+    is(&rt, front, "a", &[Int(1)]);
+    is(&rt, back, "a", &[Int(2), Int(3)]);
 }
 
 fn gathered(rt: &impl Abort, alloc: Global, frame: &Frame, rows: &[usize]) -> Frame {
@@ -131,7 +132,7 @@ fn gathered_rows_come_in_the_order_asked(rt: HostRuntime) {
     let frame = worked(&rt, rt.alloc());
     let rows = gathered(&rt, rt.alloc(), &frame, &[2, 0]);
     drop(frame);
-    is(&rt, rows, "a", &[3, 1]);
+    is(&rt, rows, "a", &[Int(3), Int(1)]);
 }
 
 /// Two frames of one height side by side, or why not.
@@ -154,7 +155,12 @@ fn columns_of_other_names_are_put_beside(rt: HostRuntime) {
     let frame = worked(&rt, rt.alloc());
     let other = frame_of(&rt, rt.alloc(), "b", &[4, 5, 6]);
     let both = beside(&rt, rt.alloc(), frame, other).expect(&rt, "memory");
-    is_pair(&rt, both, ("a", &[1, 2, 3]), ("b", &[4, 5, 6]));
+    is_pair(
+        &rt,
+        both,
+        ("a", &[Int(1), Int(2), Int(3)]),
+        ("b", &[Int(4), Int(5), Int(6)]),
+    );
 }
 
 /// The worked frame with a row index, or why not.
@@ -166,7 +172,12 @@ fn indexed(rt: &impl Abort, alloc: Global, name: &str, offset: u32) -> Result<Fr
 #[test]
 fn a_row_index_counts_from_its_offset(rt: HostRuntime) {
     let frame = indexed(&rt, rt.alloc(), "i", 7).expect(&rt, "memory");
-    is_pair(&rt, frame, ("i", &[7, 8, 9]), ("a", &[1, 2, 3]));
+    is_pair(
+        &rt,
+        frame,
+        ("i", &[Int(7), Int(8), Int(9)]),
+        ("a", &[Int(1), Int(2), Int(3)]),
+    );
 }
 
 #[test]
@@ -183,16 +194,6 @@ fn a_row_index_past_32_bits_is_refused(rt: HostRuntime) {
     drop(fault);
 }
 
-/// The column has this text in each row.
-fn repeats(rt: &impl Abort, column: &Column, text: &str, len: usize) {
-    assert_eq!(rt; column.len(), len);
-    for row in 0..len {
-        if row < column.len() {
-            assert_eq!(rt; column.get(row), Cell::Text(text), "at {row}");
-        }
-    }
-}
-
 /// The worked frame with a column of one text.
 fn marked(rt: &impl Abort, alloc: Global, name: &str, text: &str) -> Frame {
     let name = name_of(rt, alloc, name);
@@ -206,7 +207,8 @@ fn marked(rt: &impl Abort, alloc: Global, name: &str, text: &str) -> Frame {
 fn a_text_column_has_its_text_in_each_row(rt: HostRuntime) {
     let frame = marked(&rt, rt.alloc(), "p", "f");
     assert_eq!(rt; frame.width(), 2);
-    repeats(&rt, frame.column(1), "f", 3);
+    let text = Cell::Text("f");
+    has(&rt, frame.column(1), &[text, text, text]);
     drop(frame);
 }
 
@@ -242,5 +244,10 @@ fn selects_two(rt: &impl Abort, alloc: Global, frame: Frame) -> Frame {
 fn selected_columns_come_in_the_order_asked(rt: HostRuntime) {
     let frame = three_columns(&rt, rt.alloc());
     let selected = selects_two(&rt, rt.alloc(), frame);
-    is_pair(&rt, selected, ("c", &[7, 8, 9]), ("a", &[1, 2, 3]));
+    is_pair(
+        &rt,
+        selected,
+        ("c", &[Int(7), Int(8), Int(9)]),
+        ("a", &[Int(1), Int(2), Int(3)]),
+    );
 }
