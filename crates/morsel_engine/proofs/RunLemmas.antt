@@ -11,7 +11,7 @@ use Rattle.morsel_outside.specs.declared.events.IoEvent.{IoEvent}
 use Rattle.morsel_outside.specs.declared.events.IoEvent.TheVariants.{ReadAt}
 use Rattle.morsel_outside.specs.declared.events.Asked.TheVariants.{Open, Make}
 use Rattle.morsel_outside.specs.Outside.{Outside, with_more, with_last, with_piece, with_sink, IsSized}
-use Rattle.morsel_outside.specs.Actions.{Action, Opening, Reading, FailedReading, Making, FailedMaking, Rises, RisesBy, Does, opened_by, sinks_by, event_of, text_by}
+use Rattle.morsel_outside.specs.Actions.{Action, Opening, ReadingRange, FailedReadingRange, Making, FailedMaking, Rises, RisesBy, Does, opened_by, sinks_by, event_of, text_by}
 use Rattle.morsel_outside.specs.Calls.{Holds, IsNextFile}
 use Rattle.morsel_outside.proofs.ActionLemmas.{with_more-nil, does-append, rises_since, rises_by-no_lower}
 use Rattle.morsel_outside.proofs.SinkLemmas.{with_piece-with_sink}
@@ -183,7 +183,7 @@ pub record IsSunk (old : Outside) (q : Query) (bytes : List ℕ) (now : Outside)
 pub record IsFetched (old : Outside) (q : Query) (bytes text : List ℕ) (now : Outside) : Type 0 where
   pub is : FileIs (with_last old.held bytes) (length old.sizes) text
   pub same : length text ≡ length bytes
-  pub does : Does old (Opening q.file bytes ∷ Making q.out ∷ Reading (length old.sizes) 0 (length bytes) ∷ []) now
+  pub does : Does old (Opening q.file bytes ∷ Making q.out ∷ ReadingRange (length old.sizes) 0 (length bytes) ∷ []) now
 
 pub is_sunk : (old mid now : Outside) (q : Query) (file : ℕ) (bytes : List ℕ) → IsNextFile old q.file file bytes mid → MakesSink mid q.out (Ok tt) now → IsSunk old q bytes now
 is_sunk old mid now q file bytes o h = record {
@@ -203,9 +203,9 @@ runs-not_read old mid now q bytes faults.OutOfMemory s h =
     (asks_at_most_once-nothing (length old.sizes) (length bytes)) (inl (s.does.read_faults, s.does.failed)) tt
     )
 runs-not_read old mid now q bytes (faults.ReadFault file) s (zeroth, h) =
-    let read = subst (λ (n : ℕ). Does mid (FailedReading (length old.sizes) 0 n ∷ []) now) (sunk old mid q bytes s).size h in
-    let does = does-append old mid now (Opening q.file bytes ∷ Making q.out ∷ []) (FailedReading (length old.sizes) 0 (length bytes) ∷ []) s.does read in
-    let b = begins old now q bytes [] (FailedReading (length old.sizes) 0 (length bytes) ∷ []) tt refl does in
+    let read = subst (λ (n : ℕ). Does mid (FailedReadingRange (length old.sizes) 0 n ∷ []) now) (sunk old mid q bytes s).size h in
+    let does = does-append old mid now (Opening q.file bytes ∷ Making q.out ∷ []) (FailedReadingRange (length old.sizes) 0 (length bytes) ∷ []) s.does read in
+    let b = begins old now q bytes [] (FailedReadingRange (length old.sizes) 0 (length bytes) ∷ []) tt refl does in
     stops old now q bytes [] (ReadAt (length old.sizes) 0 (length bytes) ∷ []) (faults.ReadFault file) b (is_front-nil (with_last old.held bytes) (length old.sizes) q.schema)
     (asks_at_most_once-whole (length old.sizes) (length bytes) [] tt) (inr (does.read_faults, does.failed)) (zeroth, does.read_faults, does.failed, inr b.begun)
 runs-not_read old mid now q bytes fault s h = absurd h
@@ -217,13 +217,13 @@ is_fetched old mid now q bytes text s r =
     record {
       is = file_is-read (with_last old.held bytes) (length old.sizes) bytes text s.is same (subst (λ held. Holds held (length old.sizes) 0 text) b.held r.held);
       same = same;
-      does = does-append old mid now (Opening q.file bytes ∷ Making q.out ∷ []) (Reading (length old.sizes) 0 (length bytes) ∷ []) s.does
-          (subst (λ (n : ℕ). Does mid (Reading (length old.sizes) 0 n ∷ []) now) same r.does);
+      does = does-append old mid now (Opening q.file bytes ∷ Making q.out ∷ []) (ReadingRange (length old.sizes) 0 (length bytes) ∷ []) s.does
+          (subst (λ (n : ℕ). Does mid (ReadingRange (length old.sizes) 0 n ∷ []) now) same r.does);
     }
 
 -- what is told of the file once it is read
 fetched : (old now : Outside) (q : Query) (bytes text : List ℕ) → IsFetched old q bytes text now → Begun old q bytes [] (ReadAt (length old.sizes) 0 (length bytes) ∷ []) now
-fetched old now q bytes text f = begins old now q bytes [] (Reading (length old.sizes) 0 (length bytes) ∷ []) tt refl f.does
+fetched old now q bytes text f = begins old now q bytes [] (ReadingRange (length old.sizes) 0 (length bytes) ∷ []) tt refl f.does
 
 -- a record of the text that is refused is within the file
 place_within_file : (old now : Outside) (q : Query) (bytes text : List ℕ) (at : ℕ) → IsFetched old q bytes text now → (scan_of q.schema text).refused ≡ Some at
@@ -257,10 +257,10 @@ pub record IsWritten (old : Outside) (q : Query) (bytes piece : List ℕ) (actio
 
 is_written : (old mid now : Outside) (q : Query) (bytes text piece : List ℕ) → IsFetched old q bytes text mid → (w : Gained mid piece now) → IsWritten old q bytes piece w.actions now
 is_written old mid now q bytes text piece f w =
-    let does = does-append old mid now (Opening q.file bytes ∷ Making q.out ∷ Reading (length old.sizes) 0 (length bytes) ∷ []) w.actions f.does w.does in
+    let does = does-append old mid now (Opening q.file bytes ∷ Making q.out ∷ ReadingRange (length old.sizes) 0 (length bytes) ∷ []) w.actions f.does w.does in
     let calm = reads_nothing w.actions w.writings in
     record {
-      begun = begins old now q bytes piece (Reading (length old.sizes) 0 (length bytes) ∷ w.actions) (are_transfers w.actions w.writings) w.text_is does;
+      begun = begins old now q bytes piece (ReadingRange (length old.sizes) 0 (length bytes) ∷ w.actions) (are_transfers w.actions w.writings) w.text_is does;
       well = (subst (λ (n : ℕ). RisesBy n old.read_faults now.read_faults) calm.0 does.read_faults, does.failed ∙ calm.1 old.failed);
     }
 

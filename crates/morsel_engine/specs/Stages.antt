@@ -6,7 +6,7 @@ use Rattle.morsel_meaning.specs.declared.fault.Fault.TheVariants.{OutOfMemory, R
 use Rattle.morsel_meaning.specs.Values.{Table, names_of}
 use Rattle.morsel_outside.specs.declared.io.FileNo.{FileNo}
 use Rattle.morsel_outside.specs.Outside.{Outside}
-use Rattle.morsel_outside.specs.Actions.{Action, FailedOpening, Reading, FailedReading, Making, FailedMaking, Writing, FailedWriting, Rises, Does, text_by}
+use Rattle.morsel_outside.specs.Actions.{Action, FailedOpening, ReadingRange, FailedReadingRange, Making, FailedMaking, Writing, FailedWriting, Rises, Does, text_by}
 use Rattle.morsel_outside.specs.Calls.{Holds, IsNextFile}
 use Rattle.morsel_ndjson.specs.Ndjson.{ndjson}
 
@@ -28,12 +28,12 @@ MakesSink old name (Err fault) new = ⊥
 pub record ReadsWhole (old : Outside) (file : ℕ) (bytes : List ℕ) (new : Outside) : Type 0 where
   pub size : length bytes ≡ get_or old.sizes file 0
   pub held : Holds old.held file 0 bytes
-  pub does : Does old (Reading file 0 (length bytes) ∷ []) new
+  pub does : Does old (ReadingRange file 0 (length bytes) ∷ []) new
 
 -- the read failed; or memory ran out, and nothing changed
 abbrev pub ReadFails : Outside → ℕ → Fault → Outside → Type 0
 ReadFails old file OutOfMemory new = new ≡ old
-ReadFails old file (ReadFault number) new = (number ≡ 0) × Does old (FailedReading file 0 (get_or old.sizes file 0) ∷ []) new
+ReadFails old file (ReadFault number) new = (number ≡ 0) × Does old (FailedReadingRange file 0 (get_or old.sizes file 0) ∷ []) new
 ReadFails old file fault new = ⊥
 
 -- each action is a write, some of which may have failed

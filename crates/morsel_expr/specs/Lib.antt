@@ -1,6 +1,4 @@
--- Definitions that the contracts cite. Those of the crates below are re-exported.
-pub use Rattle.morsel_meaning.specs.Values
-pub use Rattle.morsel_meaning.specs.Order
+-- What a predicate says of a row, what it has to be, and what a filter keeps.
 pub mod Truths
 pub mod Predicates
 pub mod Flaws

@@ -48,7 +48,7 @@ kind_text kinds.LenTooLarge = codes "len too large"
 kind_text kinds.TooManyGroups = codes "too many groups"
 kind_text kinds.FooterTooLarge = codes "footer too large"
 
--- the same, with the record's place for the two kinds that have one
+-- the text of what could not be computed, with the record's place for the two kinds that have one
 abbrev pub compute_text : ComputeKind → ℕ → ℕ → List ℕ
 compute_text kinds.NotUtf8 file at = codes "not utf8, file " ++ decimal file ++ codes ", at " ++ decimal at
 compute_text kinds.IllTyped file at = codes "ill typed, file " ++ decimal file ++ codes ", at " ++ decimal at

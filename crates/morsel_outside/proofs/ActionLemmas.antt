@@ -6,7 +6,7 @@ use Rattle.std.proofs.lemmas.List.{map-append}
 use Rattle.std.proofs.lemmas.List.Concat.{flat_map-append}
 use Rattle.std.proofs.lemmas.List.Sums.{fold-append, sum_by-append}
 use Rattle.morsel_outside.specs.Outside.{with_more}
-use Rattle.morsel_outside.specs.Actions.{Action, Opening, FailedOpening, Reading, FailedReading, Making, FailedMaking, Writing, FailedWriting, Printing, FailedPrinting, Rises, RisesBy, DoesAfter, EventsTellTexts, opened_by, made_after, sinks_by, printed_by, event_of, asked_by, read_failures, write_failures, print_faults_after, failed_after, text_by, bytes_told}
+use Rattle.morsel_outside.specs.Actions.{Action, Opening, FailedOpening, ReadingRange, FailedReadingRange, Making, FailedMaking, Writing, FailedWriting, Printing, FailedPrinting, Rises, RisesBy, DoesAfter, EventsTellTexts, opened_by, made_after, sinks_by, printed_by, event_of, asked_by, read_failures, write_failures, print_faults_after, failed_after, text_by, bytes_told}
 
 -- nothing more
 pub with_more-nil : {A : Type 0} (items : Option (List A)) → with_more items [] ≡ items
@@ -85,8 +85,8 @@ does-append old between new first second one two = record {
 told_one : (action : Action) → sum_by bytes_told (event_of action) ≡ length (text_by action)
 told_one (Opening name bytes) = refl
 told_one (FailedOpening number name) = refl
-told_one (Reading file at len) = refl
-told_one (FailedReading file at len) = refl
+told_one (ReadingRange file at len) = refl
+told_one (FailedReadingRange file at len) = refl
 told_one (Making name) = refl
 told_one (FailedMaking name) = refl
 told_one (Writing piece) = omega arith

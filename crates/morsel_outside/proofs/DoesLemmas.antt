@@ -4,7 +4,7 @@ use Rattle.std.proofs.Common.{ap, ◌∙◌, sym, subst, append-nil, add-zero}
 use Rattle.morsel_outside.specs.declared.events.IoEvent.TheVariants.{ReadAt, Wrote}
 use Rattle.morsel_outside.specs.declared.events.Asked.TheVariants.{Open, Make}
 use Rattle.morsel_outside.specs.Outside.{Outside, with_last, with_piece, with_sink}
-use Rattle.morsel_outside.specs.Actions.{Opening, FailedOpening, Reading, FailedReading, Making, FailedMaking, Writing, FailedWriting, Printing, FailedPrinting, Rises, Does, raised}
+use Rattle.morsel_outside.specs.Actions.{Opening, FailedOpening, ReadingRange, FailedReadingRange, Making, FailedMaking, Writing, FailedWriting, Printing, FailedPrinting, Rises, Does, raised}
 use Rattle.morsel_outside.proofs.ActionLemmas.{with_more-nil}
 
 -- nothing was done
@@ -61,8 +61,8 @@ does-failed_opening old new number name count rises after = subst (Does old (Fai
 
 -- bytes were read
 pub does-reading : (old new : Outside) (file at len : ℕ)
-    → new ≡ record old { events = with_last old.events (ReadAt file at len) } → Does old (Reading file at len ∷ []) new
-does-reading old new file at len after = subst (Does old (Reading file at len ∷ [])) (sym after) (record {
+    → new ≡ record old { events = with_last old.events (ReadAt file at len) } → Does old (ReadingRange file at len ∷ []) new
+does-reading old new file at len after = subst (Does old (ReadingRange file at len ∷ [])) (sym after) (record {
   sizes = sym (append-nil old.sizes);
   held = sym (with_more-nil old.held);
   sinks = sym (add-zero old.sinks);
@@ -79,8 +79,8 @@ does-reading old new file at len after = subst (Does old (Reading file at len �
 -- bytes could not be read
 pub does-failed_reading : (old new : Outside) (file at len count : ℕ) → Rises old.read_faults count
     → new ≡ record old { events = with_last old.events (ReadAt file at len); read_faults = count; failed = file }
-    → Does old (FailedReading file at len ∷ []) new
-does-failed_reading old new file at len count rises after = subst (Does old (FailedReading file at len ∷ [])) (sym after) (record {
+    → Does old (FailedReadingRange file at len ∷ []) new
+does-failed_reading old new file at len count rises after = subst (Does old (FailedReadingRange file at len ∷ [])) (sym after) (record {
   sizes = sym (append-nil old.sizes);
   held = sym (with_more-nil old.held);
   sinks = sym (add-zero old.sinks);

@@ -1,16 +1,19 @@
 -- What reads and writes leave as it was, and what they add.
-use Rattle.std.specs.Prelude.{◌≡◌, ℕ, Option, List, [], ◌∷◌, refl}
+use Rattle.std.specs.Prelude.{◌≡◌, ℕ, Option, Result, Ok, Err, List, [], ◌∷◌, refl}
 use Rattle.std.specs.List.{fold, flat_map, sum_by}
-use Rattle.std.proofs.Common.{sym, ◌∙◌, arith}
-use Rattle.morsel_outside.specs.Outside.{Sink, with_piece}
-use Rattle.morsel_outside.specs.Actions.{Action, Opening, FailedOpening, Reading, FailedReading, Making, FailedMaking, Writing, FailedWriting, Printing, FailedPrinting, opened_by, made_after, sinks_by, printed_by, asked_by, print_faults_after, text_by}
+use Rattle.std.proofs.Common.{ap, sym, ◌∙◌, append-nil, arith}
+use Rattle.morsel_outside.specs.declared.io.IoErr.{IoErr}
+use Rattle.morsel_outside.specs.declared.io.IoErr.TheVariants.{OutOfMemory, Failed}
+use Rattle.morsel_outside.specs.Calls.{Reads}
+use Rattle.morsel_outside.specs.Outside.{Outside, Sink, with_piece}
+use Rattle.morsel_outside.specs.Actions.{Action, Opening, FailedOpening, ReadingRange, FailedReadingRange, Making, FailedMaking, Writing, FailedWriting, Printing, FailedPrinting, opened_by, made_after, sinks_by, printed_by, asked_by, print_faults_after, text_by}
 use Rattle.morsel_outside.proofs.SinkLemmas.{with_piece-nil, with_piece-with_piece}
 
 -- each action is a read or a write
 abbrev pub AreTransfers : List Action → Type 0
 AreTransfers [] = Unit {0}
-AreTransfers (Reading file at len ∷ actions) = AreTransfers actions
-AreTransfers (FailedReading file at len ∷ actions) = AreTransfers actions
+AreTransfers (ReadingRange file at len ∷ actions) = AreTransfers actions
+AreTransfers (FailedReadingRange file at len ∷ actions) = AreTransfers actions
 AreTransfers (Writing piece ∷ actions) = AreTransfers actions
 AreTransfers (FailedWriting piece ∷ actions) = AreTransfers actions
 AreTransfers (action ∷ actions) = ⊥
@@ -33,7 +36,7 @@ only_transfers [] h = record {
   print_faults = λ count. refl;
   asked = refl;
 }
-only_transfers (Reading file at len ∷ actions) h = let r = only_transfers actions h in record {
+only_transfers (ReadingRange file at len ∷ actions) h = let r = only_transfers actions h in record {
   opened = r.opened;
   sinks = let n = r.sinks in omega arith;
   made = r.made;
@@ -41,7 +44,7 @@ only_transfers (Reading file at len ∷ actions) h = let r = only_transfers acti
   print_faults = r.print_faults;
   asked = r.asked;
 }
-only_transfers (FailedReading file at len ∷ actions) h = let r = only_transfers actions h in record {
+only_transfers (FailedReadingRange file at len ∷ actions) h = let r = only_transfers actions h in record {
   opened = r.opened;
   sinks = let n = r.sinks in omega arith;
   made = r.made;
@@ -71,3 +74,9 @@ only_transfers (Making name ∷ actions) h = absurd h
 only_transfers (FailedMaking name ∷ actions) h = absurd h
 only_transfers (Printing line ∷ actions) h = absurd h
 only_transfers (FailedPrinting ∷ actions) h = absurd h
+
+-- a read opens no file
+pub reads_open_nothing : (old new : Outside) (file at : ℕ) (bytes : List ℕ) (result : Result (Unit {0}) IoErr) → Reads old file at bytes result new → new.sizes ≡ old.sizes
+reads_open_nothing old new file at bytes (Ok done) h = h.1.sizes ∙ append-nil old.sizes
+reads_open_nothing old new file at bytes (Err OutOfMemory) h = ap (λ (o : Outside). o.sizes) h
+reads_open_nothing old new file at bytes (Err Failed) h = h.sizes ∙ append-nil old.sizes

@@ -11,8 +11,8 @@ use Rattle.morsel_outside.specs.Outside.{Outside, Sink, with_more, with_piece, w
 pub data Action : Type 0 where
   Opening : List ℕ → List ℕ → Action  -- a file of this name was opened, and has these bytes
   FailedOpening : ℕ → List ℕ → Action  -- the file of this number and name could not be opened
-  Reading : ℕ → ℕ → ℕ → Action  -- of this file, from this byte on, so many bytes were read
-  FailedReading : ℕ → ℕ → ℕ → Action  -- the same, where they did not all come
+  ReadingRange : ℕ → ℕ → ℕ → Action  -- of this file, from this byte on, so many bytes were read
+  FailedReadingRange : ℕ → ℕ → ℕ → Action  -- the same, where they did not all come
   Making : List ℕ → Action  -- a sink of this name was made, with an empty text
   FailedMaking : List ℕ → Action  -- a sink of this name could not be made
   Writing : List ℕ → Action  -- the text of the last sink gained these bytes
@@ -44,8 +44,8 @@ printed_by action = []
 
 -- the read or write that an action is; a write tells the number of bytes that the text gained
 abbrev pub event_of : Action → List IoEvent
-event_of (Reading file at len) = ReadAt file at len ∷ []
-event_of (FailedReading file at len) = ReadAt file at len ∷ []
+event_of (ReadingRange file at len) = ReadAt file at len ∷ []
+event_of (FailedReadingRange file at len) = ReadAt file at len ∷ []
 event_of (Writing piece) = Wrote (length piece) ∷ []
 event_of (FailedWriting piece) = Wrote (length piece) ∷ []
 event_of action = []
@@ -61,7 +61,7 @@ asked_by action = []
 -- whether an open or a read failed, as a number
 abbrev pub read_failures : Action → ℕ
 read_failures (FailedOpening number name) = 1
-read_failures (FailedReading file at len) = 1
+read_failures (FailedReadingRange file at len) = 1
 read_failures action = 0
 
 -- whether a make, a write or a print failed, as a number
@@ -74,7 +74,7 @@ write_failures action = 0
 -- the file of the last read fault, after an action
 abbrev pub failed_after : ℕ → Action → ℕ
 failed_after failed (FailedOpening number name) = number
-failed_after failed (FailedReading file at len) = file
+failed_after failed (FailedReadingRange file at len) = file
 failed_after failed action = failed
 
 -- a count of faults that rose: it is greater, or it is at the end of its type

@@ -4,7 +4,7 @@ use Rattle.morsel_outside.specs.declared.io.FileNo.{FileNo}
 use Rattle.morsel_outside.specs.declared.io.IoErr.{IoErr}
 use Rattle.morsel_outside.specs.declared.io.IoErr.TheVariants.{OutOfMemory, Failed}
 use Rattle.morsel_outside.specs.Outside.{Outside, IsSized}
-use Rattle.morsel_outside.specs.Actions.{Does, Opening, FailedOpening, Reading, FailedReading, Making, FailedMaking, Writing, FailedWriting, Printing, FailedPrinting}
+use Rattle.morsel_outside.specs.Actions.{Does, Opening, FailedOpening, ReadingRange, FailedReadingRange, Making, FailedMaking, Writing, FailedWriting, Printing, FailedPrinting}
 
 -- the file has these bytes from this place on, where its bytes are told
 abbrev pub Holds : Option (List (List ℕ)) → ℕ → ℕ → List ℕ → Type 0
@@ -25,9 +25,9 @@ Opens old name (Err Failed) new = Does old (FailedOpening (length old.sizes) nam
 
 -- `bytes` is the buffer at the return: what the file has there at Ok, and anything of its length otherwise
 abbrev pub Reads : Outside → ℕ → ℕ → List ℕ → Result (Unit {0}) IoErr → Outside → Type 0
-Reads old file at bytes (Ok _) new = Holds old.held file at bytes × Does old (Reading file at (length bytes) ∷ []) new
+Reads old file at bytes (Ok _) new = Holds old.held file at bytes × Does old (ReadingRange file at (length bytes) ∷ []) new
 Reads old file at bytes (Err OutOfMemory) new = new ≡ old
-Reads old file at bytes (Err Failed) new = Does old (FailedReading file at (length bytes) ∷ []) new
+Reads old file at bytes (Err Failed) new = Does old (FailedReadingRange file at (length bytes) ∷ []) new
 
 -- a sink of this name is the last; or it could not be made
 abbrev pub Makes : Outside → List ℕ → Result (Unit {0}) IoErr → Outside → Type 0

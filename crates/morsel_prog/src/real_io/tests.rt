@@ -1,4 +1,5 @@
 //! The calls on real files.
+ghost use Rattle.std.specs.Prelude.{◌≡◌, ◌<◌, ◌≤◌, length, slice_index, IfSome};
 
 use super::*;
 use std::os::unix::fs::symlink;
@@ -103,35 +104,69 @@ fn a_replaced_file_is_read_through_its_descriptor(rt: HostRuntime) -> Result<(),
     Ok(())
 }
 
+/// Opens a file of five bytes, and lets its descriptor go.
+fn open_without_descriptor(io: &mut RealIo<'_, HostRuntime>, name: &str) -> Option<FileNo>
+    ensures opened { IfSome result (λ file. file.0 < length io.new.sizes) }
+    ensures size { IfSome result (λ file. slice_index io.new.sizes file.0 ≡ 5) }
+{
+    let Ok(file) = io.open_source(name) else {
+        return None;
+    };
+    if io.kept.pop().is_none() || io.size(file) != 5 {
+        return None;
+    }
+    Some(file)
+}
+
+/// Reads the first three bytes, and says whether that failed for this reason.
+#[tactic(auto, using(morsel_outside::proofs::TransferLemmas::reads_open_nothing))]
+fn fails_with(io: &mut RealIo<'_, HostRuntime>, file: FileNo, end: &str) -> bool
+    requires opened { file.0 < length io.old.sizes }
+    requires size { 3 ≤ slice_index io.old.sizes file.0 }
+    ensures same { io.new.sizes ≡ io.old.sizes }
+{
+    let failed = io.read_range(file, 0, &mut [0; 3]).is_err();
+    failed && ends_with(io.reason(), end)
+}
+
 #[test]
 fn a_file_without_a_descriptor_is_opened_anew(rt: HostRuntime) -> Result<(), Fail> {
     let from = path(&rt, "anew.csv")?;
     fs::write(&rt, from.as_str(), "id\n1\n")?;
     let mut io = RealIo::new(&rt, rt.alloc());
-    let file = io.open_source(from.as_str())?;
-    assert_eq!(rt; (file.0, io.size(file)), (0, 5));
-    assert!(rt; io.kept.pop().is_some());
+    let file = open_without_descriptor(&mut io, from.as_str()).expect(&rt, "the file");
     let mut into = [0; 3];
     io.read_range(file, 2, &mut into)?;
     assert_eq!(rt; into, *b"\n1\n");
+    fs::remove_file(&rt, from.as_str())?;
+    Ok(())
+}
+
+#[test]
+fn a_file_that_is_opened_anew_is_the_same_one(rt: HostRuntime) -> Result<(), Fail> {
+    let from = path(&rt, "same.csv")?;
+    fs::write(&rt, from.as_str(), "id\n1\n")?;
+    let mut io = RealIo::new(&rt, rt.alloc());
+    let file = open_without_descriptor(&mut io, from.as_str()).expect(&rt, "the file");
     fs::write(&rt, from.as_str(), "id\n2\n")?;
-    assert_eq!(rt; io.read_range(file, 0, &mut into), Err(IoErr::Failed));
-    assert_eq!(rt;
-        ends_with(
-            io.reason(),
-            "anew.csv: the file was replaced or changed after it was opened"
-        ),
-        true
+    assert!(rt;
+        fails_with(
+            &mut io,
+            file,
+            "same.csv: the file was replaced or changed after it was opened"
+        )
     );
     fs::remove_file(&rt, from.as_str())?;
     symlink(&rt, "/dev/null", from.as_str())?;
-    assert_eq!(rt; io.read_range(file, 0, &mut into), Err(IoErr::Failed));
-    assert_eq!(rt;
-        ends_with(io.reason(), "anew.csv: not a regular file"),
-        true
-    );
+    assert!(rt; fails_with(&mut io, file, "same.csv: not a regular file"));
     fs::remove_file(&rt, from.as_str())?;
-    assert_eq!(rt; io.read_range(file, 0, &mut into), Err(IoErr::Failed));
+    assert!(rt;
+        fails_with(
+            &mut io,
+            file,
+            "same.csv: No such file or directory (os error 2)"
+        )
+    );
     assert_eq!(rt; (io.read_faults, io.failed), (3, 0));
     Ok(())
 }

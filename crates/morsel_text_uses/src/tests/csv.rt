@@ -52,11 +52,11 @@ fn show_row(text: &mut String, frame: &Frame, row: usize) -> Result<(), Fault> {
 }
 
 /// The rows, and a `+` after them where the header is still to come.
-fn show_rows(text: &mut String, frame: &Frame, still: bool) -> Result<(), Fault> {
+fn show_rows(text: &mut String, frame: &Frame, awaits_header: bool) -> Result<(), Fault> {
     for row in 0..frame.height() {
         show_row(text, frame, row)?;
     }
-    if still {
+    if awaits_header {
         text.push_str("+")?;
     }
     Ok(())
@@ -94,9 +94,9 @@ fn read(
 }
 
 /// The rows are written so.
-fn are_shown(rt: &impl Abort, alloc: Global, frame: &Frame, still: bool, rows: &str) {
+fn are_shown(rt: &impl Abort, alloc: Global, frame: &Frame, awaits_header: bool, rows: &str) {
     let mut found = String::new(alloc);
-    show_rows(&mut found, frame, still).expect(rt, "memory");
+    show_rows(&mut found, frame, awaits_header).expect(rt, "memory");
     assert_eq!(rt; found.as_str(), rows);
     drop(found);
 }
@@ -111,8 +111,8 @@ fn reads(
     head: bool,
     rows: &str,
 ) {
-    let (frame, still) = read(rt, alloc, text, columns, used, head).expect(rt, "rows");
-    are_shown(rt, alloc, &frame, still, rows);
+    let (frame, awaits_header) = read(rt, alloc, text, columns, used, head).expect(rt, "rows");
+    are_shown(rt, alloc, &frame, awaits_header, rows);
     drop(frame);
 }
 
