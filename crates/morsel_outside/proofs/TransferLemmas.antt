@@ -1,12 +1,13 @@
 -- What reads and writes leave as it was, and what they add.
-use Rattle.std.specs.Prelude.{◌≡◌, ℕ, Option, Result, Ok, Err, List, [], ◌∷◌, refl}
+use Rattle.std.specs.Prelude.{◌≡◌, ℕ, Option, Result, Ok, Err, List, [], ◌∷◌, ◌++◌, refl}
 use Rattle.std.specs.List.{fold, flat_map, sum_by}
 use Rattle.std.proofs.Common.{ap, sym, ◌∙◌, append-nil, arith}
+use Rattle.std.proofs.lemmas.List.Sums.{sum_by-append}
 use Rattle.morsel_outside.specs.declared.io.IoErr.{IoErr}
 use Rattle.morsel_outside.specs.declared.io.IoErr.TheVariants.{OutOfMemory, Failed}
 use Rattle.morsel_outside.specs.Calls.{Reads}
 use Rattle.morsel_outside.specs.Outside.{Outside, Sink, with_piece}
-use Rattle.morsel_outside.specs.Actions.{Action, Opening, FailedOpening, ReadingRange, FailedReadingRange, Making, FailedMaking, Writing, FailedWriting, Printing, FailedPrinting, opened_by, made_after, sinks_by, printed_by, asked_by, print_faults_after, text_by}
+use Rattle.morsel_outside.specs.Actions.{Action, ReadingRange, FailedReadingRange, Writing, FailedWriting, opened_by, made_after, sinks_by, printed_by, asked_by, print_faults_after, text_by}
 use Rattle.morsel_outside.proofs.SinkLemmas.{with_piece-nil, with_piece-with_piece}
 
 -- each action is a read or a write
@@ -27,6 +28,20 @@ pub record OnlyTransfers (actions : List Action) : Type 0 where
   pub print_faults : (count : ℕ) → fold print_faults_after count actions ≡ count
   pub asked : flat_map asked_by actions ≡ []
 
+-- one action more, which opens nothing, makes no sink, prints nothing and asks for nothing
+only_more : (action : Action) (actions : List Action) → opened_by action ≡ [] → sinks_by action ≡ 0 → printed_by action ≡ [] → asked_by action ≡ []
+    → ((made : Option (List Sink)) → made_after made action ≡ with_piece made (text_by action)) → ((count : ℕ) → print_faults_after count action ≡ count)
+    → OnlyTransfers actions → OnlyTransfers (action ∷ actions)
+only_more action actions opened sinks printed asked made counts r = record {
+  opened = ap (λ files. files ++ flat_map opened_by actions) opened ∙ r.opened;
+  sinks = let sum = sum_by-append sinks_by (action ∷ []) actions in let n = r.sinks in omega arith;
+  made = λ before. r.made (made_after before action) ∙ ap (λ sinks. with_piece sinks (flat_map text_by actions)) (made before)
+      ∙ with_piece-with_piece before (text_by action) (flat_map text_by actions);
+  printed = ap (λ lines. lines ++ flat_map printed_by actions) printed ∙ r.printed;
+  print_faults = λ count. r.print_faults (print_faults_after count action) ∙ counts count;
+  asked = ap (λ names. names ++ flat_map asked_by actions) asked ∙ r.asked;
+}
+
 pub only_transfers : (actions : List Action) → AreTransfers actions → OnlyTransfers actions
 only_transfers [] h = record {
   opened = refl;
@@ -36,44 +51,14 @@ only_transfers [] h = record {
   print_faults = λ count. refl;
   asked = refl;
 }
-only_transfers (ReadingRange file at len ∷ actions) h = let r = only_transfers actions h in record {
-  opened = r.opened;
-  sinks = let n = r.sinks in omega arith;
-  made = r.made;
-  printed = r.printed;
-  print_faults = r.print_faults;
-  asked = r.asked;
-}
-only_transfers (FailedReadingRange file at len ∷ actions) h = let r = only_transfers actions h in record {
-  opened = r.opened;
-  sinks = let n = r.sinks in omega arith;
-  made = r.made;
-  printed = r.printed;
-  print_faults = r.print_faults;
-  asked = r.asked;
-}
-only_transfers (Writing piece ∷ actions) h = let r = only_transfers actions h in record {
-  opened = r.opened;
-  sinks = let n = r.sinks in omega arith;
-  made = λ made. r.made (with_piece made piece) ∙ with_piece-with_piece made piece (flat_map text_by actions);
-  printed = r.printed;
-  print_faults = r.print_faults;
-  asked = r.asked;
-}
-only_transfers (FailedWriting piece ∷ actions) h = let r = only_transfers actions h in record {
-  opened = r.opened;
-  sinks = let n = r.sinks in omega arith;
-  made = λ made. r.made (with_piece made piece) ∙ with_piece-with_piece made piece (flat_map text_by actions);
-  printed = r.printed;
-  print_faults = r.print_faults;
-  asked = r.asked;
-}
-only_transfers (Opening name bytes ∷ actions) h = absurd h
-only_transfers (FailedOpening number name ∷ actions) h = absurd h
-only_transfers (Making name ∷ actions) h = absurd h
-only_transfers (FailedMaking name ∷ actions) h = absurd h
-only_transfers (Printing line ∷ actions) h = absurd h
-only_transfers (FailedPrinting ∷ actions) h = absurd h
+only_transfers (ReadingRange file at len ∷ actions) h =
+    only_more (ReadingRange file at len) actions refl refl refl refl (λ made. sym (with_piece-nil made)) (λ count. refl) (only_transfers actions h)
+only_transfers (FailedReadingRange file at len ∷ actions) h =
+    only_more (FailedReadingRange file at len) actions refl refl refl refl (λ made. sym (with_piece-nil made)) (λ count. refl) (only_transfers actions h)
+only_transfers (Writing piece ∷ actions) h = only_more (Writing piece) actions refl refl refl refl (λ made. refl) (λ count. refl) (only_transfers actions h)
+only_transfers (FailedWriting piece ∷ actions) h =
+    only_more (FailedWriting piece) actions refl refl refl refl (λ made. refl) (λ count. refl) (only_transfers actions h)
+only_transfers (action ∷ actions) h = absurd h
 
 -- a read opens no file
 pub reads_open_nothing : (old new : Outside) (file at : ℕ) (bytes : List ℕ) (result : Result (Unit {0}) IoErr) → Reads old file at bytes result new → new.sizes ≡ old.sizes
