@@ -66,7 +66,7 @@ does-as old new action reads writes r w is = subst (Does old (action ∷ [])) (s
 pub does-opening : (old new : Outside) (name bytes : List ℕ)
     → new ≡ record old { sizes = old.sizes ++ length bytes ∷ []; held = with_last old.held bytes; asked = old.asked ++ Open name ∷ [] }
     → Does old (Opening name bytes ∷ []) new
-does-opening old new name bytes after = does-as old new (Opening name bytes) old.read_faults old.write_faults refl refl (after ∙ simp (append-nil, with_more-nil, add-zero))
+does-opening old new name bytes after = does-as old new (Opening name bytes) old.read_faults old.write_faults refl refl (after ∙ simp (with_more-nil, add-zero))
 
 -- a file could not be opened
 pub does-failed_opening : (old new : Outside) (number : ℕ) (name : List ℕ) (count : ℕ) → Rises old.read_faults count
