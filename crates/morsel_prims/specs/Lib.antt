@@ -1,0 +1,2 @@
+-- Rows of a roll, and what lanes, tokens and tasks promise.
+pub mod Rows
