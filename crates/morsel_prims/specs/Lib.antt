@@ -1,2 +1,4 @@
 -- Rows of a roll, and what lanes, tokens and tasks promise.
 pub mod Rows
+pub mod Woken
+pub mod Polled

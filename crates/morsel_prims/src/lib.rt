@@ -1,8 +1,22 @@
-//! Lanes, tokens and tasks.
+//! Lanes, tokens and tasks: what runs on a line of nodes, and what each call promises.
+//!
+//! A lane has two ends, and a list for each: what was sent, and what was taken. The same tasks run over any lanes
+//! whose ends keep `LaneSender` and `LaneReceiver`.
 #![tactic(auto)]
 
+mod lane;
+mod lanes;
+mod poll;
 mod roll;
 mod row_view;
+mod task;
+mod wakes;
 
+pub use lane::{Ended, LaneReceiver, LaneSender, Message, RecvError, SendError};
+pub use lanes::{Lanes, Tokens};
+pub use morsel_meaning::TaskNo;
+pub use poll::Poll;
 pub use roll::{Roll, Row};
 pub use row_view::RowView;
+pub use task::{Board, Cx, Task};
+pub use wakes::Wakes;

@@ -1,0 +1,157 @@
+//! Who makes lanes, and groups of tokens.
+use crate::lane::{LaneReceiver, LaneSender, Message};
+use crate::poll::Poll;
+use crate::task::{Board, Cx};
+use morsel_meaning::Fault;
+use std::alloc::Global;
+
+/// Groups that count their tokens.
+///
+/// A group, and each token, has parts, which contracts alone see. A group has 2^62 of them when it is made, and again
+/// where all tokens were released.
+pub trait Tokens {
+    ghost use Rattle.std.specs.Prelude.{◌≡◌, ℕ, ◌+◌, ◌/◌, ◌^◌, ◌<◌, ◌≤◌, Option, Some, IfOk, OnOk, OnErr, IfErr};
+    ghost use Rattle.atomic_table.specs.Seated.{TableId};
+    ghost use Rattle.morsel_meaning.specs.declared.task.TaskNo.{TaskNo};
+    ghost use Rattle.morsel_meaning.specs.declared.fault.Fault.TheVariants.{OutOfMemory};
+    ghost use Rattle.morsel_prims.specs.Polled.{LaneId, IfReady, OnPending};
+    ghost use Rattle.morsel_prims.specs.Woken.{IsWoken, KeepsWakes};
+
+    /// Where lanes and groups are kept.
+    type Board: Board + Drop;
+
+    /// Counts its tokens.
+    type Group: Drop;
+
+    /// Is counted by its group until it is released.
+    type Token: Drop;
+
+    /// The board on which a group was made.
+    ghost group_home: { Self.Group → TableId };
+
+    /// Which group it is.
+    ghost group_id: { Self.Group → LaneId };
+
+    /// A group's parts.
+    ghost parts: { Self.Group → ℕ };
+
+    /// The task that is registered at a group.
+    ghost group_registered: { Self.Board → Self.Group → Option TaskNo };
+
+    /// A step of a call found tokens that are not released: by the board after it, and by the group before and after.
+    ghost found_tokens: { Self.Board → Self.Group → Self.Group → Type 0 };
+
+    /// The board on which a token was made.
+    ghost token_home: { Self.Token → TableId };
+
+    /// The group of a token.
+    ghost token_group: { Self.Token → LaneId };
+
+    /// A token's parts.
+    ghost token_parts: { Self.Token → ℕ };
+
+    /// The task that waits for this token, where it is the last one: by the board before the release.
+    ghost token_waiting: { Self.Board → Self.Token → Option TaskNo };
+
+    /// A group without tokens.
+    fn group(alloc: Global, board: &mut Self::Board) -> Result<Self::Group, Fault>
+        ensures home { IfOk result (λ group. group_home group ≡ Self.Board.id board.new) }
+        ensures parts { IfOk result (λ group. parts group ≡ 2 ^ 62) }
+        ensures out_of_memory { IfErr result (λ fault. fault ≡ OutOfMemory) }
+        ensures same_board { Self.Board.id board.new ≡ Self.Board.id board.old };
+
+    /// One more token of the group.
+    fn token(cx: &mut Cx<Self::Board>, group: &mut Self::Group) -> Result<Self::Token, Fault>
+        requires home { group_home group.old ≡ Self.Board.id cx.old.board }
+        requires parts { 2 ^ 31 < parts group.old }
+        ensures same_group { (group_home group.new ≡ group_home group.old) × (group_id group.new ≡ group_id group.old) }
+        ensures token { IfOk result (λ token. (token_home token ≡ group_home group.old) × (token_group token ≡ group_id group.old)) }
+        ensures token_parts { IfOk result (λ token. token_parts token ≡ 2 ^ 31) }
+        ensures ok { OnOk result (parts group.new + 2 ^ 31 ≡ parts group.old) }
+        ensures err { OnErr result (parts group.new ≡ parts group.old) }
+        ensures out_of_memory { IfErr result (λ fault. fault ≡ OutOfMemory) }
+        ensures same_board { Self.Board.id cx.new.board ≡ Self.Board.id cx.old.board }
+        ensures same_task { cx.new.me ≡ cx.old.me }
+        ensures wakes { KeepsWakes cx.old.wakes cx.new.wakes };
+
+    /// One more token of the token's group.
+    fn again(cx: &mut Cx<Self::Board>, token: &mut Self::Token) -> Result<Self::Token, Fault>
+        requires home { token_home token.old ≡ Self.Board.id cx.old.board }
+        requires parts { 2 ≤ token_parts token.old }
+        ensures same_token { (token_home token.new ≡ token_home token.old) × (token_group token.new ≡ token_group token.old) }
+        ensures token { IfOk result (λ more. (token_home more ≡ token_home token.old) × (token_group more ≡ token_group token.old)) }
+        ensures more { IfOk result (λ more. token_parts more ≡ token_parts token.old / 2) }
+        ensures ok { IfOk result (λ more. token_parts token.new + token_parts more ≡ token_parts token.old) }
+        ensures err { OnErr result (token_parts token.new ≡ token_parts token.old) }
+        ensures out_of_memory { IfErr result (λ fault. fault ≡ OutOfMemory) }
+        ensures same_board { Self.Board.id cx.new.board ≡ Self.Board.id cx.old.board }
+        ensures same_task { cx.new.me ≡ cx.old.me }
+        ensures wakes { KeepsWakes cx.old.wakes cx.new.wakes };
+
+    /// Its group counts the token no more.
+    fn release(cx: &mut Cx<Self::Board>, token: Self::Token)
+        requires home { token_home token ≡ Self.Board.id cx.old.board }
+        ensures woken { IsWoken (token_waiting cx.old.board token) cx.new.wakes }
+        ensures same_board { Self.Board.id cx.new.board ≡ Self.Board.id cx.old.board }
+        ensures same_task { cx.new.me ≡ cx.old.me }
+        ensures wakes { KeepsWakes cx.old.wakes cx.new.wakes };
+
+    /// Waits until no token is left. One task at a time may wait on a group.
+    fn poll_wait(cx: &mut Cx<Self::Board>, group: &mut Self::Group) -> Poll<()>
+        requires home { group_home group.old ≡ Self.Board.id cx.old.board }
+        ensures same_group { (group_home group.new ≡ group_home group.old) × (group_id group.new ≡ group_id group.old) }
+        ensures ready { IfReady result (λ _. parts group.new ≡ 2 ^ 62) }
+        ensures same_parts { OnPending result (parts group.new ≡ parts group.old) }
+        ensures tokens { OnPending result (found_tokens cx.new.board group.old group.new) }
+        ensures registered { OnPending result (group_registered cx.new.board group.new ≡ Some cx.old.me) }
+        ensures same_board { Self.Board.id cx.new.board ≡ Self.Board.id cx.old.board }
+        ensures same_task { cx.new.me ≡ cx.old.me }
+        ensures wakes { KeepsWakes cx.old.wakes cx.new.wakes };
+}
+
+/// Makes lanes, and compares the receipts of their ends.
+pub trait Lanes<T: Message>: Tokens {
+    ghost use Rattle.std.specs.Prelude.{◌≡◌, ℕ, ◌≤◌, ◌<◌, [], IfOk, IfErr};
+    ghost use Rattle.morsel_meaning.specs.declared.fault.Fault.TheVariants.{OutOfMemory};
+
+    type Sender: LaneSender<T, Self::Board> + Drop;
+
+    type Receiver: LaneReceiver<T, Self::Board> + Drop;
+
+    /// The room of a lane that is asked for so many values.
+    ghost room_of: { ℕ → ℕ };
+
+    /// The room of a lane that is asked for so many values.
+    fn room(asked: u32) -> u32
+        requires asked { (1 ≤ asked) × (asked ≤ 65536) }
+        ensures room { result ≡ room_of asked }
+        ensures within { (1 ≤ room_of asked) × (room_of asked ≤ asked) };
+
+    /// A lane for this job: its two ends.
+    fn lane(
+        alloc: Global,
+        board: &mut Self::Board,
+        asked: u32,
+        job: &T::Job,
+    ) -> Result<(Self::Sender, Self::Receiver), Fault>
+        requires asked { (1 ≤ asked) × (asked ≤ 65536) }
+        ensures job { IfOk result (λ ends. (Self.Sender.job ends.0 ≡ job.now) × (Self.Receiver.job ends.1 ≡ job.now)) }
+        ensures home { IfOk result (λ ends. (Self.Sender.home ends.0 ≡ Self.Board.id board.new) × (Self.Receiver.home ends.1 ≡ Self.Board.id board.new)) }
+        ensures lane { IfOk result (λ ends. Self.Sender.lane ends.0 ≡ Self.Receiver.lane ends.1) }
+        ensures empty { IfOk result (λ ends. (Self.Sender.sent ends.0 ≡ []) × (Self.Receiver.taken ends.1 ≡ [])) }
+        ensures room { IfOk result (λ ends. Self.Sender.room ends.0 ≡ room_of asked) }
+        ensures within { (1 ≤ room_of asked) × (room_of asked ≤ asked) }
+        ensures out_of_memory { IfErr result (λ fault. fault ≡ OutOfMemory) }
+        ensures same_board { Self.Board.id board.new ≡ Self.Board.id board.old };
+
+    /// What was sent through a lane is what was taken from it.
+    fn agree(
+        board: &mut Self::Board,
+        sent: <Self::Sender as LaneSender<T, Self::Board>>::Receipt,
+        taken: <Self::Receiver as LaneReceiver<T, Self::Board>>::Receipt,
+    )
+        requires home { (Self.Sender.receipt_home sent ≡ Self.Board.id board.old) × (Self.Receiver.receipt_home taken ≡ Self.Board.id board.old) }
+        requires lane { Self.Sender.receipt_lane sent ≡ Self.Receiver.receipt_lane taken }
+        ensures same { Self.Sender.all_sent sent ≡ Self.Receiver.all_taken taken }
+        ensures same_board { Self.Board.id board.new ≡ Self.Board.id board.old };
+}
