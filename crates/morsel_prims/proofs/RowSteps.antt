@@ -34,7 +34,7 @@ true-ne-false : false ≡ true → ⊥
 true-ne-false e = cc
 
 module _ {T : Type 0} where
-  pub opens : (ws : List ℕ) (xs : List T) → IsRolled (opening ws xs (keeper_view []))
+  pub opens : (ws : List ℕ) (xs : List T) → IsRolled T (opening ws xs (keeper_view []))
   opens ws xs = (0, [], (λ p. 0), go)
     where
       go : (id : ℕ) (v : RowView T) → get_elem? (keeper_view [] ∷ []) id ≡ some v → AgreesWithRows 0 [] (λ p. 0) id v
@@ -42,7 +42,7 @@ module _ {T : Type 0} where
       go (suc id) v e = absurd (some-ne-none v (sym e))
 
   -- a view that has no more than before
-  pub looks : (slots id : ℕ) (me : Me T (RowView T)) (i : ℕ) → me.0.keeps ≡ true → me.0.has ≡ true → Allows IsRolled slots id me i (λ n. n) (LooksAtRow (step slots i 0 0 none) me)
+  pub looks : (slots id : ℕ) (me : Me T (RowView T)) (i : ℕ) → me.0.keeps ≡ true → me.0.has ≡ true → Allows (IsRolled T) slots id me i (λ n. n) (LooksAtRow (step slots i 0 0 none) me)
   looks slots id me i k h s (seat, rows, at, r) _ here _ = let f = r id me.0 here in (
     me.0,
     keeps,
@@ -51,7 +51,7 @@ module _ {T : Type 0} where
     (refl, subst (λ z. get_elem? z me.0.place ≡ some me.0.list) (sym (f.0 k).1) (f.1 h).1),
   )
 
-  pub writes : (slots id : ℕ) (me : Me T (RowView T)) (i : ℕ) (x : T) → me.0.keeps ≡ true → me.0.has ≡ true → Allows IsRolled slots id me i (λ n. either (eqb n 0) 0 n) (WritesRow (step slots i 0 0 (some x)) me)
+  pub writes : (slots id : ℕ) (me : Me T (RowView T)) (i : ℕ) (x : T) → me.0.keeps ≡ true → me.0.has ≡ true → Allows (IsRolled T) slots id me i (λ n. either (eqb n 0) 0 n) (WritesRow T (step slots i 0 0 (some x)) me)
   writes slots id me i x k h s (seat, rows, at, r) _ here _ =
       let mine = r id me.0 here in let p : ℕ = me.0.place in let new : List T = me.0.list ++ x ∷ [] in let rows' : List (List T) = set rows p new in
       let w : RowView T = keeper_with_guest (set me.0.rows p new) p new in let same : me.0.rows ≡ rows = (mine.0 k).1 in let was = (mine.1 h).1 in (
@@ -75,7 +75,7 @@ module _ {T : Type 0} where
       at_length (y ∷ ys) zero a e = omega arith
       at_length (y ∷ ys) (suc n) a e = let q = at_length ys n a e in omega arith
 
-  pub adds : (slots id : ℕ) (me : Me T (RowView T)) (i : ℕ) → me.0.keeps ≡ true → Allows IsRolled slots id me i (λ n. n) (AddsRow (step slots i 0 0 none) me)
+  pub adds : (slots id : ℕ) (me : Me T (RowView T)) (i : ℕ) → me.0.keeps ≡ true → Allows (IsRolled T) slots id me i (λ n. n) (AddsRow (step slots i 0 0 none) me)
   adds slots id me i k s (seat, rows, at, r) _ here _ =
       let mine = r id me.0 here in let same : me.0.rows ≡ rows = (mine.0 k).1 in let p : ℕ = length me.0.rows in let w : RowView T = keeper_with_guest (me.0.rows ++ [] ∷ []) p [] in let rows' : List (List T) = rows ++ [] ∷ [] in
       let at' : ℕ → ℕ = moved at p id in (
@@ -98,7 +98,7 @@ module _ {T : Type 0} where
         refl,
       )
 
-  pub cuts : (id : ℕ) (v : RowView T) → v.has ≡ true → Splits IsRolled id v (alone_view v) (guest_view v)
+  pub cuts : (id : ℕ) (v : RowView T) → v.has ≡ true → Splits (IsRolled T) id v (alone_view v) (guest_view v)
   cuts id v h s (seat, rows, at, r) here =
       let mine = r id v here in let n : ℕ = length s.views in let at' : ℕ → ℕ = moved at v.place n in (
         seat,
@@ -112,7 +112,7 @@ module _ {T : Type 0} where
             (at_new (set s.views id (alone_view v)) (guest_view v) u j e),
       )
 
-  pub lends : (id other : ℕ) (v w : RowView T) → w.has ≡ true → Joins IsRolled id v other w (lent_view v w) nobody_view
+  pub lends : (id other : ℕ) (v w : RowView T) → w.has ≡ true → Joins (IsRolled T) id v other w (lent_view v w) nobody_view
   lends id other v w h s (seat, rows, at, r) here apart there =
       let mine = r id v here in let its = r other w (sym (set_else s.views id other (lent_view v w) apart) ∙ there) in let at' : ℕ → ℕ = moved at w.place id in (
         seat,

@@ -16,7 +16,7 @@ pub use lane::{Ended, LaneReceiver, LaneSender, Message, RecvError, SendError};
 pub use lanes::{Lanes, Tokens};
 pub use morsel_meaning::TaskNo;
 pub use poll::Poll;
-pub use roll::{Roll, Row};
+pub use roll::{Roll, RollRow};
 pub use row_view::RowView;
 pub use task::{Board, Cx, Task};
 pub use wakes::Wakes;

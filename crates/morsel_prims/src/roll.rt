@@ -14,7 +14,7 @@ pub struct Ruled;
 impl<T> TableRule<T, RowView<T>, ()> for Ruled {
     ghost use Rattle.morsel_prims.specs.Rows.{IsRolled, keeper_view};
 
-    ghost holds = { λ _. IsRolled };
+    ghost holds = { λ _. IsRolled T };
 
     ghost first = { λ _. keeper_view [] };
 }
@@ -32,7 +32,7 @@ struct Write;
 impl<T> Play<T, RowView<T>> for Write {
     ghost use Rattle.morsel_prims.specs.Rows.{WritesRow};
 
-    ghost then = { WritesRow };
+    ghost then = { WritesRow T };
 }
 
 struct Add;
@@ -75,7 +75,7 @@ pub struct Roll<T> {
 
 /// One list.
 #[derive(Drop)]
-pub struct Row<T> {
+pub struct RollRow<T> {
     badge: Badge<RowView<T>>,
     ghost held: { badge.views ≡ holder_view (place_of_row badge.views) (list_of_row badge.views) ∷ [] },
 }
@@ -88,7 +88,7 @@ impl<T> Roll<T> {
         Ok(Roll { table, seat })
     }
 
-    pub fn add(&mut self) -> Row<T>
+    pub fn add(&mut self) -> RollRow<T>
         ensures table { self.new.seat.table_id ≡ self.old.seat.table_id }
         ensures rows { self.new.seat.me.0.rows ≡ self.old.seat.me.0.rows ++ [] ∷ [] }
         ensures row { (result.badge.table_id ≡ self.old.seat.table_id) × (result.badge.views ≡ holder_view (length self.old.seat.me.0.rows) [] ∷ []) }
@@ -96,13 +96,13 @@ impl<T> Roll<T> {
         let table = &self.table;
         table.shared.load::<Add>(&mut self.seat, 0);
         let seat = table.shared.split_seat::<Back>(&mut self.seat);
-        Row {
+        RollRow {
             badge: seat.into_badge(),
         }
     }
 
     /// Changes nothing, and tells that the roll has the row's list at its place.
-    pub fn look(&mut self, row: &mut Row<T>)
+    pub fn look(&mut self, row: &mut RollRow<T>)
         requires { row.old.badge.table_id ≡ self.old.seat.table_id }
         ensures table { (self.new.seat.table_id ≡ self.old.seat.table_id) × (row.new.badge.table_id ≡ row.old.badge.table_id) }
         ensures same { (row.new.badge.views ≡ row.old.badge.views) × (self.new.seat.me.0.rows ≡ self.old.seat.me.0.rows) }
@@ -116,7 +116,7 @@ impl<T> Roll<T> {
         row.badge = seat.into_badge();
     }
 
-    pub fn write(&mut self, row: &mut Row<T>, x: &T)
+    pub fn write(&mut self, row: &mut RollRow<T>, x: &T)
         requires { row.old.badge.table_id ≡ self.old.seat.table_id }
         ensures table { (self.new.seat.table_id ≡ self.old.seat.table_id) × (row.new.badge.table_id ≡ row.old.badge.table_id) × (place_of_row row.new.badge.views ≡ place_of_row row.old.badge.views) }
         ensures same { get_elem? self.old.seat.me.0.rows (place_of_row row.old.badge.views) ≡ some (list_of_row row.old.badge.views) }
