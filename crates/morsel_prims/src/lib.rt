@@ -4,6 +4,7 @@
 //! whose ends keep `LaneSender` and `LaneReceiver`.
 #![tactic(auto)]
 
+mod hand_on;
 mod lane;
 mod lanes;
 mod poll;
@@ -12,6 +13,7 @@ mod row_view;
 mod task;
 mod wakes;
 
+pub use hand_on::{HandOn, Handed, settle_two};
 pub use lane::{Ended, LaneReceiver, LaneSender, Message, RecvError, SendError};
 pub use lanes::{Lanes, Tokens};
 pub use morsel_meaning::TaskNo;
