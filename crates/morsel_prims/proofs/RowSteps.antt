@@ -1,14 +1,14 @@
 -- Each step of a roll keeps its rule.
 use Rattle.std.proofs.Common.{◌≡◌, ℕ, zero, suc, ◌+◌, ◌≢◌, ◌⊎◌, ◌<◌, Bool, true, false, eqb, List, [], ◌∷◌, ◌++◌, length, length-set, set, get_or, sym, refl, ap, ◌∙◌, subst, inl, inr, ⊎_elim, arith}
 use mathlib.Core.Logic.{dite}
-use mathlib.Core.Option.{Option, none, some, some-injective, some-ne-none}
+use mathlib.Core.Option.{none, some, some-injective, some-ne-none}
 use native.Mathlib.Decide.{ℕ_discrete}
 use prog.Atomic.{either}
 use lib.ListN.{get_elem?}
-use Rattle.atomic_table.specs.Table.{State, Me, Step, step, keeps, stepped, opening, Allows, Splits, Joins}
-use Rattle.atomic_table.proofs.Lists.{at_set, at_snoc, set_here, set_else, set_again, at_longer, at_last}
+use Rattle.atomic_table.specs.Table.{Me, step, keeps, opening, Allows, Splits, Joins}
+use Rattle.atomic_table.proofs.Lists.{at_set, set_here, set_else, at_longer, at_last}
 use Rattle.morsel_prims.specs.declared.row_view.RowView.{RowView}
-use Rattle.morsel_prims.specs.Rows.{row_view, keeper_view, keeper_with_guest, nobody_view, AgreesWithRows, IsRolled, lent_view, alone_view, guest_view, LooksAtRow, WritesRow, AddsRow}
+use Rattle.morsel_prims.specs.Rows.{keeper_view, keeper_with_guest, nobody_view, AgreesWithRows, IsRolled, lent_view, alone_view, guest_view, LooksAtRow, WritesRow, AddsRow}
 
 -- of the seats, this one now has the place
 abbrev pub moved : (ℕ → ℕ) → ℕ → ℕ → ℕ → ℕ

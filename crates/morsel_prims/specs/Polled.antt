@@ -1,5 +1,5 @@
 -- What polls and calls on the ends of lanes answer.
-use Rattle.std.specs.Prelude.{◌≡◌, ℕ, List, [], ◌∷◌, ◌++◌, ⊤, Option, None, Some, Result, Ok, Err}
+use Rattle.std.specs.Prelude.{ℕ, List, [], ◌∷◌, ⊤, Option, None, Some, Result, Ok, Err}
 use Rattle.atomic_table.specs.Seated.{TableId}
 use Rattle.morsel_prims.specs.declared.poll.Poll.{Poll}
 use Rattle.morsel_prims.specs.declared.poll.Poll.TheVariants.{Ready, Pending}

@@ -1,6 +1,6 @@
 -- Which lists are kept, and who holds each. The keeper knows all, and a holder knows one; at most one seat knows the list at a place.
 use Rattle.std.specs.Prelude.{◌≡◌, ℕ, Bool, true, false, List, [], ◌∷◌, ◌++◌, length, slice_set}
-use mathlib.Core.Option.{Option, none, some}
+use mathlib.Core.Option.{some}
 use lib.ListN.{get_elem?}
 use Rattle.atomic_table.specs.Table.{State, Me, Step}
 use Rattle.morsel_prims.specs.declared.row_view.RowView.{RowView}

@@ -1,5 +1,5 @@
 -- The tasks that a call made ready.
-use Rattle.std.specs.Prelude.{◌≡◌, ℕ, ◌+◌, ◌<◌, ◌==◌, if◌then◌else◌, Bool, true, false, List, [], ◌∷◌, ◌++◌, length, slice_index_or, ⊤, All, Option, IfSome}
+use Rattle.std.specs.Prelude.{◌≡◌, ℕ, ◌+◌, ◌<◌, ◌==◌, if◌then◌else◌, Bool, true, false, List, [], ◌∷◌, ◌++◌, length, slice_index_or, ⊤, Option, IfSome}
 use Rattle.morsel_meaning.specs.declared.task.TaskNo.{TaskNo}
 
 -- the tasks that are to be woken, each once, and the bound of their numbers

@@ -18,7 +18,5 @@ pub use lane::{Ended, LaneReceiver, LaneSender, Message, RecvError, SendError};
 pub use lanes::{Lanes, Tokens};
 pub use morsel_meaning::TaskNo;
 pub use poll::Poll;
-pub use roll::{Roll, RollRow};
-pub use row_view::RowView;
 pub use task::{Board, Cx, Task};
 pub use wakes::Wakes;

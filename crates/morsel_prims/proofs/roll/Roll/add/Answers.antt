@@ -1,4 +1,4 @@
-use Rattle.std.proofs.Common.{rules, true, sym, ap, ◌∙◌}
+use Rattle.std.proofs.Common.{rules, ap}
 use Rattle.morsel_prims.proofs.RowSteps.{adds, cuts}
 use Rattle.morsel_prims.proofs.roll.Roll.add.Goals as goal
 

@@ -1,4 +1,4 @@
-use Rattle.std.proofs.Common.{rules, true, refl, sym, ap, ◌∙◌, [], ◌∷◌}
+use Rattle.std.proofs.Common.{rules, refl, sym, ap, ◌∙◌, [], ◌∷◌}
 use Rattle.morsel_prims.specs.Rows.{guest_view, holder_view, place_of_row, list_of_row}
 use Rattle.morsel_prims.proofs.RowSteps.{lends, writes, cuts}
 use Rattle.morsel_prims.proofs.roll.Roll.write.Goals as goal

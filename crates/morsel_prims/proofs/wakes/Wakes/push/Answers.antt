@@ -1,4 +1,4 @@
-use Rattle.std.proofs.Common.{rules, sym, subst, set, ◌≡◌, true, false, slice_index_or}
+use Rattle.std.proofs.Common.{rules, sym, subst, set, ◌≡◌, true, slice_index_or}
 use Rattle.morsel_prims.specs.Woken.{IsListed}
 use Rattle.morsel_prims.proofs.WokenLemmas.{listed_push}
 use Rattle.morsel_prims.proofs.wakes.Wakes.push.Goals as goal

@@ -1,4 +1,4 @@
-use Rattle.std.proofs.Common.{rules, subst, sym, Some}
+use Rattle.std.proofs.Common.{subst, sym}
 use Rattle.morsel_prims.specs.Woken.{IsWoken}
 use Rattle.morsel_prims.proofs.WokenLemmas.{keeps_with}
 use Rattle.morsel_prims.proofs.wakes.Wakes.wake.Goals as goal
