@@ -2,3 +2,4 @@
 pub mod Rows
 pub mod Woken
 pub mod Polled
+pub mod Marks

@@ -7,6 +7,8 @@
 mod hand_on;
 mod lane;
 mod lanes;
+mod plain_board;
+mod plain_item;
 mod poll;
 mod roll;
 mod row_view;

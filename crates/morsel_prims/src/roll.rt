@@ -64,6 +64,7 @@ impl<T> Split<RowView<T>> for Back {
 }
 
 /// All lists.
+#[derive(Drop)]
 pub struct Roll<T> {
     table: Table<T, RowView<T>, (), Ruled, Global>,
     seat: Seat<T, RowView<T>>,

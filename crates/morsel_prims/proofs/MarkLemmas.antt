@@ -1,0 +1,83 @@
+-- What a board's lanes keep.
+use Rattle.std.proofs.Common.{◌≡◌, ◌≢◌, ℕ, zero, suc, ◌+◌, ◌*◌, ◌-◌, ◌<◌, ◌≤◌, Bool, true, false, List, [], ◌∷◌, ◌++◌, length, length-set, set, get_or, slice_index_or, slice_get, Option, Some, None, sym, refl, ap, ◌∙◌, subst, arith, get_or-set_same, get_or-set_other, append_assoc, length-append, drop}
+use mathlib.Core.Logic.{dite}
+use mathlib.Core.Option.{some, some-injective, some-ne-none}
+use native.Mathlib.Decide.{ℕ_discrete}
+use lib.ListN.{get_elem?}
+use Rattle.circular_buffer.proofs.Places.{slice_get-set_same, slice_get-set_other, slice_get-some}
+use Rattle.std.proofs.lemmas.Option.{slice_get_within, get_or_from_slice_get}
+use Rattle.circular_buffer.specs.Buffer.{buffer, keep_last}
+use Rattle.morsel_prims.specs.declared.plain_item.Mark.{Mark}
+use Rattle.morsel_prims.specs.declared.plain_item.Mark.TheVariants.{Job, Value, End, Shut}
+use Rattle.morsel_prims.specs.declared.plain_item.PlainLane.{PlainLane}
+use Rattle.morsel_prims.specs.Marks.{lane_values, is_unclosed, is_shut, lane_job, with_job, AreFor, IsPlainLane, ArePlainLanes}
+
+pub found : {A : Type 0} (xs : List A) (i : ℕ) (x : A) → i < length xs → x ≡ get_or xs i x → slice_get xs i ≡ Some x
+found xs i x small is = let y = slice_get-some xs i small in y.1 ∙ ap Some (sym (is ∙ get_or_from_slice_get xs i y.0 x y.1))
+
+pub kept_whole : {A : Type 0} (n : ℕ) (xs : List A) → length xs ≤ n → keep_last n xs ≡ xs
+kept_whole n xs le = let none_too_many : length xs - n ≡ 0 = omega arith in ap (λ k. drop k xs) none_too_many
+
+pub row_there : {X : Type 0} (rows : List (List X)) (k : ℕ) (xs : List X) → get_elem? rows k ≡ some xs → (k < length rows) × (slice_index_or rows k [] ≡ xs)
+row_there [] k xs e = absurd (some-ne-none xs (sym e))
+row_there (y ∷ ys) zero xs e = (omega arith, some-injective y xs e)
+row_there (y ∷ ys) (suc k) xs e = let r = row_there ys k xs e in (omega arith, r.1)
+
+module _ {A J : Type 0} where
+  pub lane_within : (rows : List (List (Mark (A × J) J))) (lanes : List (PlainLane (A × J) J)) (place i : ℕ) (xs : List (Mark (A × J) J)) → ArePlainLanes rows lanes → get_elem? rows place ≡ some xs → place ≡ 2 * i → i < length lanes
+  lane_within rows lanes place i xs kept at is = let r = row_there rows place xs at in let n = kept.0 in omega arith
+
+  pub same_lane : (a b : PlainLane (A × J) J) → Some a ≡ Some b → a ≡ b
+  same_lane a b e = cc
+
+  -- lane i is now l, and what its sender sent xs
+  pub sent_changes : (rows : List (List (Mark (A × J) J))) (lanes : List (PlainLane (A × J) J)) (place i : ℕ) (old xs : List (Mark (A × J) J)) (was l : PlainLane (A × J) J) → ArePlainLanes rows lanes → get_elem? rows place ≡ some old → place ≡ 2 * i → slice_get lanes i ≡ Some was
+      → ((taken : List (Mark (A × J) J)) → IsPlainLane old taken was → IsPlainLane xs taken l) → ArePlainLanes (set rows place xs) (set lanes i l)
+  sent_changes rows lanes place i old xs was l kept at is there change =
+      let here = row_there rows place old at in let small : i < length lanes = lane_within rows lanes place i old kept at is in (
+        length-set rows place xs ∙ (kept.0 ∙ ap (λ n. 2 * n) (sym (length-set lanes i l))),
+        λ j m e. dite (ℕ_discrete j i)
+            (λ same. let is_l : l ≡ m = same_lane l m (sym (slice_get-set_same lanes i l small) ∙ subst (λ (n : ℕ). slice_get (set lanes i l) n ≡ Some m) same e) in
+            let other : slice_index_or (set rows place xs) (2 * i + 1) [] ≡ slice_index_or rows (2 * i + 1) [] = get_or-set_other rows place (2 * i + 1) xs [] (λ q. omega arith) in
+            let mine : slice_index_or (set rows place xs) (2 * i) [] ≡ xs = ap (λ n. slice_index_or (set rows place xs) n []) (sym is) ∙ get_or-set_same rows place xs [] here.0 in
+            let before : slice_index_or rows (2 * i) [] ≡ old = ap (λ n. slice_index_or rows n []) (sym is) ∙ here.1 in
+            let now = change (slice_index_or rows (2 * i + 1) []) (subst (λ z. IsPlainLane z (slice_index_or rows (2 * i + 1) []) was) before (kept.1 i was there)) in
+            let lane : IsPlainLane (slice_index_or (set rows place xs) (2 * i) []) (slice_index_or (set rows place xs) (2 * i + 1) []) l = subst (λ z. IsPlainLane z (slice_index_or (set rows place xs) (2 * i + 1) []) l) (sym mine) (subst (λ z. IsPlainLane xs z l) (sym other) now) in
+            subst (IsPlainLane (slice_index_or (set rows place xs) (2 * j) []) (slice_index_or (set rows place xs) (2 * j + 1) [])) is_l (subst (λ (n : ℕ). IsPlainLane (slice_index_or (set rows place xs) (2 * n) []) (slice_index_or (set rows place xs) (2 * n + 1) []) l) (sym same) lane))
+            (λ apart. let k = kept.1 j m (sym (slice_get-set_other lanes i j l apart) ∙ e) in
+            let a : slice_index_or (set rows place xs) (2 * j) [] ≡ slice_index_or rows (2 * j) [] = get_or-set_other rows place (2 * j) xs [] (λ q. apart (omega arith)) in
+            let b : slice_index_or (set rows place xs) (2 * j + 1) [] ≡ slice_index_or rows (2 * j + 1) [] = get_or-set_other rows place (2 * j + 1) xs [] (λ q. omega arith) in
+            subst (λ z. IsPlainLane z (slice_index_or (set rows place xs) (2 * j + 1) []) m) (sym a) (subst (λ z. IsPlainLane (slice_index_or rows (2 * j) []) z m) (sym b) k)),
+      )
+
+  with_job-append : (job : J) (xs ys : List (Mark (A × J) J)) → with_job job (xs ++ ys) ≡ with_job job xs ++ with_job job ys
+  with_job-append job [] ys = refl
+  with_job-append job (Job j ∷ xs) ys = ap (λ z. Job j ∷ z) (with_job-append job xs ys)
+  with_job-append job (Value p ∷ xs) ys = ap (λ z. Value (p.0, job) ∷ z) (with_job-append job xs ys)
+  with_job-append job (End w ∷ xs) ys = ap (λ z. End w ∷ z) (with_job-append job xs ys)
+  with_job-append job (Shut ∷ xs) ys = ap (λ z. Shut ∷ z) (with_job-append job xs ys)
+
+  job_of-append : (xs ys : List (Mark (A × J) J)) (job : J) → lane_job xs ≡ Some job → lane_job (xs ++ ys) ≡ Some job
+  job_of-append [] ys job e = absurd cc
+  job_of-append (Job j ∷ xs) ys job e = e
+  job_of-append (Value p ∷ xs) ys job e = absurd cc
+  job_of-append (End w ∷ xs) ys job e = absurd cc
+  job_of-append (Shut ∷ xs) ys job e = absurd cc
+
+  job_same : (xs ys : List (Mark (A × J) J)) (job other : J) → lane_job xs ≡ Some job → lane_job (xs ++ ys) ≡ Some other → other ≡ job
+  job_same xs ys job other e f = let g = job_of-append xs ys job e in cc
+
+  -- a lane that is not full takes a value
+  pub lane_takes : (old taken : List (Mark (A × J) J)) (p : A × J) (was l : PlainLane (A × J) J) → lane_job old ≡ Some p.1 → is_unclosed old ≡ true → was.shut ≡ false → l.shut ≡ was.shut → l.room ≡ was.room → length was.queue.items < was.room
+      → l.queue ≡ buffer (keep_last was.queue.capacity (was.queue.items ++ Value p ∷ [])) was.queue.capacity → IsPlainLane old taken was → IsPlainLane (old ++ Value p ∷ []) taken l
+  lane_takes old taken p was l job still opened shut room space queue k =
+      let long = length-append was.queue.items (Value p ∷ []) in let wide = k.capacity in
+      let fit : length (was.queue.items ++ Value p ∷ []) ≤ was.queue.capacity = omega arith in
+      let items : l.queue.items ≡ was.queue.items ++ Value p ∷ [] = ap (λ b. b.items) queue ∙ kept_whole was.queue.capacity (was.queue.items ++ Value p ∷ []) fit in record {
+        shut = shut ∙ k.shut;
+        queue = λ _. ap (λ z. z ++ Value p ∷ []) (k.queue opened) ∙ (append_assoc taken was.queue.items (Value p ∷ []) ∙ ap (λ z. taken ++ z) (sym items));
+        jobs = λ _ other is. let same : other ≡ p.1 = job_same old (Value p ∷ []) p.1 other job is in
+            subst (λ (z : J). AreFor z (old ++ Value p ∷ [])) (sym same) (with_job-append p.1 old (Value p ∷ []) ∙ ap (λ z. z ++ Value p ∷ []) (k.jobs opened p.1 job));
+        capacity = ap (λ b. b.capacity) queue ∙ (k.capacity ∙ ap (λ n. n + 1) (sym room));
+        fits = λ _. let more = ap length items in omega arith;
+      }

@@ -1,0 +1,62 @@
+//! The lanes of one thread.
+ghost use Rattle.std.specs.Prelude.{◌≡◌, ℕ, ◌*◌, ◌≤◌, true, false, [], ◌∷◌, ◌++◌, length, slice_get, Some, IfOk, OnOk, OnErr, IfErr};
+ghost use Rattle.morsel_prims.specs.Marks.{ArePlainLanes, is_unclosed, lane_job, recv_waits_of};
+ghost use Rattle.morsel_prims.specs.Polled.{refused_value, IfFull, IfClosed};
+ghost use Rattle.morsel_prims.specs.Rows.{place_of_row, list_of_row};
+ghost use Rattle.morsel_prims.specs.declared.plain_item.Mark.TheVariants.{Value};
+ghost use Rattle.morsel_prims.specs.declared.plain_item.PlainLane.{PlainLane};
+
+use crate::lane::{Message, SendError};
+use crate::plain_item::{Mark, PlainLane, Suited};
+use crate::roll::{Roll, RollRow};
+use crate::task::Board;
+use morsel_meaning::TaskNo;
+
+/// All lanes of one thread.
+#[derive(Drop)]
+pub struct PlainBoard<T: Message> {
+    roll: Roll<Mark<Suited<T>, T::Job>>,
+    lanes: Vec<PlainLane<Suited<T>, T::Job>>,
+    ghost kept: { ArePlainLanes roll.seat.me.0.rows lanes.items },
+}
+
+impl<T: Message> Board for PlainBoard<T> {
+    ghost id = { λ board. board.roll.seat.table_id };
+}
+
+impl<T: Message> PlainBoard<T> {
+    /// The lane takes the value, if it has room. The task that waits for it is handed out.
+    fn send(
+        &mut self,
+        index: usize,
+        mine: &mut RollRow<Mark<Suited<T>, T::Job>>,
+        value: Suited<T>,
+    ) -> Result<Option<TaskNo>, SendError<Suited<T>>>
+        requires table { mine.old.badge.table_id ≡ self.old.roll.seat.table_id }
+        requires place { place_of_row mine.old.badge.views ≡ 2 * index }
+        requires unclosed { is_unclosed (list_of_row mine.old.badge.views) ≡ true }
+        requires job { lane_job (list_of_row mine.old.badge.views) ≡ Some value.1 }
+        ensures table { (self.new.roll.seat.table_id ≡ self.old.roll.seat.table_id) × (mine.new.badge.table_id ≡ mine.old.badge.table_id) × (place_of_row mine.new.badge.views ≡ place_of_row mine.old.badge.views) }
+        ensures sent { OnOk result (list_of_row mine.new.badge.views ≡ list_of_row mine.old.badge.views ++ Value value ∷ []) }
+        ensures woken { IfOk result (λ task. task ≡ recv_waits_of (slice_get self.old.lanes.items index)) }
+        ensures err { OnErr result (list_of_row mine.new.badge.views ≡ list_of_row mine.old.badge.views) }
+        ensures back { IfErr result (λ refused. refused_value refused ≡ value) }
+        ensures full { IfErr result (λ refused. IfFull refused ((lane : PlainLane _ _) × (slice_get self.new.lanes.items index ≡ Some lane) × (lane.shut ≡ false) × (lane.room ≤ length lane.queue.items))) }
+        ensures closed { IfErr result (λ refused. IfClosed refused ((lane : PlainLane _ _) × (slice_get self.new.lanes.items index ≡ Some lane) × (lane.shut ≡ true))) }
+    {
+        let PlainBoard { roll, lanes } = self;
+        roll.look(mine);
+        let lane = &lanes[index];
+        if lane.shut {
+            return Err(SendError::Closed(value));
+        }
+        if lane.queue.len() >= lane.room as usize {
+            return Err(SendError::Full(value));
+        }
+        let mark = Mark::Value(value);
+        roll.write(mine, &mark);
+        let lane = &mut lanes[index];
+        let _ = lane.queue.push_back(mark);
+        Ok(lane.recv_waits.take())
+    }
+}
