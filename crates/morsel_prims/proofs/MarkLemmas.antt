@@ -10,7 +10,7 @@ use Rattle.circular_buffer.specs.Buffer.{buffer, keep_last}
 use Rattle.morsel_prims.specs.declared.plain_item.Mark.{Mark}
 use Rattle.morsel_prims.specs.declared.plain_item.Mark.TheVariants.{Job, Value, End, Shut}
 use Rattle.morsel_prims.specs.declared.plain_item.PlainLane.{PlainLane}
-use Rattle.morsel_prims.specs.Marks.{lane_values, is_unclosed, is_shut, lane_job, with_job, AreFor, IsPlainLane, ArePlainLanes}
+use Rattle.morsel_prims.specs.Marks.{lane_values, is_unclosed, is_shut, lane_job, with_job, AreFor, IsPlainLane, ArePlainLanes, are_sendable}
 
 pub found : {A : Type 0} (xs : List A) (i : ℕ) (x : A) → i < length xs → x ≡ get_or xs i x → slice_get xs i ≡ Some x
 found xs i x small is = let y = slice_get-some xs i small in y.1 ∙ ap Some (sym (is ∙ get_or_from_slice_get xs i y.0 x y.1))
@@ -67,6 +67,107 @@ module _ {A J : Type 0} where
   job_same : (xs ys : List (Mark (A × J) J)) (job other : J) → lane_job xs ≡ Some job → lane_job (xs ++ ys) ≡ Some other → other ≡ job
   job_same xs ys job other e f = let g = job_of-append xs ys job e in cc
 
+  sendable-value : (xs : List (Mark (A × J) J)) (p : A × J) → are_sendable xs ≡ true → are_sendable (xs ++ Value p ∷ []) ≡ true
+  sendable-value [] p e = refl
+  sendable-value (Job j ∷ xs) p e = absurd cc
+  sendable-value (Value q ∷ xs) p e = sendable-value xs p e
+  sendable-value (End w ∷ xs) p e = sendable-value xs p e
+  sendable-value (Shut ∷ xs) p e = absurd cc
+
+  sendable-end : (xs : List (Mark (A × J) J)) (w : Bool) → are_sendable xs ≡ true → are_sendable (xs ++ End w ∷ []) ≡ true
+  sendable-end [] w e = refl
+  sendable-end (Job j ∷ xs) w e = absurd cc
+  sendable-end (Value q ∷ xs) w e = sendable-end xs w e
+  sendable-end (End v ∷ xs) w e = sendable-end xs w e
+  sendable-end (Shut ∷ xs) w e = absurd cc
+
+  closed-end : (xs : List (Mark (A × J) J)) (w : Bool) → is_unclosed (xs ++ End w ∷ []) ≡ false
+  closed-end [] w = refl
+  closed-end (Job j ∷ xs) w = closed-end xs w
+  closed-end (Value q ∷ xs) w = closed-end xs w
+  closed-end (End v ∷ xs) w = refl
+  closed-end (Shut ∷ xs) w = refl
+
+  job-front : (xs : List (Mark (A × J) J)) (w : Bool) (job : J) → lane_job (xs ++ End w ∷ []) ≡ Some job → lane_job xs ≡ Some job
+  job-front [] w job e = absurd cc
+  job-front (Job j ∷ xs) w job e = e
+  job-front (Value q ∷ xs) w job e = absurd cc
+  job-front (End v ∷ xs) w job e = absurd cc
+  job-front (Shut ∷ xs) w job e = absurd cc
+
+  -- the sender closes
+  pub lane_ends : (old taken : List (Mark (A × J) J)) (w : Bool) (was l : PlainLane (A × J) J) → is_unclosed old ≡ true → l.shut ≡ was.shut → l.room ≡ was.room
+      → l.queue ≡ buffer (keep_last was.queue.capacity (was.queue.items ++ End w ∷ [])) was.queue.capacity → IsPlainLane old taken was → IsPlainLane (old ++ End w ∷ []) taken l
+  lane_ends old taken w was l still shut room queue k =
+      let long = length-append was.queue.items (End w ∷ []) in let wide = k.capacity in let space = k.fits still in
+      let fit : length (was.queue.items ++ End w ∷ []) ≤ was.queue.capacity = omega arith in
+      let items : l.queue.items ≡ was.queue.items ++ End w ∷ [] = ap (λ b. b.items) queue ∙ kept_whole was.queue.capacity (was.queue.items ++ End w ∷ []) fit in record {
+        shut = shut ∙ k.shut;
+        queue = λ opened. ap (λ z. z ++ End w ∷ []) (k.queue (sym shut ∙ opened)) ∙ (append_assoc taken was.queue.items (End w ∷ []) ∙ ap (λ z. taken ++ z) (sym items));
+        jobs = λ opened job is. with_job-append job old (End w ∷ []) ∙ ap (λ z. z ++ End w ∷ []) (k.jobs (sym shut ∙ opened) job (job-front old w job is));
+        sendable = ap are_sendable items ∙ sendable-end was.queue.items w k.sendable;
+        capacity = ap (λ b. b.capacity) queue ∙ (k.capacity ∙ ap (λ n. n + 1) (sym room));
+        fits = λ e. absurd (false_true (sym (closed-end old w) ∙ e));
+      }
+    where
+      false_true : false ≡ true → ⊥
+      false_true e = cc
+
+  -- lane i is now l, and what its receiver took xs
+  pub taken_changes : (rows : List (List (Mark (A × J) J))) (lanes : List (PlainLane (A × J) J)) (place i : ℕ) (old xs : List (Mark (A × J) J)) (was l : PlainLane (A × J) J) → ArePlainLanes rows lanes → get_elem? rows place ≡ some old → place ≡ 2 * i + 1 → slice_get lanes i ≡ Some was
+      → ((sent : List (Mark (A × J) J)) → IsPlainLane sent old was → IsPlainLane sent xs l) → ArePlainLanes (set rows place xs) (set lanes i l)
+  taken_changes rows lanes place i old xs was l kept at is there change =
+      let here = row_there rows place old at in let wide = kept.0 in let small : i < length lanes = omega arith in (
+        length-set rows place xs ∙ (kept.0 ∙ ap (λ n. 2 * n) (sym (length-set lanes i l))),
+        λ j m e. dite (ℕ_discrete j i)
+            (λ same. let is_l : l ≡ m = same_lane l m (sym (slice_get-set_same lanes i l small) ∙ subst (λ (n : ℕ). slice_get (set lanes i l) n ≡ Some m) same e) in
+            let other : slice_index_or (set rows place xs) (2 * i) [] ≡ slice_index_or rows (2 * i) [] = get_or-set_other rows place (2 * i) xs [] (λ q. omega arith) in
+            let mine : slice_index_or (set rows place xs) (2 * i + 1) [] ≡ xs = ap (λ n. slice_index_or (set rows place xs) n []) (sym is) ∙ get_or-set_same rows place xs [] here.0 in
+            let before : slice_index_or rows (2 * i + 1) [] ≡ old = ap (λ n. slice_index_or rows n []) (sym is) ∙ here.1 in
+            let now = change (slice_index_or rows (2 * i) []) (subst (λ z. IsPlainLane (slice_index_or rows (2 * i) []) z was) before (kept.1 i was there)) in
+            let lane : IsPlainLane (slice_index_or (set rows place xs) (2 * i) []) (slice_index_or (set rows place xs) (2 * i + 1) []) l = subst (λ z. IsPlainLane (slice_index_or (set rows place xs) (2 * i) []) z l) (sym mine) (subst (λ z. IsPlainLane z xs l) (sym other) now) in
+            subst (IsPlainLane (slice_index_or (set rows place xs) (2 * j) []) (slice_index_or (set rows place xs) (2 * j + 1) [])) is_l (subst (λ (n : ℕ). IsPlainLane (slice_index_or (set rows place xs) (2 * n) []) (slice_index_or (set rows place xs) (2 * n + 1) []) l) (sym same) lane))
+            (λ apart. let k = kept.1 j m (sym (slice_get-set_other lanes i j l apart) ∙ e) in
+            let a : slice_index_or (set rows place xs) (2 * j) [] ≡ slice_index_or rows (2 * j) [] = get_or-set_other rows place (2 * j) xs [] (λ q. omega arith) in
+            let b : slice_index_or (set rows place xs) (2 * j + 1) [] ≡ slice_index_or rows (2 * j + 1) [] = get_or-set_other rows place (2 * j + 1) xs [] (λ q. apart (omega arith)) in
+            subst (λ z. IsPlainLane z (slice_index_or (set rows place xs) (2 * j + 1) []) m) (sym a) (subst (λ z. IsPlainLane (slice_index_or rows (2 * j) []) z m) (sym b) k)),
+      )
+
+  unshut : (xs rest : List (Mark (A × J) J)) (x : Mark (A × J) J) → are_sendable (x ∷ rest) ≡ true → is_shut (xs ++ x ∷ []) ≡ is_shut xs
+  unshut [] rest (Job j) s = absurd cc
+  unshut [] rest (Value p) s = refl
+  unshut [] rest (End w) s = refl
+  unshut [] rest Shut s = absurd cc
+  unshut (Job j ∷ xs) rest x s = unshut xs rest x s
+  unshut (Value p ∷ xs) rest x s = unshut xs rest x s
+  unshut (End w ∷ xs) rest x s = unshut xs rest x s
+  unshut (Shut ∷ xs) rest x s = refl
+
+  sendable-rest : (x : Mark (A × J) J) (rest : List (Mark (A × J) J)) → are_sendable (x ∷ rest) ≡ true → are_sendable rest ≡ true
+  sendable-rest (Job j) rest s = absurd cc
+  sendable-rest (Value p) rest s = s
+  sendable-rest (End w) rest s = s
+  sendable-rest Shut rest s = absurd cc
+
+  pub sendable-first : (x : Mark (A × J) J) (rest : List (Mark (A × J) J)) → are_sendable (x ∷ rest) ≡ true → are_sendable (x ∷ []) ≡ true
+  sendable-first (Job j) rest s = absurd cc
+  sendable-first (Value p) rest s = refl
+  sendable-first (End w) rest s = refl
+  sendable-first Shut rest s = absurd cc
+
+  -- the receiver takes what comes first
+  pub lane_gives : (sent old : List (Mark (A × J) J)) (x : Mark (A × J) J) (was l : PlainLane (A × J) J) → was.queue.items ≡ x ∷ l.queue.items → l.queue.capacity ≡ was.queue.capacity → l.shut ≡ was.shut → l.room ≡ was.room
+      → IsPlainLane sent old was → IsPlainLane sent (old ++ x ∷ []) l
+  lane_gives sent old x was l first capacity shut room k =
+      let s : are_sendable (x ∷ l.queue.items) ≡ true = sym (ap are_sendable first) ∙ k.sendable in record {
+        shut = shut ∙ (k.shut ∙ sym (unshut old l.queue.items x s));
+        queue = λ opened. k.queue (sym shut ∙ opened) ∙ (ap (λ z. old ++ z) first ∙ sym (append_assoc old (x ∷ []) l.queue.items));
+        jobs = λ opened job is. k.jobs (sym shut ∙ opened) job is;
+        sendable = sendable-rest x l.queue.items s;
+        capacity = capacity ∙ (k.capacity ∙ ap (λ n. n + 1) (sym room));
+        fits = λ e. let most = k.fits e in let fewer = ap length first in omega arith;
+      }
+
   -- a lane that is not full takes a value
   pub lane_takes : (old taken : List (Mark (A × J) J)) (p : A × J) (was l : PlainLane (A × J) J) → lane_job old ≡ Some p.1 → is_unclosed old ≡ true → was.shut ≡ false → l.shut ≡ was.shut → l.room ≡ was.room → length was.queue.items < was.room
       → l.queue ≡ buffer (keep_last was.queue.capacity (was.queue.items ++ Value p ∷ [])) was.queue.capacity → IsPlainLane old taken was → IsPlainLane (old ++ Value p ∷ []) taken l
@@ -78,6 +179,7 @@ module _ {A J : Type 0} where
         queue = λ _. ap (λ z. z ++ Value p ∷ []) (k.queue opened) ∙ (append_assoc taken was.queue.items (Value p ∷ []) ∙ ap (λ z. taken ++ z) (sym items));
         jobs = λ _ other is. let same : other ≡ p.1 = job_same old (Value p ∷ []) p.1 other job is in
             subst (λ (z : J). AreFor z (old ++ Value p ∷ [])) (sym same) (with_job-append p.1 old (Value p ∷ []) ∙ ap (λ z. z ++ Value p ∷ []) (k.jobs opened p.1 job));
+        sendable = ap are_sendable items ∙ sendable-value was.queue.items p k.sendable;
         capacity = ap (λ b. b.capacity) queue ∙ (k.capacity ∙ ap (λ n. n + 1) (sym room));
         fits = λ _. let more = ap length items in omega arith;
       }

@@ -29,6 +29,14 @@ is_shut (Value p ∷ marks) = is_shut marks
 is_shut (End w ∷ marks) = is_shut marks
 is_shut (Shut ∷ marks) = true
 
+-- nothing but values and ends
+abbrev pub are_sendable : {A J : Type 0} → List (Mark (A × J) J) → Bool
+are_sendable [] = true
+are_sendable (Job j ∷ marks) = false
+are_sendable (Value p ∷ marks) = are_sendable marks
+are_sendable (End w ∷ marks) = are_sendable marks
+are_sendable (Shut ∷ marks) = false
+
 -- what the lane is for
 abbrev pub lane_job : {A J : Type 0} → List (Mark (A × J) J) → Option J
 lane_job [] = None
@@ -54,6 +62,7 @@ pub record IsPlainLane {A J : Type 0} (sent taken : List (Mark (A × J) J)) (lan
   pub shut : lane.shut ≡ is_shut taken
   pub queue : lane.shut ≡ false → sent ≡ taken ++ lane.queue.items
   pub jobs : lane.shut ≡ false → (job : J) → lane_job sent ≡ Some job → AreFor job sent
+  pub sendable : are_sendable lane.queue.items ≡ true
   pub capacity : lane.queue.capacity ≡ lane.room + 1
   pub fits : is_unclosed sent ≡ true → length lane.queue.items ≤ lane.room
 

@@ -3,7 +3,7 @@ ghost use Rattle.std.specs.Prelude.{◌≡◌, ℕ, ◌*◌, ◌≤◌, true, fa
 ghost use Rattle.morsel_prims.specs.Marks.{ArePlainLanes, is_unclosed, lane_job, recv_waits_of};
 ghost use Rattle.morsel_prims.specs.Polled.{refused_value, IfFull, IfClosed};
 ghost use Rattle.morsel_prims.specs.Rows.{place_of_row, list_of_row};
-ghost use Rattle.morsel_prims.specs.declared.plain_item.Mark.TheVariants.{Value};
+ghost use Rattle.morsel_prims.specs.declared.plain_item.Mark.TheVariants.{Value, End};
 ghost use Rattle.morsel_prims.specs.declared.plain_item.PlainLane.{PlainLane};
 
 use crate::lane::{Message, SendError};
@@ -58,5 +58,27 @@ impl<T: Message> PlainBoard<T> {
         let lane = &mut lanes[index];
         let _ = lane.queue.push_back(mark);
         Ok(lane.recv_waits.take())
+    }
+
+    /// The sender closes the lane. The task that waits for it is handed out.
+    fn close(
+        &mut self,
+        index: usize,
+        mine: &mut RollRow<Mark<Suited<T>, T::Job>>,
+        whole: bool,
+    ) -> Option<TaskNo>
+        requires table { mine.old.badge.table_id ≡ self.old.roll.seat.table_id }
+        requires place { place_of_row mine.old.badge.views ≡ 2 * index }
+        requires unclosed { is_unclosed (list_of_row mine.old.badge.views) ≡ true }
+        ensures table { (self.new.roll.seat.table_id ≡ self.old.roll.seat.table_id) × (mine.new.badge.table_id ≡ mine.old.badge.table_id) × (place_of_row mine.new.badge.views ≡ place_of_row mine.old.badge.views) }
+        ensures ended { list_of_row mine.new.badge.views ≡ list_of_row mine.old.badge.views ++ End whole ∷ [] }
+        ensures woken { result ≡ recv_waits_of (slice_get self.old.lanes.items index) }
+    {
+        let PlainBoard { roll, lanes } = self;
+        let mark = Mark::End(whole);
+        roll.write(mine, &mark);
+        let lane = &mut lanes[index];
+        let _ = lane.queue.push_back(mark);
+        lane.recv_waits.take()
     }
 }
