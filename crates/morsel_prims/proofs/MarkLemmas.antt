@@ -23,6 +23,19 @@ row_there [] k xs e = absurd (some-ne-none xs (sym e))
 row_there (y ∷ ys) zero xs e = (omega arith, some-injective y xs e)
 row_there (y ∷ ys) (suc k) xs e = let r = row_there ys k xs e in (omega arith, r.1)
 
+-- the first of a list, and the rest
+pub first_rest : {X : Type 0} (xs : List X) (x : X) → slice_get xs 0 ≡ Some x → xs ≡ x ∷ drop 1 xs
+first_rest [] x e = absurd cc
+first_rest (y ∷ ys) x e = let same : y ≡ x = some_same y x e in ap (λ z. z ∷ ys) same
+  where
+    some_same : {X : Type 0} (a b : X) → Some a ≡ Some b → a ≡ b
+    some_same a b e = cc
+
+-- a list without a first
+pub none_first : {X : Type 0} (xs : List X) → slice_get xs 0 ≡ None → xs ≡ []
+none_first [] e = refl
+none_first (y ∷ ys) e = absurd cc
+
 module _ {A J : Type 0} where
   pub lane_within : (rows : List (List (Mark (A × J) J))) (lanes : List (PlainLane (A × J) J)) (place i : ℕ) (xs : List (Mark (A × J) J)) → ArePlainLanes rows lanes → get_elem? rows place ≡ some xs → place ≡ 2 * i → i < length lanes
   lane_within rows lanes place i xs kept at is = let r = row_there rows place xs at in let n = kept.0 in omega arith
@@ -183,3 +196,51 @@ module _ {A J : Type 0} where
         capacity = ap (λ b. b.capacity) queue ∙ (k.capacity ∙ ap (λ n. n + 1) (sym room));
         fits = λ _. let more = ap length items in omega arith;
       }
+
+  -- lane i is now l, and the rows are what they were
+  pub lane_changes : (rows : List (List (Mark (A × J) J))) (lanes : List (PlainLane (A × J) J)) (i : ℕ) (was l : PlainLane (A × J) J) → ArePlainLanes rows lanes → i < length lanes → slice_get lanes i ≡ Some was
+      → ((sent taken : List (Mark (A × J) J)) → IsPlainLane sent taken was → IsPlainLane sent taken l) → ArePlainLanes rows (set lanes i l)
+  lane_changes rows lanes i was l kept small there change = (
+    kept.0 ∙ ap (λ n. 2 * n) (sym (length-set lanes i l)),
+    λ j m e. dite (ℕ_discrete j i)
+        (λ same. let is_l : l ≡ m = same_lane l m (sym (slice_get-set_same lanes i l small) ∙ subst (λ (n : ℕ). slice_get (set lanes i l) n ≡ Some m) same e) in
+        let now = change (slice_index_or rows (2 * i) []) (slice_index_or rows (2 * i + 1) []) (kept.1 i was there) in
+        subst (IsPlainLane (slice_index_or rows (2 * j) []) (slice_index_or rows (2 * j + 1) [])) is_l (subst (λ (n : ℕ). IsPlainLane (slice_index_or rows (2 * n) []) (slice_index_or rows (2 * n + 1) []) l) (sym same) now))
+        (λ apart. kept.1 j m (sym (slice_get-set_other lanes i j l apart) ∙ e)),
+  )
+
+  -- what waits is no part of what a lane has
+  pub lane_waits : (sent taken : List (Mark (A × J) J)) (was l : PlainLane (A × J) J) → l.shut ≡ was.shut → l.room ≡ was.room → l.queue ≡ was.queue → IsPlainLane sent taken was → IsPlainLane sent taken l
+  lane_waits sent taken was l shut room queue k = record {
+    shut = shut ∙ k.shut;
+    queue = λ opened. k.queue (sym shut ∙ opened) ∙ ap (λ q. taken ++ q.items) (sym queue);
+    jobs = λ opened. k.jobs (sym shut ∙ opened);
+    sendable = ap (λ q. are_sendable q.items) queue ∙ k.sendable;
+    capacity = ap (λ q. q.capacity) queue ∙ (k.capacity ∙ ap (λ n. n + 1) (sym room));
+    fits = λ e. let most = k.fits e in let same = ap (λ q. length q.items) queue in omega arith;
+  }
+
+  shut-last : (xs : List (Mark (A × J) J)) → is_shut (xs ++ Shut ∷ []) ≡ true
+  shut-last [] = refl
+  shut-last (Job j ∷ xs) = shut-last xs
+  shut-last (Value p ∷ xs) = shut-last xs
+  shut-last (End w ∷ xs) = shut-last xs
+  shut-last (Shut ∷ xs) = refl
+
+  -- the receiver closes
+  pub lane_shuts : (sent old : List (Mark (A × J) J)) (was l : PlainLane (A × J) J) → l.shut ≡ true → l.room ≡ was.room → l.queue ≡ was.queue → IsPlainLane sent old was → IsPlainLane sent (old ++ Shut ∷ []) l
+  lane_shuts sent old was l shut room queue k = record {
+    shut = shut ∙ sym (shut-last old);
+    queue = λ opened. absurd (true_false (sym shut ∙ opened));
+    jobs = λ opened. absurd (true_false (sym shut ∙ opened));
+    sendable = ap (λ q. are_sendable q.items) queue ∙ k.sendable;
+    capacity = ap (λ q. q.capacity) queue ∙ (k.capacity ∙ ap (λ n. n + 1) (sym room));
+    fits = λ e. let most = k.fits e in let same = ap (λ q. length q.items) queue in omega arith;
+  }
+    where
+      true_false : true ≡ false → ⊥
+      true_false e = cc
+
+  -- the lane of a receiver's row
+  pub taken_within : (rows : List (List (Mark (A × J) J))) (lanes : List (PlainLane (A × J) J)) (place i : ℕ) (xs : List (Mark (A × J) J)) → ArePlainLanes rows lanes → get_elem? rows place ≡ some xs → place ≡ 2 * i + 1 → i < length lanes
+  taken_within rows lanes place i xs kept at is = let r = row_there rows place xs at in let n = kept.0 in omega arith

@@ -1,6 +1,6 @@
 //! The lanes of one thread.
-ghost use Rattle.std.specs.Prelude.{◌≡◌, ℕ, ◌*◌, ◌≤◌, true, false, [], ◌∷◌, ◌++◌, length, slice_get, Some, IfOk, OnOk, OnErr, IfErr};
-ghost use Rattle.morsel_prims.specs.Marks.{ArePlainLanes, is_unclosed, lane_job, recv_waits_of};
+ghost use Rattle.std.specs.Prelude.{◌≡◌, ℕ, ◌*◌, ◌≤◌, true, false, [], ◌∷◌, ◌++◌, length, slice_get, Some, IfOk, OnOk, OnErr, IfErr, IfSome, IsNone, ◌+◌};
+ghost use Rattle.morsel_prims.specs.Marks.{ArePlainLanes, AreFor, are_sendable, is_unclosed, lane_job, recv_waits_of, send_waits_of};
 ghost use Rattle.morsel_prims.specs.Polled.{refused_value, IfFull, IfClosed};
 ghost use Rattle.morsel_prims.specs.Rows.{place_of_row, list_of_row};
 ghost use Rattle.morsel_prims.specs.declared.plain_item.Mark.TheVariants.{Value, End};
@@ -80,5 +80,64 @@ impl<T: Message> PlainBoard<T> {
         let lane = &mut lanes[index];
         let _ = lane.queue.push_back(mark);
         lane.recv_waits.take()
+    }
+
+    /// Takes what comes first. The task that waits for room is handed out.
+    fn take(
+        &mut self,
+        index: usize,
+        mine: &mut RollRow<Mark<Suited<T>, T::Job>>,
+    ) -> Option<(Mark<Suited<T>, T::Job>, Option<TaskNo>)>
+        requires table { mine.old.badge.table_id ≡ self.old.roll.seat.table_id }
+        requires place { place_of_row mine.old.badge.views ≡ 2 * index + 1 }
+        ensures table { (self.new.roll.seat.table_id ≡ self.old.roll.seat.table_id) × (mine.new.badge.table_id ≡ mine.old.badge.table_id) × (place_of_row mine.new.badge.views ≡ place_of_row mine.old.badge.views) }
+        ensures taken { IfSome result (λ taken. list_of_row mine.new.badge.views ≡ list_of_row mine.old.badge.views ++ taken.0 ∷ []) }
+        ensures sendable { IfSome result (λ taken. are_sendable (taken.0 ∷ []) ≡ true) }
+        ensures job { IfSome result (λ taken. (job : _) → is_unclosed (list_of_row mine.old.badge.views) ≡ true → lane_job (list_of_row mine.old.badge.views) ≡ Some job → AreFor job (taken.0 ∷ [])) }
+        ensures woken { IfSome result (λ taken. taken.1 ≡ send_waits_of (slice_get self.old.lanes.items index)) }
+        ensures none { IsNone result → list_of_row mine.new.badge.views ≡ list_of_row mine.old.badge.views }
+        ensures empty { IsNone result → ((lane : PlainLane _ _) × (slice_get self.new.lanes.items index ≡ Some lane) × (lane.queue.items ≡ [])) }
+    {
+        let PlainBoard { roll, lanes } = self;
+        roll.look(mine);
+        let lane = &mut lanes[index];
+        let Some(mark) = lane.queue.pop_front() else {
+            return None;
+        };
+        roll.write(mine, &mark);
+        Some((mark, lane.send_waits.take()))
+    }
+
+    /// The receiver closes the lane. The task that waits for room is handed out.
+    fn shut(&mut self, index: usize, mine: &mut RollRow<Mark<Suited<T>, T::Job>>) -> Option<TaskNo>
+        requires table { mine.old.badge.table_id ≡ self.old.roll.seat.table_id }
+        requires place { place_of_row mine.old.badge.views ≡ 2 * index + 1 }
+        ensures table { (self.new.roll.seat.table_id ≡ self.old.roll.seat.table_id) × (mine.new.badge.table_id ≡ mine.old.badge.table_id) × (place_of_row mine.new.badge.views ≡ place_of_row mine.old.badge.views) }
+        ensures shut { (lane : PlainLane _ _) × (slice_get self.new.lanes.items index ≡ Some lane) × (lane.shut ≡ true) }
+        ensures woken { result ≡ send_waits_of (slice_get self.old.lanes.items index) }
+    {
+        let PlainBoard { roll, lanes } = self;
+        roll.write(mine, &Mark::Shut);
+        let lane = &mut lanes[index];
+        lane.shut = true;
+        lane.send_waits.take()
+    }
+
+    /// The task waits until the lane has room.
+    fn wait_to_send(
+        &mut self,
+        index: usize,
+        mine: &mut RollRow<Mark<Suited<T>, T::Job>>,
+        task: TaskNo,
+    )
+        requires table { mine.old.badge.table_id ≡ self.old.roll.seat.table_id }
+        requires place { place_of_row mine.old.badge.views ≡ 2 * index }
+        ensures table { (self.new.roll.seat.table_id ≡ self.old.roll.seat.table_id) × (mine.new.badge.table_id ≡ mine.old.badge.table_id) × (mine.new.badge.views ≡ mine.old.badge.views) }
+        ensures waits { send_waits_of (slice_get self.new.lanes.items index) ≡ Some task }
+        ensures lane { (lane : PlainLane _ _) → slice_get self.old.lanes.items index ≡ Some lane → (now : PlainLane _ _) × (slice_get self.new.lanes.items index ≡ Some now) × (now.shut ≡ lane.shut) × (now.room ≡ lane.room) × (now.queue ≡ lane.queue) }
+    {
+        let PlainBoard { roll, lanes } = self;
+        roll.look(mine);
+        lanes[index].send_waits = Some(task);
     }
 }
