@@ -36,6 +36,10 @@ pub none_first : {X : Type 0} (xs : List X) → slice_get xs 0 ≡ None → xs �
 none_first [] e = refl
 none_first (y ∷ ys) e = absurd cc
 
+-- nothing is taken out of an empty queue
+pub popped_none : {X : Type 0} (b : Rattle.circular_buffer.specs.Buffer.Buffer X) → b.items ≡ [] → buffer (drop 1 b.items) b.capacity ≡ b
+popped_none b e = ap (λ z. buffer z b.capacity) (ap (drop 1) e ∙ sym e)
+
 module _ {A J : Type 0} where
   pub lane_within : (rows : List (List (Mark (A × J) J))) (lanes : List (PlainLane (A × J) J)) (place i : ℕ) (xs : List (Mark (A × J) J)) → ArePlainLanes rows lanes → get_elem? rows place ≡ some xs → place ≡ 2 * i → i < length lanes
   lane_within rows lanes place i xs kept at is = let r = row_there rows place xs at in let n = kept.0 in omega arith
@@ -244,3 +248,36 @@ module _ {A J : Type 0} where
   -- the lane of a receiver's row
   pub taken_within : (rows : List (List (Mark (A × J) J))) (lanes : List (PlainLane (A × J) J)) (place i : ℕ) (xs : List (Mark (A × J) J)) → ArePlainLanes rows lanes → get_elem? rows place ≡ some xs → place ≡ 2 * i + 1 → i < length lanes
   taken_within rows lanes place i xs kept at is = let r = row_there rows place xs at in let n = kept.0 in omega arith
+
+  for_tail : (job : J) (y : Mark (A × J) J) (ys : List (Mark (A × J) J)) → AreFor job (y ∷ ys) → AreFor job ys
+  for_tail job (Job j) ys e = ap (drop 1) e
+  for_tail job (Value p) ys e = ap (drop 1) e
+  for_tail job (End w) ys e = ap (drop 1) e
+  for_tail job Shut ys e = ap (drop 1) e
+
+  for_head : (job : J) (y : Mark (A × J) J) (ys : List (Mark (A × J) J)) → AreFor job (y ∷ ys) → AreFor job (y ∷ [])
+  for_head job (Job j) ys e = refl
+  for_head job (Value p) ys e = ap (Rattle.std.specs.Prelude.take 1) e
+  for_head job (End w) ys e = refl
+  for_head job Shut ys e = refl
+
+  for_middle : (job : J) (xs : List (Mark (A × J) J)) (x : Mark (A × J) J) (rest : List (Mark (A × J) J)) → AreFor job (xs ++ x ∷ rest) → AreFor job (x ∷ [])
+  for_middle job [] x rest e = for_head job x rest e
+  for_middle job (y ∷ ys) x rest e = for_middle job ys x rest (for_tail job y (ys ++ x ∷ rest) e)
+
+  open_unshut : (xs : List (Mark (A × J) J)) → is_unclosed xs ≡ true → is_shut xs ≡ false
+  open_unshut [] e = refl
+  open_unshut (Job j ∷ xs) e = open_unshut xs e
+  open_unshut (Value p ∷ xs) e = open_unshut xs e
+  open_unshut (End w ∷ xs) e = absurd cc
+  open_unshut (Shut ∷ xs) e = absurd cc
+
+  -- what comes first in a queue is for the lane's job
+  pub first_job : (rows : List (List (Mark (A × J) J))) (lanes : List (PlainLane (A × J) J)) (place i : ℕ) (old rest : List (Mark (A × J) J)) (x : Mark (A × J) J) (was : PlainLane (A × J) J) → ArePlainLanes rows lanes → get_elem? rows place ≡ some old → place ≡ 2 * i + 1 → slice_get lanes i ≡ Some was
+      → was.queue.items ≡ x ∷ rest → (job : J) → is_unclosed old ≡ true → lane_job old ≡ Some job → AreFor job (x ∷ [])
+  first_job rows lanes place i old rest x was kept at is there first job still for_job =
+      let here = row_there rows place old at in let before : slice_index_or rows (2 * i + 1) [] ≡ old = ap (λ n. slice_index_or rows n []) (sym is) ∙ here.1 in
+      let k = subst (λ z. IsPlainLane (slice_index_or rows (2 * i) []) z was) before (kept.1 i was there) in
+      let opened : was.shut ≡ false = k.shut ∙ open_unshut old still in
+      let whole : slice_index_or rows (2 * i) [] ≡ old ++ x ∷ rest = k.queue opened ∙ ap (λ z. old ++ z) first in
+      let all = k.jobs opened job (ap lane_job whole ∙ job_of-append old (x ∷ rest) job for_job) in for_middle job old x rest (subst (AreFor job) whole all)
