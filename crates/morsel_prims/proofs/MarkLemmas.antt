@@ -1,16 +1,16 @@
 -- What a board's lanes keep.
-use Rattle.std.proofs.Common.{◌≡◌, ◌≢◌, ℕ, zero, suc, ◌+◌, ◌*◌, ◌-◌, ◌<◌, ◌≤◌, Bool, true, false, List, [], ◌∷◌, ◌++◌, length, length-set, set, get_or, slice_index_or, slice_get, Option, Some, None, sym, refl, ap, ◌∙◌, subst, arith, get_or-set_same, get_or-set_other, append_assoc, length-append, drop}
+use Rattle.std.proofs.Common.{◌≡◌, ℕ, zero, suc, ◌+◌, ◌*◌, ◌-◌, ◌<◌, ◌≤◌, Bool, true, false, List, [], ◌∷◌, ◌++◌, length, length-set, set, get_or, slice_index_or, slice_get, Some, None, sym, refl, ap, ◌∙◌, subst, arith, get_or-set_same, get_or-set_other, append_assoc, length-append, drop}
 use mathlib.Core.Logic.{dite}
 use mathlib.Core.Option.{some, some-injective, some-ne-none}
 use native.Mathlib.Decide.{ℕ_discrete}
 use lib.ListN.{get_elem?}
 use Rattle.circular_buffer.proofs.Places.{slice_get-set_same, slice_get-set_other, slice_get-some}
-use Rattle.std.proofs.lemmas.Option.{slice_get_within, get_or_from_slice_get}
+use Rattle.std.proofs.lemmas.Option.{get_or_from_slice_get}
 use Rattle.circular_buffer.specs.Buffer.{buffer, keep_last}
 use Rattle.morsel_prims.specs.declared.plain_item.Mark.{Mark}
 use Rattle.morsel_prims.specs.declared.plain_item.Mark.TheVariants.{Job, Value, End, Shut}
 use Rattle.morsel_prims.specs.declared.plain_item.PlainLane.{PlainLane}
-use Rattle.morsel_prims.specs.Marks.{lane_values, is_unclosed, is_shut, lane_job, with_job, AreFor, IsPlainLane, ArePlainLanes, are_sendable}
+use Rattle.morsel_prims.specs.Marks.{is_unclosed, is_shut, lane_job, with_job, AreFor, IsPlainLane, ArePlainLanes, are_sendable}
 
 pub found : {A : Type 0} (xs : List A) (i : ℕ) (x : A) → i < length xs → x ≡ get_or xs i x → slice_get xs i ≡ Some x
 found xs i x small is = let y = slice_get-some xs i small in y.1 ∙ ap Some (sym (is ∙ get_or_from_slice_get xs i y.0 x y.1))

@@ -1,8 +1,6 @@
-use Rattle.std.proofs.Common.{rules, ap, sym, refl, ◌∙◌, subst, ◌≤◌, ◌≡◌, length, set, arith, [], ◌∷◌, ◌++◌}
+use Rattle.std.proofs.Common.{rules, ap, sym, refl, ◌∙◌, subst, ◌≡◌, set}
 use Rattle.morsel_prims.proofs.MarkLemmas.{lane_within, found, sent_changes, lane_ends}
 use Rattle.morsel_prims.specs.Marks.{ArePlainLanes, recv_waits_of}
-use Rattle.morsel_prims.specs.Rows.{place_of_row, list_of_row}
-use Rattle.morsel_prims.specs.declared.plain_item.Mark.TheVariants.{End}
 use Rattle.morsel_prims.proofs.plain_board.PlainBoard.close.Goals as goal
 
 pub index_mut-lane-requires : goal.index_mut-lane-requires

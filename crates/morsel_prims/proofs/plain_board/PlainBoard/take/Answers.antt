@@ -1,4 +1,4 @@
-use Rattle.std.proofs.Common.{rules, ap, sym, refl, ◌∙◌, subst, ◌≤◌, ◌≡◌, length, set, arith, [], ◌∷◌, ◌++◌, Some, None, drop, slice_get}
+use Rattle.std.proofs.Common.{rules, ap, sym, refl, ◌∙◌, subst, ◌≡◌, set, [], ◌∷◌, ◌++◌, Some, None, drop, slice_get}
 use Rattle.morsel_prims.specs.Marks.{ArePlainLanes, are_sendable, send_waits_of}
 use Rattle.morsel_prims.specs.Rows.{place_of_row, list_of_row}
 use Rattle.circular_buffer.proofs.Places.{slice_get-set_same}

@@ -1,4 +1,4 @@
-use Rattle.std.proofs.Common.{rules, ap, sym, refl, ◌∙◌, subst, ◌≤◌, ◌≡◌, length, set, arith, [], ◌∷◌, ◌++◌, Some, true, drop}
+use Rattle.std.proofs.Common.{rules, ap, sym, refl, ◌∙◌, subst, ◌≡◌, set, Some}
 use Rattle.morsel_prims.specs.Marks.{ArePlainLanes, send_waits_of}
 use Rattle.circular_buffer.proofs.Places.{slice_get-set_same}
 use Rattle.morsel_prims.proofs.MarkLemmas.{lane_within, found, lane_changes, lane_waits, same_lane}
