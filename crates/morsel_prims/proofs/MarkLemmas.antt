@@ -10,7 +10,7 @@ use Rattle.circular_buffer.specs.Buffer.{buffer, keep_last}
 use Rattle.morsel_prims.specs.declared.plain_item.Mark.{Mark}
 use Rattle.morsel_prims.specs.declared.plain_item.Mark.TheVariants.{Job, Value, End, Shut}
 use Rattle.morsel_prims.specs.declared.plain_item.PlainLane.{PlainLane}
-use Rattle.morsel_prims.specs.Marks.{is_unclosed, is_shut, lane_job, with_job, AreFor, IsPlainLane, ArePlainLanes, are_sendable}
+use Rattle.morsel_prims.specs.Marks.{is_unclosed, is_shut, lane_job, with_job, AreFor, IsPlainLane, ArePlainLanes, are_sendable, lane_room}
 
 pub found : {A : Type 0} (xs : List A) (i : ℕ) (x : A) → i < length xs → x ≡ get_or xs i x → slice_get xs i ≡ Some x
 found xs i x small is = let y = slice_get-some xs i small in y.1 ∙ ap Some (sym (is ∙ get_or_from_slice_get xs i y.0 x y.1))
@@ -69,14 +69,14 @@ module _ {A J : Type 0} where
 
   with_job-append : (job : J) (xs ys : List (Mark (A × J) J)) → with_job job (xs ++ ys) ≡ with_job job xs ++ with_job job ys
   with_job-append job [] ys = refl
-  with_job-append job (Job j ∷ xs) ys = ap (λ z. Job j ∷ z) (with_job-append job xs ys)
+  with_job-append job (Job j r ∷ xs) ys = ap (λ z. Job j r ∷ z) (with_job-append job xs ys)
   with_job-append job (Value p ∷ xs) ys = ap (λ z. Value (p.0, job) ∷ z) (with_job-append job xs ys)
   with_job-append job (End w ∷ xs) ys = ap (λ z. End w ∷ z) (with_job-append job xs ys)
   with_job-append job (Shut ∷ xs) ys = ap (λ z. Shut ∷ z) (with_job-append job xs ys)
 
   job_of-append : (xs ys : List (Mark (A × J) J)) (job : J) → lane_job xs ≡ Some job → lane_job (xs ++ ys) ≡ Some job
   job_of-append [] ys job e = absurd cc
-  job_of-append (Job j ∷ xs) ys job e = e
+  job_of-append (Job j r ∷ xs) ys job e = e
   job_of-append (Value p ∷ xs) ys job e = absurd cc
   job_of-append (End w ∷ xs) ys job e = absurd cc
   job_of-append (Shut ∷ xs) ys job e = absurd cc
@@ -86,31 +86,45 @@ module _ {A J : Type 0} where
 
   sendable-value : (xs : List (Mark (A × J) J)) (p : A × J) → are_sendable xs ≡ true → are_sendable (xs ++ Value p ∷ []) ≡ true
   sendable-value [] p e = refl
-  sendable-value (Job j ∷ xs) p e = absurd cc
+  sendable-value (Job j r ∷ xs) p e = absurd cc
   sendable-value (Value q ∷ xs) p e = sendable-value xs p e
   sendable-value (End w ∷ xs) p e = sendable-value xs p e
   sendable-value (Shut ∷ xs) p e = absurd cc
 
   sendable-end : (xs : List (Mark (A × J) J)) (w : Bool) → are_sendable xs ≡ true → are_sendable (xs ++ End w ∷ []) ≡ true
   sendable-end [] w e = refl
-  sendable-end (Job j ∷ xs) w e = absurd cc
+  sendable-end (Job j r ∷ xs) w e = absurd cc
   sendable-end (Value q ∷ xs) w e = sendable-end xs w e
   sendable-end (End v ∷ xs) w e = sendable-end xs w e
   sendable-end (Shut ∷ xs) w e = absurd cc
 
   closed-end : (xs : List (Mark (A × J) J)) (w : Bool) → is_unclosed (xs ++ End w ∷ []) ≡ false
   closed-end [] w = refl
-  closed-end (Job j ∷ xs) w = closed-end xs w
+  closed-end (Job j r ∷ xs) w = closed-end xs w
   closed-end (Value q ∷ xs) w = closed-end xs w
   closed-end (End v ∷ xs) w = refl
   closed-end (Shut ∷ xs) w = refl
 
   job-front : (xs : List (Mark (A × J) J)) (w : Bool) (job : J) → lane_job (xs ++ End w ∷ []) ≡ Some job → lane_job xs ≡ Some job
   job-front [] w job e = absurd cc
-  job-front (Job j ∷ xs) w job e = e
+  job-front (Job j r ∷ xs) w job e = e
   job-front (Value q ∷ xs) w job e = absurd cc
   job-front (End v ∷ xs) w job e = absurd cc
   job-front (Shut ∷ xs) w job e = absurd cc
+
+  room-front : (xs : List (Mark (A × J) J)) (w : Bool) (room : ℕ) → lane_room (xs ++ End w ∷ []) ≡ Some room → lane_room xs ≡ Some room
+  room-front [] w room e = absurd cc
+  room-front (Job j r ∷ xs) w room e = e
+  room-front (Value q ∷ xs) w room e = absurd cc
+  room-front (End v ∷ xs) w room e = absurd cc
+  room-front (Shut ∷ xs) w room e = absurd cc
+
+  room-before : (xs : List (Mark (A × J) J)) (p : A × J) (room : ℕ) → lane_room (xs ++ Value p ∷ []) ≡ Some room → lane_room xs ≡ Some room
+  room-before [] p room e = absurd cc
+  room-before (Job j r ∷ xs) p room e = e
+  room-before (Value q ∷ xs) p room e = absurd cc
+  room-before (End v ∷ xs) p room e = absurd cc
+  room-before (Shut ∷ xs) p room e = absurd cc
 
   -- the sender closes
   pub lane_ends : (old taken : List (Mark (A × J) J)) (w : Bool) (was l : PlainLane (A × J) J) → is_unclosed old ≡ true → l.shut ≡ was.shut → l.room ≡ was.room
@@ -123,6 +137,7 @@ module _ {A J : Type 0} where
         queue = λ opened. ap (λ z. z ++ End w ∷ []) (k.queue (sym shut ∙ opened)) ∙ (append_assoc taken was.queue.items (End w ∷ []) ∙ ap (λ z. taken ++ z) (sym items));
         jobs = λ opened job is. with_job-append job old (End w ∷ []) ∙ ap (λ z. z ++ End w ∷ []) (k.jobs (sym shut ∙ opened) job (job-front old w job is));
         sendable = ap are_sendable items ∙ sendable-end was.queue.items w k.sendable;
+        room = λ n is. room ∙ k.room n (room-front old w n is);
         capacity = ap (λ b. b.capacity) queue ∙ (k.capacity ∙ ap (λ n. n + 1) (sym room));
         fits = λ e. absurd (false_true (sym (closed-end old w) ∙ e));
       }
@@ -151,23 +166,23 @@ module _ {A J : Type 0} where
       )
 
   unshut : (xs rest : List (Mark (A × J) J)) (x : Mark (A × J) J) → are_sendable (x ∷ rest) ≡ true → is_shut (xs ++ x ∷ []) ≡ is_shut xs
-  unshut [] rest (Job j) s = absurd cc
+  unshut [] rest (Job j r) s = absurd cc
   unshut [] rest (Value p) s = refl
   unshut [] rest (End w) s = refl
   unshut [] rest Shut s = absurd cc
-  unshut (Job j ∷ xs) rest x s = unshut xs rest x s
+  unshut (Job j r ∷ xs) rest x s = unshut xs rest x s
   unshut (Value p ∷ xs) rest x s = unshut xs rest x s
   unshut (End w ∷ xs) rest x s = unshut xs rest x s
   unshut (Shut ∷ xs) rest x s = refl
 
   sendable-rest : (x : Mark (A × J) J) (rest : List (Mark (A × J) J)) → are_sendable (x ∷ rest) ≡ true → are_sendable rest ≡ true
-  sendable-rest (Job j) rest s = absurd cc
+  sendable-rest (Job j r) rest s = absurd cc
   sendable-rest (Value p) rest s = s
   sendable-rest (End w) rest s = s
   sendable-rest Shut rest s = absurd cc
 
   pub sendable-first : (x : Mark (A × J) J) (rest : List (Mark (A × J) J)) → are_sendable (x ∷ rest) ≡ true → are_sendable (x ∷ []) ≡ true
-  sendable-first (Job j) rest s = absurd cc
+  sendable-first (Job j r) rest s = absurd cc
   sendable-first (Value p) rest s = refl
   sendable-first (End w) rest s = refl
   sendable-first Shut rest s = absurd cc
@@ -181,6 +196,7 @@ module _ {A J : Type 0} where
         queue = λ opened. k.queue (sym shut ∙ opened) ∙ (ap (λ z. old ++ z) first ∙ sym (append_assoc old (x ∷ []) l.queue.items));
         jobs = λ opened job is. k.jobs (sym shut ∙ opened) job is;
         sendable = sendable-rest x l.queue.items s;
+        room = λ n is. room ∙ k.room n is;
         capacity = capacity ∙ (k.capacity ∙ ap (λ n. n + 1) (sym room));
         fits = λ e. let most = k.fits e in let fewer = ap length first in omega arith;
       }
@@ -197,6 +213,7 @@ module _ {A J : Type 0} where
         jobs = λ _ other is. let same : other ≡ p.1 = job_same old (Value p ∷ []) p.1 other job is in
             subst (λ (z : J). AreFor z (old ++ Value p ∷ [])) (sym same) (with_job-append p.1 old (Value p ∷ []) ∙ ap (λ z. z ++ Value p ∷ []) (k.jobs opened p.1 job));
         sendable = ap are_sendable items ∙ sendable-value was.queue.items p k.sendable;
+        room = λ n is. room ∙ k.room n (room-before old p n is);
         capacity = ap (λ b. b.capacity) queue ∙ (k.capacity ∙ ap (λ n. n + 1) (sym room));
         fits = λ _. let more = ap length items in omega arith;
       }
@@ -220,13 +237,14 @@ module _ {A J : Type 0} where
     queue = λ opened. k.queue (sym shut ∙ opened) ∙ ap (λ q. taken ++ q.items) (sym queue);
     jobs = λ opened. k.jobs (sym shut ∙ opened);
     sendable = ap (λ q. are_sendable q.items) queue ∙ k.sendable;
+    room = λ n is. room ∙ k.room n is;
     capacity = ap (λ q. q.capacity) queue ∙ (k.capacity ∙ ap (λ n. n + 1) (sym room));
     fits = λ e. let most = k.fits e in let same = ap (λ q. length q.items) queue in omega arith;
   }
 
   shut-last : (xs : List (Mark (A × J) J)) → is_shut (xs ++ Shut ∷ []) ≡ true
   shut-last [] = refl
-  shut-last (Job j ∷ xs) = shut-last xs
+  shut-last (Job j r ∷ xs) = shut-last xs
   shut-last (Value p ∷ xs) = shut-last xs
   shut-last (End w ∷ xs) = shut-last xs
   shut-last (Shut ∷ xs) = refl
@@ -238,6 +256,7 @@ module _ {A J : Type 0} where
     queue = λ opened. absurd (true_false (sym shut ∙ opened));
     jobs = λ opened. absurd (true_false (sym shut ∙ opened));
     sendable = ap (λ q. are_sendable q.items) queue ∙ k.sendable;
+    room = λ n is. room ∙ k.room n is;
     capacity = ap (λ q. q.capacity) queue ∙ (k.capacity ∙ ap (λ n. n + 1) (sym room));
     fits = λ e. let most = k.fits e in let same = ap (λ q. length q.items) queue in omega arith;
   }
@@ -250,13 +269,13 @@ module _ {A J : Type 0} where
   taken_within rows lanes place i xs kept at is = let r = row_there rows place xs at in let n = kept.0 in omega arith
 
   for_tail : (job : J) (y : Mark (A × J) J) (ys : List (Mark (A × J) J)) → AreFor job (y ∷ ys) → AreFor job ys
-  for_tail job (Job j) ys e = ap (drop 1) e
+  for_tail job (Job j r) ys e = ap (drop 1) e
   for_tail job (Value p) ys e = ap (drop 1) e
   for_tail job (End w) ys e = ap (drop 1) e
   for_tail job Shut ys e = ap (drop 1) e
 
   for_head : (job : J) (y : Mark (A × J) J) (ys : List (Mark (A × J) J)) → AreFor job (y ∷ ys) → AreFor job (y ∷ [])
-  for_head job (Job j) ys e = refl
+  for_head job (Job j r) ys e = refl
   for_head job (Value p) ys e = ap (Rattle.std.specs.Prelude.take 1) e
   for_head job (End w) ys e = refl
   for_head job Shut ys e = refl
@@ -267,7 +286,7 @@ module _ {A J : Type 0} where
 
   open_unshut : (xs : List (Mark (A × J) J)) → is_unclosed xs ≡ true → is_shut xs ≡ false
   open_unshut [] e = refl
-  open_unshut (Job j ∷ xs) e = open_unshut xs e
+  open_unshut (Job j r ∷ xs) e = open_unshut xs e
   open_unshut (Value p ∷ xs) e = open_unshut xs e
   open_unshut (End w ∷ xs) e = absurd cc
   open_unshut (Shut ∷ xs) e = absurd cc
@@ -281,3 +300,10 @@ module _ {A J : Type 0} where
       let opened : was.shut ≡ false = k.shut ∙ open_unshut old still in
       let whole : slice_index_or rows (2 * i) [] ≡ old ++ x ∷ rest = k.queue opened ∙ ap (λ z. old ++ z) first in
       let all = k.jobs opened job (ap lane_job whole ∙ job_of-append old (x ∷ rest) job for_job) in for_middle job old x rest (subst (AreFor job) whole all)
+
+  -- a lane whose sender has not closed holds at most its room
+  pub held_within : (rows : List (List (Mark (A × J) J))) (lanes : List (PlainLane (A × J) J)) (place i : ℕ) (old : List (Mark (A × J) J)) (was : PlainLane (A × J) J) (room : ℕ) → ArePlainLanes rows lanes → get_elem? rows place ≡ some old → place ≡ 2 * i → slice_get lanes i ≡ Some was
+      → is_unclosed old ≡ true → lane_room old ≡ Some room → length was.queue.items ≤ room
+  held_within rows lanes place i old was room kept at is there still of_room =
+      let here = row_there rows place old at in let before : slice_index_or rows (2 * i) [] ≡ old = ap (λ n. slice_index_or rows n []) (sym is) ∙ here.1 in
+      let k = subst (λ z. IsPlainLane z (slice_index_or rows (2 * i + 1) []) was) before (kept.1 i was there) in let most = k.fits still in let same = k.room room of_room in omega arith

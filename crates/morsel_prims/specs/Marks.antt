@@ -8,7 +8,7 @@ use Rattle.morsel_prims.specs.declared.plain_item.PlainLane.{PlainLane}
 -- the values, in their order
 abbrev pub lane_values : {A J : Type 0} → List (Mark (A × J) J) → List A
 lane_values [] = []
-lane_values (Job j ∷ marks) = lane_values marks
+lane_values (Job j r ∷ marks) = lane_values marks
 lane_values (Value p ∷ marks) = p.0 ∷ lane_values marks
 lane_values (End w ∷ marks) = lane_values marks
 lane_values (Shut ∷ marks) = lane_values marks
@@ -16,7 +16,7 @@ lane_values (Shut ∷ marks) = lane_values marks
 -- neither end has closed
 abbrev pub is_unclosed : {A J : Type 0} → List (Mark (A × J) J) → Bool
 is_unclosed [] = true
-is_unclosed (Job j ∷ marks) = is_unclosed marks
+is_unclosed (Job j r ∷ marks) = is_unclosed marks
 is_unclosed (Value p ∷ marks) = is_unclosed marks
 is_unclosed (End w ∷ marks) = false
 is_unclosed (Shut ∷ marks) = false
@@ -24,7 +24,7 @@ is_unclosed (Shut ∷ marks) = false
 -- the receiver has closed
 abbrev pub is_shut : {A J : Type 0} → List (Mark (A × J) J) → Bool
 is_shut [] = false
-is_shut (Job j ∷ marks) = is_shut marks
+is_shut (Job j r ∷ marks) = is_shut marks
 is_shut (Value p ∷ marks) = is_shut marks
 is_shut (End w ∷ marks) = is_shut marks
 is_shut (Shut ∷ marks) = true
@@ -32,7 +32,7 @@ is_shut (Shut ∷ marks) = true
 -- nothing but values and ends
 abbrev pub are_sendable : {A J : Type 0} → List (Mark (A × J) J) → Bool
 are_sendable [] = true
-are_sendable (Job j ∷ marks) = false
+are_sendable (Job j r ∷ marks) = false
 are_sendable (Value p ∷ marks) = are_sendable marks
 are_sendable (End w ∷ marks) = are_sendable marks
 are_sendable (Shut ∷ marks) = false
@@ -40,15 +40,23 @@ are_sendable (Shut ∷ marks) = false
 -- what the lane is for
 abbrev pub lane_job : {A J : Type 0} → List (Mark (A × J) J) → Option J
 lane_job [] = None
-lane_job (Job j ∷ marks) = Some j.value
+lane_job (Job j r ∷ marks) = Some j.value
 lane_job (Value p ∷ marks) = None
 lane_job (End w ∷ marks) = None
 lane_job (Shut ∷ marks) = None
 
+-- for how many values the lane has room
+abbrev pub lane_room : {A J : Type 0} → List (Mark (A × J) J) → Option ℕ
+lane_room [] = None
+lane_room (Job j r ∷ marks) = Some r
+lane_room (Value p ∷ marks) = None
+lane_room (End w ∷ marks) = None
+lane_room (Shut ∷ marks) = None
+
 -- the same marks, each value for this job
 abbrev pub with_job : {A J : Type 0} → J → List (Mark (A × J) J) → List (Mark (A × J) J)
 with_job job [] = []
-with_job job (Job j ∷ marks) = Job j ∷ with_job job marks
+with_job job (Job j r ∷ marks) = Job j r ∷ with_job job marks
 with_job job (Value p ∷ marks) = Value (p.0, job) ∷ with_job job marks
 with_job job (End w ∷ marks) = End w ∷ with_job job marks
 with_job job (Shut ∷ marks) = Shut ∷ with_job job marks
@@ -63,6 +71,7 @@ pub record IsPlainLane {A J : Type 0} (sent taken : List (Mark (A × J) J)) (lan
   pub queue : lane.shut ≡ false → sent ≡ taken ++ lane.queue.items
   pub jobs : lane.shut ≡ false → (job : J) → lane_job sent ≡ Some job → AreFor job sent
   pub sendable : are_sendable lane.queue.items ≡ true
+  pub room : (room : ℕ) → lane_room sent ≡ Some room → lane.room ≡ room
   pub capacity : lane.queue.capacity ≡ lane.room + 1
   pub fits : is_unclosed sent ≡ true → length lane.queue.items ≤ lane.room
 

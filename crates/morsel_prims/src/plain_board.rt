@@ -1,6 +1,6 @@
 //! The lanes of one thread.
 ghost use Rattle.std.specs.Prelude.{◌≡◌, ℕ, ◌*◌, ◌≤◌, true, false, [], ◌∷◌, ◌++◌, length, slice_get, Some, IfOk, OnOk, OnErr, IfErr, IfSome, IsNone, ◌+◌};
-ghost use Rattle.morsel_prims.specs.Marks.{ArePlainLanes, AreFor, are_sendable, is_unclosed, lane_job, recv_waits_of, send_waits_of};
+ghost use Rattle.morsel_prims.specs.Marks.{ArePlainLanes, AreFor, are_sendable, is_unclosed, lane_job, lane_room, recv_waits_of, send_waits_of};
 ghost use Rattle.morsel_prims.specs.Polled.{refused_value, IfFull, IfClosed};
 ghost use Rattle.morsel_prims.specs.Rows.{place_of_row, list_of_row};
 ghost use Rattle.morsel_prims.specs.declared.plain_item.Mark.TheVariants.{Value, End};
@@ -139,5 +139,25 @@ impl<T: Message> PlainBoard<T> {
         let PlainBoard { roll, lanes } = self;
         roll.look(mine);
         lanes[index].send_waits = Some(task);
+    }
+
+    /// How many values the lane holds; at most its room.
+    fn held(&mut self, index: usize, mine: &mut RollRow<Mark<Suited<T>, T::Job>>, room: u32) -> u32
+        requires table { mine.old.badge.table_id ≡ self.old.roll.seat.table_id }
+        requires place { place_of_row mine.old.badge.views ≡ 2 * index }
+        requires unclosed { is_unclosed (list_of_row mine.old.badge.views) ≡ true }
+        requires room { lane_room (list_of_row mine.old.badge.views) ≡ Some room }
+        ensures table { (self.new.roll.seat.table_id ≡ self.old.roll.seat.table_id) × (mine.new.badge.table_id ≡ mine.old.badge.table_id) × (mine.new.badge.views ≡ mine.old.badge.views) }
+        ensures held { (lane : PlainLane _ _) × (slice_get self.new.lanes.items index ≡ Some lane) × (length lane.queue.items ≤ result) }
+        ensures within { result ≤ room }
+    {
+        self.roll.look(mine);
+        let lane = &self.lanes[index];
+        let held = lane.queue.len();
+        // The lane never holds more.
+        if held > room as usize {
+            return room;
+        }
+        held as u32
     }
 }

@@ -47,8 +47,8 @@ impl<T: Message> Suited<T> {
 /// What is in a lane: its job first, then values, then its end; and that the receiver has closed.
 #[derive(Drop)]
 pub enum Mark<V, J> {
-    /// What the lane is for.
-    Job(Snapshot<J>),
+    /// What the lane is for, and for how many values it has room.
+    Job(Snapshot<J>, u32),
     /// A value.
     Value(V),
     /// The sender has closed, as whole or as cut.
