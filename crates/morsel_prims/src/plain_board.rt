@@ -1,5 +1,6 @@
 //! The lanes of one thread.
 ghost use Rattle.std.specs.Prelude.{◌≡◌, ℕ, ◌*◌, ◌≤◌, true, false, [], ◌∷◌, ◌++◌, length, slice_get, Some, IfOk, OnOk, OnErr, IfErr, IfSome, IsNone, ◌+◌};
+ghost use Rattle.morsel_meaning.specs.declared.fault.Fault.TheVariants.{OutOfMemory};
 ghost use Rattle.morsel_prims.specs.Marks.{ArePlainLanes, AreFor, are_sendable, is_unclosed, lane_job, lane_room, recv_waits_of, send_waits_of};
 ghost use Rattle.morsel_prims.specs.Polled.{refused_value, IfFull, IfClosed};
 ghost use Rattle.morsel_prims.specs.Rows.{place_of_row, list_of_row};
@@ -10,7 +11,8 @@ use crate::lane::{Message, SendError};
 use crate::plain_item::{Mark, PlainLane, Suited};
 use crate::roll::{Roll, RollRow};
 use crate::task::Board;
-use morsel_meaning::TaskNo;
+use morsel_meaning::{Fault, TaskNo};
+use std::alloc::Global;
 
 /// All lanes of one thread.
 #[derive(Drop)]
@@ -25,6 +27,17 @@ impl<T: Message> Board for PlainBoard<T> {
 }
 
 impl<T: Message> PlainBoard<T> {
+    /// No lanes.
+    pub fn new(alloc: Global) -> Result<PlainBoard<T>, Fault>
+        ensures out_of_memory { IfErr result (λ fault. fault ≡ OutOfMemory) }
+    {
+        let roll = Roll::new(alloc)?;
+        Ok(PlainBoard {
+            roll,
+            lanes: Vec::new(alloc),
+        })
+    }
+
     /// The lane takes the value, if it has room. The task that waits for it is handed out.
     fn send(
         &mut self,
@@ -159,5 +172,23 @@ impl<T: Message> PlainBoard<T> {
             return room;
         }
         held as u32
+    }
+
+    /// The task waits until there is something in the lane.
+    fn wait_to_take(
+        &mut self,
+        index: usize,
+        mine: &mut RollRow<Mark<Suited<T>, T::Job>>,
+        task: TaskNo,
+    )
+        requires table { mine.old.badge.table_id ≡ self.old.roll.seat.table_id }
+        requires place { place_of_row mine.old.badge.views ≡ 2 * index + 1 }
+        ensures table { (self.new.roll.seat.table_id ≡ self.old.roll.seat.table_id) × (mine.new.badge.table_id ≡ mine.old.badge.table_id) × (mine.new.badge.views ≡ mine.old.badge.views) }
+        ensures waits { recv_waits_of (slice_get self.new.lanes.items index) ≡ Some task }
+        ensures lane { (lane : PlainLane _ _) → slice_get self.old.lanes.items index ≡ Some lane → (now : PlainLane _ _) × (slice_get self.new.lanes.items index ≡ Some now) × (now.shut ≡ lane.shut) × (now.room ≡ lane.room) × (now.queue ≡ lane.queue) }
+    {
+        let PlainBoard { roll, lanes } = self;
+        roll.look(mine);
+        lanes[index].recv_waits = Some(task);
     }
 }

@@ -1,4 +1,4 @@
-use Rattle.std.proofs.Common.{rules, sym, subst, arith, ◌≤◌, ◌≡◌, length}
+use Rattle.std.proofs.Common.{rules, sym, subst, arith}
 use Rattle.morsel_prims.proofs.MarkLemmas.{lane_within, found, held_within}
 use Rattle.morsel_prims.specs.Marks.{ArePlainLanes}
 use Rattle.morsel_prims.proofs.plain_board.PlainBoard.held.Goals as goal
