@@ -66,6 +66,42 @@ fn show<R: Print + Eprint>(rt: &R, text: &str) -> u8 {
     report::status_of(&Fault::WriteFault)
 }
 
+/// Runs the command of the words, and tells the reason of a failure on standard error.
+fn run_command<R: Files + Print + Eprint + AllocGlobal + Threads + Wait + Sync>(
+    rt: &R,
+    words: &[String],
+) -> u8
+where
+    R::File: FileExt,
+{
+    let mut io = RealIo::new(rt, rt.alloc());
+    let status = morsel_main(rt, rt.alloc(), words, &mut io, &OpenGate);
+    if let Some(reason) = io.reason() {
+        let _ = rt.eprintln(reason);
+    } else if status == report::status_of(&Fault::Usage) {
+        let _ = rt.eprintln("morsel --help tells the commands");
+    }
+    status
+}
+
+/// Answers the words, and gives the status.
+fn answer<R: Files + Print + Eprint + AllocGlobal + Threads + Wait + Sync>(
+    rt: &R,
+    words: &[String],
+) -> u8
+where
+    R::File: FileExt,
+{
+    let [word] = words else {
+        return run_command(rt, words);
+    };
+    match word.as_str() {
+        "--help" => show(rt, HELP),
+        "--version" => show(rt, VERSION),
+        _ => run_command(rt, words),
+    }
+}
+
 fn run<R: Files + Env + Print + Eprint + AllocGlobal + Threads + Wait + Sync>(rt: &R) -> u8
 where
     R::File: IntoRawFd + FileExt,
@@ -74,24 +110,10 @@ where
         let _ = eprintln!(rt; "/dev/null: {error}");
         return report::status_of(&Fault::WriteFault);
     }
-    let Ok(words) = words_of(rt) else {
-        return report::status_of(&Fault::OutOfMemory);
-    };
-    if let [word] = words.as_slice() {
-        match word.as_str() {
-            "--help" => return show(rt, HELP),
-            "--version" => return show(rt, VERSION),
-            _ => {}
-        }
+    match words_of(rt) {
+        Ok(words) => answer(rt, words.as_slice()),
+        Err(_) => report::status_of(&Fault::OutOfMemory),
     }
-    let mut io = RealIo::new(rt, rt.alloc());
-    let status = morsel_main(rt, rt.alloc(), &words, &mut io, &OpenGate);
-    if let Some(reason) = io.reason() {
-        let _ = rt.eprintln(reason);
-    } else if status == report::status_of(&Fault::Usage) {
-        let _ = rt.eprintln("morsel --help tells the commands");
-    }
-    status
 }
 
 fn main(rt: HostRuntime) -> ExitCode {
