@@ -124,6 +124,7 @@ impl Io for SureMemIo {
 pub fn sure_never_fails()
     ensures read_faults { (io : Contents) → (⟦<crate::SureMemIo as crate::Io>⟧.seen io).read_faults ≡ 0 }
     ensures write_faults { (io : Contents) → (⟦<crate::SureMemIo as crate::Io>⟧.seen io).write_faults ≡ 0 }
+    ensures print_faults { (io : Contents) → (⟦<crate::SureMemIo as crate::Io>⟧.seen io).print_faults ≡ 0 }
     ensures reads { (old new : Contents) → Rises (sure old).read_faults (sure new).read_faults → ⊥ }
     ensures writes { (old new : Contents) → Rises (sure old).write_faults (sure new).write_faults → ⊥ }
 {}

@@ -31,8 +31,8 @@ fn run_and_report<H: Io>(alloc: Global, words: &[String], io: &mut H) -> u8
     report(alloc, io, answer)
 }
 
-/// Runs the command of the words, prints one line, and answers the status: 0 after the number of rows, or that of a
-/// fault after `error N: ` and its text, which is 10 + N.
+/// Runs the command of the words, prints at most one line, and answers the status: 0 after the number of rows, or that of
+/// a fault after `error N: ` and its text, which is 10 + N.
 ///
 /// It waits for nothing and starts no thread, so it always returns.
 pub fn local_main<H: Io>(alloc: Global, words: &[String], io: &mut H) -> u8

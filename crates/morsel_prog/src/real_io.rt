@@ -111,14 +111,14 @@ where
         ensures untold { self.old.held ≡ None }
     {
         let file = FileNo(self.sources.len());
-        let source = Source {
-            name: Name::new(self.alloc, name)?,
-            version,
-        };
-        let asked = Asked::Open(Name::new(self.alloc, name)?);
         self.sources.reserve(1)?;
         self.asked.reserve(1)?;
-        self.sources.push_reserved(source);
+        let source_name = Name::new(self.alloc, name)?;
+        let asked = Asked::Open(Name::new(self.alloc, name)?);
+        self.sources.push_reserved(Source {
+            name: source_name,
+            version,
+        });
         self.asked.push_reserved(asked);
         Ok(file)
     }

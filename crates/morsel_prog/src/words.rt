@@ -1,7 +1,7 @@
 //! The words of the command line, read by hand.
 ghost use Rattle.std.specs.Prelude.{◌≡◌, ◌<◌, ◌+◌, Some, None, length, take, drop, slice_index, map, IfSome, IsUtf8, MatchOption};
 ghost use Rattle.std.specs.String.{string_bytes};
-ghost use Rattle.morsel_prog.specs.Words.{option_text, cut_at, parts_at, kind_named, field_of, fields_of, schema_of, command_of};
+ghost use Rattle.morsel_prog.specs.Words.{option_text, cut_at, parts_at, kind_named, field_of, fields_of, schema_if, schema_of, command_of};
 ghost use Rattle.morsel_prog.specs.Results.{Finds, items_of, command_seen};
 
 use memchr::memchr;
@@ -93,14 +93,10 @@ pub struct ScanCommand<'a> {
 /// The greatest number of columns of a schema.
 const COLUMN_LIMIT: usize = 65535;
 
-/// The schema of a text: `name:type` joined by commas, the names distinct, at most 65,535 of them.
-fn schema(alloc: Global, text: &str) -> Result<Schema, Fault>
-    ensures { Finds (schema_of text.now) result }
+/// The schema of these fields, where they are at most 65,535 and their names are distinct.
+fn schema_of_fields(alloc: Global, fields: Vec<Field>) -> Result<Schema, Fault>
+    ensures { Finds (schema_if (Some fields.items)) result }
 {
-    let fields = match fields(alloc, text) {
-        Ok(fields) => fields,
-        Err(fault) => return Err(fault),
-    };
     if fields.len() > COLUMN_LIMIT {
         return Err(Fault::Usage);
     }
@@ -108,6 +104,16 @@ fn schema(alloc: Global, text: &str) -> Result<Schema, Fault>
         Ok(schema) => Ok(schema),
         Err(Fault::OutOfMemory) => Err(Fault::OutOfMemory),
         Err(_) => Err(Fault::Usage),
+    }
+}
+
+/// The schema of a text: `name:type` joined by commas, the names distinct, at most 65,535 of them.
+fn schema(alloc: Global, text: &str) -> Result<Schema, Fault>
+    ensures { Finds (schema_of text.now) result }
+{
+    match fields(alloc, text) {
+        Ok(fields) => schema_of_fields(alloc, fields),
+        Err(fault) => Err(fault),
     }
 }
 

@@ -1,201 +1,281 @@
 //! The calls on real files.
+//!
+//! A helper says `expect` where the system could refuse it, and gives what it makes to `drop`, as those of the main calls do.
 ghost use Rattle.std.specs.Prelude.{◌≡◌, ◌<◌, ◌≤◌, length, slice_index, IfSome};
 
 use super::*;
+use std::mem::drop;
 use std::os::unix::fs::symlink;
-use std::test::Fail;
+use std::process::Abort;
+use std::alloc::Alloc;
 use std::{env, fs, process};
 
-fn path(rt: &HostRuntime, name: &str) -> Result<String, Fail> {
-    let file = format!(in rt.alloc(); "morsel-{}-{name}", process::id(rt.process()))?;
-    let path = env::temp_dir(rt)?.join(rt.alloc(), file.as_str())?;
-    Ok(String::from_str(rt.alloc(), path.as_path().as_str())?)
+/// The path of a file of this name, which no other process makes.
+fn path_of(rt: &HostRuntime, name: &str) -> Option<String> {
+    let file = format!(in rt.alloc(); "morsel-{}-{name}", process::id(rt.process())).ok()?;
+    let path = env::temp_dir(rt).ok()?.join(rt.alloc(), file.as_str()).ok()?;
+    String::from_str(rt.alloc(), path.as_path().as_str()).ok()
 }
 
-fn ends_with(reason: Option<&str>, end: &str) -> bool {
-    reason.is_some_and(|reason| reason.ends_with(end))
+fn write(rt: &(impl Abort + Files), name: &str, text: &str) {
+    fs::write(rt, name, text).expect(rt, "the file is written");
 }
 
-fn open_and_size<H: Io>(io: &mut H, name: &str) -> Result<(usize, u64), IoErr> {
-    let file = io.open_source(name)?;
-    Ok((file.0, io.size(file)))
+fn has_text(rt: &(impl Abort + Files + Alloc), name: &str, text: &str) {
+    let found = fs::read_to_string(rt, name).expect(rt, "the file is read");
+    assert_eq!(rt; found.as_str(), text);
+    drop(found);
+}
+
+fn remove(rt: &(impl Abort + Files), name: &str) {
+    fs::remove_file(rt, name).expect(rt, "the file is removed");
+}
+
+/// Removes the file of this path.
+fn let_go(rt: &(impl Abort + Files), path: String) {
+    remove(rt, path.as_str());
+    drop(path);
+}
+
+/// Opens the file, which gets this number and has this size.
+fn opens<H: Io>(rt: &impl Abort, io: &mut H, name: &str, number: usize, size: u64) {
+    let file = io.open_source(name).expect(rt, "the file is opened");
+    assert_eq!(rt; (file.0, io.size(file)), (number, size));
+}
+
+/// The last failure ended with these words of the system.
+fn says(rt: &impl Abort, io: &RealIo<'_, HostRuntime>, end: &str) {
+    let reason = io.reason().expect(rt, "a reason");
+    assert!(rt; reason.ends_with(end), "{reason}");
+}
+
+/// The file is no source, since the system says this of it.
+fn refuses(rt: &impl Abort, io: &mut RealIo<'_, HostRuntime>, name: &str, end: &str) {
+    assert_eq!(rt; io.open_source(name), Err(IoErr::Failed));
+    says(rt, io, end);
+}
+
+/// Opens a file of five bytes, the only one.
+fn opened<H: Io>(rt: &impl Abort, io: &mut H, name: &str) -> FileNo
+    ensures opened { result.0 < length (H.seen io.new).sizes }
+    ensures size { slice_index (H.seen io.new).sizes result.0 ≡ 5 }
+{
+    let file = io.open_source(name).expect(rt, "the file is opened");
+    assert_eq!(rt; io.size(file), 5);
+    file
+}
+
+/// The last three bytes of a file of five.
+#[tactic(auto, using(morsel_outside::proofs::TransferLemmas::reads_open_nothing))]
+fn end_of(io: &mut RealIo<'_, HostRuntime>, file: FileNo) -> Result<[u8; 3], IoErr>
+    requires opened { file.0 < length io.old.sizes }
+    requires size { slice_index io.old.sizes file.0 ≡ 5 }
+    ensures same { io.new.sizes ≡ io.old.sizes }
+{
+    let mut into = [0; 3];
+    match io.read_range(file, 2, &mut into) {
+        Ok(()) => Ok(into),
+        Err(error) => Err(error),
+    }
 }
 
 #[test]
-fn a_file_is_read_and_a_sink_written(rt: HostRuntime) -> Result<(), Fail> {
-    let (from, to) = (path(&rt, "read.csv")?, path(&rt, "written")?);
-    fs::write(&rt, from.as_str(), "id,name\n1,ann\n")?;
-    fs::write(&rt, to.as_str(), "what stood here before")?;
+fn a_range_of_a_file_is_read(rt: HostRuntime) {
+    let from = path_of(&rt, "read.csv").expect(&rt, "the path");
+    write(&rt, from.as_str(), "id\n1\n");
     let mut io = RealIo::new(&rt, rt.alloc());
-    let file = io.open_source(from.as_str())?;
-    assert_eq!(rt; (file.0, io.size(file)), (0, 14));
-    let mut into = [0; 4];
-    io.read_range(file, 3, &mut into)?;
-    assert_eq!(rt; into, *b"name");
-    io.make_sink(to.as_str())?;
-    io.write(b"{\"id\":1}")?;
-    io.write(b"\n")?;
-    io.print("1")?;
-    assert_eq!(rt;
-        fs::read_to_string(&rt, to.as_str())?.as_str(),
-        "{\"id\":1}\n"
-    );
-    assert_eq!(rt; open_and_size(&mut io, to.as_str())?, (1, 9));
+    let file = opened(&rt, &mut io, from.as_str());
+    assert_eq!(rt; end_of(&mut io, file), Ok(*b"\n1\n"));
     assert_eq!(rt; io.reason(), None);
-    fs::remove_file(&rt, to.as_str())?;
-    fs::remove_file(&rt, from.as_str())?;
-    Ok(())
+    drop(io);
+    let_go(&rt, from);
+}
+
+/// Makes a sink and writes two pieces into it.
+fn writes<H: Io>(rt: &impl Abort, io: &mut H, name: &str) {
+    io.make_sink(name).expect(rt, "the sink is made");
+    io.write(b"{\"id\":1}").expect(rt, "the piece is written");
+    io.write(b"\n").expect(rt, "the piece is written");
+    io.print("1").expect(rt, "the line is printed");
 }
 
 #[test]
-fn failures_are_counted_and_told(rt: HostRuntime) -> Result<(), Fail> {
-    let (from, link) = (path(&rt, "kept.csv")?, path(&rt, "link.csv")?);
-    fs::write(&rt, from.as_str(), "id\n1\n")?;
-    fs::hard_link(&rt, from.as_str(), link.as_str())?;
+fn a_sink_has_what_is_written_and_no_more(rt: HostRuntime) {
+    let to = path_of(&rt, "written").expect(&rt, "the path");
+    write(&rt, to.as_str(), "what was here before");
     let mut io = RealIo::new(&rt, rt.alloc());
-    assert_eq!(rt; io.open_source("no-such-file.csv"), Err(IoErr::Failed));
-    assert_eq!(rt;
-        io.reason(),
-        Some("no-such-file.csv: No such file or directory (os error 2)")
-    );
-    assert_eq!(rt; io.open_source("/"), Err(IoErr::Failed));
-    assert_eq!(rt; io.reason(), Some("/: not a regular file"));
-    let file = io.open_source(from.as_str())?;
-    assert_eq!(rt; io.make_sink(link.as_str()), Err(IoErr::Failed));
-    assert_eq!(rt; fs::read_to_string(&rt, from.as_str())?.as_str(), "id\n1\n");
-    fs::write(&rt, from.as_str(), "id")?;
-    assert_eq!(rt; (file.0, io.size(file)), (0, 5));
-    assert_eq!(rt; io.read_range(file, 0, &mut [0; 5]), Err(IoErr::Failed));
-    assert_eq!(rt; (io.read_faults, io.write_faults, io.failed), (3, 1, 0));
-    fs::remove_file(&rt, link.as_str())?;
-    fs::remove_file(&rt, from.as_str())?;
-    Ok(())
+    writes(&rt, &mut io, to.as_str());
+    has_text(&rt, to.as_str(), "{\"id\":1}\n");
+    opens(&rt, &mut io, to.as_str(), 0, 9);
+    assert_eq!(rt; io.reason(), None);
+    drop(io);
+    let_go(&rt, to);
 }
 
 #[test]
-fn a_source_under_another_name_is_no_sink(rt: HostRuntime) -> Result<(), Fail> {
-    let (from, link) = (path(&rt, "source.csv")?, path(&rt, "symbolic.csv")?);
-    fs::write(&rt, from.as_str(), "id\n1\n")?;
-    symlink(&rt, from.as_str(), link.as_str())?;
+fn what_is_no_regular_file_is_no_source(rt: HostRuntime) {
     let mut io = RealIo::new(&rt, rt.alloc());
-    io.open_source(link.as_str())?;
-    assert_eq!(rt; io.make_sink(link.as_str()), Err(IoErr::Failed));
-    assert_eq!(rt; io.make_sink(from.as_str()), Err(IoErr::Failed));
-    assert_eq!(rt; (io.write_faults, io.sinks.len()), (2, 0));
-    assert_eq!(rt; fs::read_to_string(&rt, from.as_str())?.as_str(), "id\n1\n");
-    fs::remove_file(&rt, link.as_str())?;
-    fs::remove_file(&rt, from.as_str())?;
-    Ok(())
+    let absent = "no-such-file.csv: No such file or directory (os error 2)";
+    refuses(&rt, &mut io, "no-such-file.csv", absent);
+    refuses(&rt, &mut io, "/", "/: not a regular file");
+    refuses(&rt, &mut io, "/proc/version", "/proc/version: not a regular file");
+    assert_eq!(rt; (io.read_faults, io.write_faults, io.failed), (3, 0, 0));
+    drop(io);
 }
 
 #[test]
-fn a_replaced_file_is_read_through_its_descriptor(rt: HostRuntime) -> Result<(), Fail> {
-    let (from, new) = (path(&rt, "replaced.csv")?, path(&rt, "replacing.csv")?);
-    fs::write(&rt, from.as_str(), "id\n1\n")?;
-    fs::write(&rt, new.as_str(), "id\n2\n3\n")?;
+fn an_empty_file_is_opened(rt: HostRuntime) {
+    let from = path_of(&rt, "empty.csv").expect(&rt, "the path");
+    write(&rt, from.as_str(), "");
     let mut io = RealIo::new(&rt, rt.alloc());
-    let file = io.open_source(from.as_str())?;
-    assert_eq!(rt; (file.0, io.size(file)), (0, 5));
-    fs::rename(&rt, new.as_str(), from.as_str())?;
-    let mut into = [0; 5];
-    io.read_range(file, 0, &mut into)?;
-    assert_eq!(rt; into, *b"id\n1\n");
-    fs::remove_file(&rt, from.as_str())?;
-    Ok(())
+    opens(&rt, &mut io, from.as_str(), 0, 0);
+    drop(io);
+    let_go(&rt, from);
+}
+
+/// Opens the source, which is then no sink under either name.
+fn is_no_sink(rt: &impl Abort, io: &mut RealIo<'_, HostRuntime>, name: &str, other: &str) {
+    io.open_source(name).expect(rt, "the file is opened");
+    assert_eq!(rt; io.make_sink(name), Err(IoErr::Failed));
+    assert_eq!(rt; io.make_sink(other), Err(IoErr::Failed));
+    assert_eq!(rt; (io.read_faults, io.write_faults, io.sinks.len()), (0, 2, 0));
+}
+
+#[test]
+fn a_source_is_no_sink_under_a_symbolic_link(rt: HostRuntime) {
+    let from = path_of(&rt, "source.csv").expect(&rt, "the path");
+    write(&rt, from.as_str(), "id\n1\n");
+    let link = path_of(&rt, "symbolic.csv").expect(&rt, "the path");
+    symlink(&rt, from.as_str(), link.as_str()).expect(&rt, "the link is made");
+    let mut io = RealIo::new(&rt, rt.alloc());
+    is_no_sink(&rt, &mut io, link.as_str(), from.as_str());
+    drop(io);
+    has_text(&rt, from.as_str(), "id\n1\n");
+    let_go(&rt, link);
+    let_go(&rt, from);
+}
+
+#[test]
+fn a_source_is_no_sink_under_another_name(rt: HostRuntime) {
+    let from = path_of(&rt, "kept.csv").expect(&rt, "the path");
+    write(&rt, from.as_str(), "id\n1\n");
+    let link = path_of(&rt, "link.csv").expect(&rt, "the path");
+    fs::hard_link(&rt, from.as_str(), link.as_str()).expect(&rt, "the link is made");
+    let mut io = RealIo::new(&rt, rt.alloc());
+    is_no_sink(&rt, &mut io, from.as_str(), link.as_str());
+    drop(io);
+    has_text(&rt, from.as_str(), "id\n1\n");
+    let_go(&rt, link);
+    let_go(&rt, from);
+}
+
+#[test]
+fn a_file_that_became_shorter_cannot_be_read(rt: HostRuntime) {
+    let from = path_of(&rt, "shorter.csv").expect(&rt, "the path");
+    write(&rt, from.as_str(), "id\n1\n");
+    let mut io = RealIo::new(&rt, rt.alloc());
+    let file = opened(&rt, &mut io, from.as_str());
+    write(&rt, from.as_str(), "id");
+    assert_eq!(rt; end_of(&mut io, file), Err(IoErr::Failed));
+    assert_eq!(rt; (io.read_faults, io.write_faults, io.failed), (1, 0, 0));
+    drop(io);
+    let_go(&rt, from);
+}
+
+#[test]
+fn a_replaced_file_is_read_through_its_descriptor(rt: HostRuntime) {
+    let from = path_of(&rt, "replaced.csv").expect(&rt, "the path");
+    write(&rt, from.as_str(), "id\n1\n");
+    let new = path_of(&rt, "replacing.csv").expect(&rt, "the path");
+    write(&rt, new.as_str(), "id\n2\n3\n");
+    let mut io = RealIo::new(&rt, rt.alloc());
+    let file = opened(&rt, &mut io, from.as_str());
+    fs::rename(&rt, new.as_str(), from.as_str()).expect(&rt, "the file is renamed");
+    assert_eq!(rt; end_of(&mut io, file), Ok(*b"\n1\n"));
+    drop(io);
+    let_go(&rt, from);
+    drop(new);
 }
 
 /// Opens a file of five bytes, and lets its descriptor go.
-fn open_without_descriptor(io: &mut RealIo<'_, HostRuntime>, name: &str) -> Option<FileNo>
-    ensures opened { IfSome result (λ file. file.0 < length io.new.sizes) }
-    ensures size { IfSome result (λ file. slice_index io.new.sizes file.0 ≡ 5) }
+fn opened_without_descriptor(
+    rt: &impl Abort,
+    io: &mut RealIo<'_, HostRuntime>,
+    name: &str,
+) -> FileNo
+    ensures opened { result.0 < length io.new.sizes }
+    ensures size { slice_index io.new.sizes result.0 ≡ 5 }
 {
-    let Ok(file) = io.open_source(name) else {
-        return None;
-    };
-    if io.kept.pop().is_none() || io.size(file) != 5 {
-        return None;
-    }
-    Some(file)
+    let file = opened(rt, io, name);
+    assert!(rt; io.kept.pop().is_some());
+    file
 }
 
-/// Reads the first three bytes, and says whether that failed for this reason.
-#[tactic(auto, using(morsel_outside::proofs::TransferLemmas::reads_open_nothing))]
-fn fails_with(io: &mut RealIo<'_, HostRuntime>, file: FileNo, end: &str) -> bool
+#[test]
+fn a_file_without_a_descriptor_is_opened_anew(rt: HostRuntime) {
+    let from = path_of(&rt, "anew.csv").expect(&rt, "the path");
+    write(&rt, from.as_str(), "id\n1\n");
+    let mut io = RealIo::new(&rt, rt.alloc());
+    let file = opened_without_descriptor(&rt, &mut io, from.as_str());
+    assert_eq!(rt; end_of(&mut io, file), Ok(*b"\n1\n"));
+    drop(io);
+    let_go(&rt, from);
+}
+
+/// The file can't be read, since the system says this of it.
+fn cannot_be_read(rt: &impl Abort, io: &mut RealIo<'_, HostRuntime>, file: FileNo, end: &str)
     requires opened { file.0 < length io.old.sizes }
-    requires size { 3 ≤ slice_index io.old.sizes file.0 }
+    requires size { slice_index io.old.sizes file.0 ≡ 5 }
     ensures same { io.new.sizes ≡ io.old.sizes }
 {
-    let failed = io.read_range(file, 0, &mut [0; 3]).is_err();
-    failed && ends_with(io.reason(), end)
+    assert_eq!(rt; end_of(io, file), Err(IoErr::Failed));
+    says(rt, io, end);
+}
+
+/// A file that is no longer as it was opened, or is another one, or is gone, can't be read.
+fn must_be_the_same(rt: &(impl Abort + Files), io: &mut RealIo<'_, HostRuntime>, file: FileNo, name: &str)
+    requires opened { file.0 < length io.old.sizes }
+    requires size { slice_index io.old.sizes file.0 ≡ 5 }
+{
+    write(rt, name, "id\n2\n");
+    let changed = "same.csv: the file was replaced or changed after it was opened";
+    cannot_be_read(rt, io, file, changed);
+    remove(rt, name);
+    symlink(rt, "/dev/null", name).expect(rt, "the link is made");
+    cannot_be_read(rt, io, file, "same.csv: not a regular file");
+    remove(rt, name);
+    let absent = "same.csv: No such file or directory (os error 2)";
+    cannot_be_read(rt, io, file, absent);
 }
 
 #[test]
-fn a_file_without_a_descriptor_is_opened_anew(rt: HostRuntime) -> Result<(), Fail> {
-    let from = path(&rt, "anew.csv")?;
-    fs::write(&rt, from.as_str(), "id\n1\n")?;
+fn a_file_that_is_opened_anew_is_the_same_one(rt: HostRuntime) {
+    let from = path_of(&rt, "same.csv").expect(&rt, "the path");
+    write(&rt, from.as_str(), "id\n1\n");
     let mut io = RealIo::new(&rt, rt.alloc());
-    let file = open_without_descriptor(&mut io, from.as_str()).expect(&rt, "the file");
-    let mut into = [0; 3];
-    io.read_range(file, 2, &mut into)?;
-    assert_eq!(rt; into, *b"\n1\n");
-    fs::remove_file(&rt, from.as_str())?;
-    Ok(())
-}
-
-#[test]
-fn a_file_that_is_opened_anew_is_the_same_one(rt: HostRuntime) -> Result<(), Fail> {
-    let from = path(&rt, "same.csv")?;
-    fs::write(&rt, from.as_str(), "id\n1\n")?;
-    let mut io = RealIo::new(&rt, rt.alloc());
-    let file = open_without_descriptor(&mut io, from.as_str()).expect(&rt, "the file");
-    fs::write(&rt, from.as_str(), "id\n2\n")?;
-    assert!(rt;
-        fails_with(
-            &mut io,
-            file,
-            "same.csv: the file was replaced or changed after it was opened"
-        )
-    );
-    fs::remove_file(&rt, from.as_str())?;
-    symlink(&rt, "/dev/null", from.as_str())?;
-    assert!(rt; fails_with(&mut io, file, "same.csv: not a regular file"));
-    fs::remove_file(&rt, from.as_str())?;
-    assert!(rt;
-        fails_with(
-            &mut io,
-            file,
-            "same.csv: No such file or directory (os error 2)"
-        )
-    );
+    let file = opened_without_descriptor(&rt, &mut io, from.as_str());
+    must_be_the_same(&rt, &mut io, file, from.as_str());
     assert_eq!(rt; (io.read_faults, io.failed), (3, 0));
-    Ok(())
+    drop(io);
+    drop(from);
 }
 
-#[test]
-fn an_empty_file_is_opened_and_a_made_up_one_is_not(rt: HostRuntime) -> Result<(), Fail> {
-    let from = path(&rt, "empty.csv")?;
-    fs::write(&rt, from.as_str(), "")?;
-    let mut io = RealIo::new(&rt, rt.alloc());
-    assert_eq!(rt; open_and_size(&mut io, from.as_str())?, (0, 0));
-    assert_eq!(rt; io.open_source("/proc/version"), Err(IoErr::Failed));
-    assert_eq!(rt; io.reason(), Some("/proc/version: not a regular file"));
-    fs::remove_file(&rt, from.as_str())?;
-    Ok(())
-}
-
-#[test]
-fn the_files_past_the_limit_have_no_descriptor(rt: HostRuntime) -> Result<(), Fail> {
-    let from = path(&rt, "many.csv")?;
-    fs::write(&rt, from.as_str(), "id\n1\n")?;
-    let mut io = RealIo::new(&rt, rt.alloc());
+/// Opens the file as often as descriptors are kept.
+fn open_to_the_limit<H: Io>(rt: &impl Abort, io: &mut H, name: &str) {
     for _ in 0..KEPT_LIMIT {
-        io.open_source(from.as_str())?;
+        io.open_source(name).expect(rt, "the file is opened");
     }
-    let last = io.open_source(from.as_str())?;
-    assert_eq!(rt; (io.kept.len(), last.0, io.size(last)), (256, 256, 5));
-    let mut into = [0; 5];
-    io.read_range(last, 0, &mut into)?;
-    assert_eq!(rt; into, *b"id\n1\n");
-    fs::remove_file(&rt, from.as_str())?;
-    Ok(())
+}
+
+#[test]
+fn the_files_past_the_limit_have_no_descriptor(rt: HostRuntime) {
+    let from = path_of(&rt, "many.csv").expect(&rt, "the path");
+    write(&rt, from.as_str(), "id\n1\n");
+    let mut io = RealIo::new(&rt, rt.alloc());
+    open_to_the_limit(&rt, &mut io, from.as_str());
+    let last = opened(&rt, &mut io, from.as_str());
+    assert_eq!(rt; (io.kept.len(), last.0), (256, 256));
+    assert_eq!(rt; end_of(&mut io, last), Ok(*b"\n1\n"));
+    drop(io);
+    let_go(&rt, from);
 }
