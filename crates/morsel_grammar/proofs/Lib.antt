@@ -18,3 +18,4 @@ pub mod PieceRowLemmas
 pub mod OneEndLemmas
 pub mod OneRowLemmas
 mod MachineFacts
+pub mod StateLemmas
