@@ -19,3 +19,5 @@ pub mod OneEndLemmas
 pub mod OneRowLemmas
 mod MachineFacts
 pub mod StateLemmas
+pub mod RunLemmas
+pub mod FieldRunLemmas

@@ -48,14 +48,14 @@ EndsAtFirst o s text rest =
     ((line : List ℕ) × (text ≡ line ++ o.eol ∷ rest) × (last_end o s line ≡ 0) × (cut_after o s (line ++ o.eol ∷ []) ≡ first_state o AfterEol))
     ⊎ ((rest ≡ []) × (last_end o s text ≡ 0) × (RefusesEnd (cut_after o s text) → ⊥))
 
--- the machine goes over a record from its first byte to its end. Where there is no record it finds no end, and the text may not end
-abbrev pub FollowsRecord : Options → CutState → List ℕ → Option (CsvRecord × List ℕ) → Type 0
-FollowsRecord o s text None = (last_end o s text ≡ 0) × RefusesEnd (cut_after o s text)
-FollowsRecord o s text (Some found) = EndsAtFirst o s text found.1
+-- the machine goes over what is found at the front of a text, up to its end. Where nothing is, it finds no end, and the text may not end
+abbrev pub FollowsFound : {R : Type 0} → Options → CutState → List ℕ → Option (R × List ℕ) → Type 0
+FollowsFound o s text None = (last_end o s text ≡ 0) × RefusesEnd (cut_after o s text)
+FollowsFound o s text (Some found) = EndsAtFirst o s text found.1
 
 -- what is read at the front of a text, the machine follows
 abbrev pub FollowsReading : Options → Type 0
-FollowsReading o = (text : List ℕ) → FollowsRecord o (first_state o AfterEol) text (record_at o text)
+FollowsReading o = (text : List ℕ) → FollowsFound o (first_state o AfterEol) text (record_at o text)
 
 -- a record is read up to the first place where the text may be cut, or up to the end of the text where there is none
 abbrev pub ReadsToFirstEnd : Options → Type 0
