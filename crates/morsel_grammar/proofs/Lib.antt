@@ -21,3 +21,4 @@ mod MachineFacts
 pub mod StateLemmas
 pub mod RunLemmas
 pub mod FieldRunLemmas
+pub mod FieldsRunLemmas
