@@ -22,3 +22,5 @@ pub mod StateLemmas
 pub mod RunLemmas
 pub mod FieldRunLemmas
 pub mod FieldsRunLemmas
+pub mod AlikeLemmas
+pub mod PrefixRunLemmas

@@ -85,7 +85,7 @@ step_on o place next b is goes = step_lost o place b ∙ ap (state_at o None) is
 pub step_ends : (o : Options) (s : CutState) (b : ℕ) → place_step o s.place b ≡ AfterEol → cut_step o s b ≡ first_state o AfterEol
 step_ends o s b is = ap (state_at o (matched_step o.comment s.matched b)) is
 
-not_after : (place : CutPlace) → begins_record place ≡ false → is_after_eol place ≡ false
+pub not_after : (place : CutPlace) → begins_record place ≡ false → is_after_eol place ≡ false
 not_after AfterEol goes = goes
 not_after AtOpening goes = refl
 not_after InMarkOne goes = refl
