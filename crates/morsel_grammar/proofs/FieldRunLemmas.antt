@@ -47,8 +47,8 @@ plain_content o b bs (c ∷ bytes) after no_quote is =
     ∙ plain_step-on o c (other_byte c o.separator is.no_separator.0) (other_byte c o.eol is.no_eol.0) in (
       InPlain,
       run_append o (lone AfterSeparator) (lone InPlain) (lone InPlain) (c ∷ []) bytes
-      (run_on o AfterSeparator InPlain c plain refl)
-      (plain_run o bytes is.no_separator.1 is.no_eol.1),
+          (run_on o AfterSeparator InPlain c plain refl)
+          (plain_run o bytes is.no_separator.1 is.no_eol.1),
       is.stop,
     )
   where

@@ -24,3 +24,5 @@ pub mod FieldRunLemmas
 pub mod FieldsRunLemmas
 pub mod AlikeLemmas
 pub mod PrefixRunLemmas
+pub mod RecordRunLemmas
+pub mod FirstEndLemmas

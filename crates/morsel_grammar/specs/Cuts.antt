@@ -59,7 +59,7 @@ FollowsReading o = (text : List ℕ) → FollowsFound o (first_state o AfterEol)
 
 -- a record is read up to the first place where the text may be cut, or up to the end of the text where there is none
 abbrev pub ReadsToFirstEnd : Options → Type 0
-ReadsToFirstEnd o = (text rest : List ℕ) → text ≢ [] → EndsAtFirst o (first_state o AfterEol) text rest → (r : CsvRecord) × (record_at o text ≡ Some (r, rest))
+ReadsToFirstEnd o = (text rest : List ℕ) → EndsAtFirst o (first_state o AfterEol) text rest → (r : CsvRecord) × (record_at o text ≡ Some (r, rest))
 
 -- no record is read where the text has no place where it may be cut, and may not end
 abbrev pub ReadsNothingOpen : Options → Type 0

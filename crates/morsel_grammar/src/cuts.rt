@@ -1,7 +1,8 @@
 //! Laws: the machine that finds where a CSV text may be cut follows the grammar, for all options that do not contradict each other.
 ghost use Rattle.std.specs.Prelude.{ℕ};
+ghost use Rattle.morsel_grammar.specs.Options.{Options, AreOptions};
 ghost use Rattle.morsel_grammar.specs.Machine.{CutState};
-ghost use Rattle.morsel_grammar.specs.Cuts.{PassesParts, JoinsPlaces, StaysWithin, HoldsAtLast, HoldsNotLater};
+ghost use Rattle.morsel_grammar.specs.Cuts.{PassesParts, JoinsPlaces, StaysWithin, HoldsAtLast, HoldsNotLater, FollowsReading, ReadsToFirstEnd, ReadsNothingOpen};
 
 /// A text in two parts is passed one part after the other, by any machine.
 #[tactic(auto, using(crate::proofs::StateLemmas::passes_parts))]
@@ -31,4 +32,22 @@ pub fn the_test_holds_at_the_last_place()
 #[tactic(auto, using(crate::proofs::StateLemmas::holds_not_later))]
 pub fn after_the_last_place_there_is_none()
     ensures { (step : CutState → ℕ → CutState) → HoldsNotLater step }
+{}
+
+/// The machine goes over the record that is read at the front of a text, up to its end.
+#[tactic(auto, using(crate::proofs::RecordRunLemmas::follows_reading))]
+pub fn the_machine_follows_what_is_read()
+    ensures { (o : Options) → AreOptions o → FollowsReading o }
+{}
+
+/// A record is read up to the first place where the text may be cut.
+#[tactic(auto, using(crate::proofs::FirstEndLemmas::reads_to_first_end))]
+pub fn a_record_is_read_to_the_first_end()
+    ensures { (o : Options) → AreOptions o → ReadsToFirstEnd o }
+{}
+
+/// No record is read where a text has no place to be cut, and may not end.
+#[tactic(auto, using(crate::proofs::FirstEndLemmas::reads_nothing_open))]
+pub fn nothing_is_read_where_a_text_may_not_end()
+    ensures { (o : Options) → AreOptions o → ReadsNothingOpen o }
 {}
