@@ -26,3 +26,4 @@ pub mod AlikeLemmas
 pub mod PrefixRunLemmas
 pub mod RecordRunLemmas
 pub mod FirstEndLemmas
+pub mod WholeCutLemmas
