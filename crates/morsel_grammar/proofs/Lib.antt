@@ -27,3 +27,4 @@ pub mod PrefixRunLemmas
 pub mod RecordRunLemmas
 pub mod FirstEndLemmas
 pub mod WholeCutLemmas
+pub mod MarkCutLemmas
