@@ -28,3 +28,4 @@ pub mod RecordRunLemmas
 pub mod FirstEndLemmas
 pub mod WholeCutLemmas
 pub mod MarkCutLemmas
+pub mod OpeningCutLemmas

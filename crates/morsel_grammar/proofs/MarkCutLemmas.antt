@@ -104,7 +104,7 @@ pub record IsSameFrom (o : Options) (s t : CutState) (bytes : List ℕ) : Type 0
   pub end : last_end o s bytes ≡ last_end o t bytes
   pub begin : last_begin o s bytes ≡ last_end o t bytes
 
-same_step : (o : Options) (s t : CutState) (b : ℕ) (bs : List ℕ) → cut_step o s b ≡ cut_step o t b → IsPastMark t.place → IsSameFrom o s t (b ∷ bs)
+pub same_step : (o : Options) (s t : CutState) (b : ℕ) (bs : List ℕ) → cut_step o s b ≡ cut_step o t b → IsPastMark t.place → IsSameFrom o s t (b ∷ bs)
 same_step o s t b bs same past = record {
   after = ap (λ (x : CutState). cut_after o x bs) same;
   end = ap (λ (x : CutState). place_or_later (is_after_eol x.place) (last_end o x bs)) same;
@@ -112,7 +112,7 @@ same_step o s t b bs same past = record {
 }
 
 -- after a byte that ends nothing and after which nothing begins
-same_later : (o : Options) (s t : CutState) (place other : CutPlace) (b : ℕ) (bs : List ℕ) → cut_step o s b ≡ lone place → cut_step o t b ≡ lone other
+pub same_later : (o : Options) (s t : CutState) (place other : CutPlace) (b : ℕ) (bs : List ℕ) → cut_step o s b ≡ lone place → cut_step o t b ≡ lone other
     → begins_record place ≡ false → is_after_eol place ≡ false → is_after_eol other ≡ false
     → IsSameFrom o (lone place) (lone other) bs → IsSameFrom o s t (b ∷ bs)
 same_later o s t place other b bs s_is t_is begins ends other_ends later =
@@ -160,7 +160,7 @@ may_end s may (inl is) = let P : CutPlace → Type 0 = λ x. MayEnd x in subst P
 may_end s may (inr is) = let P : CutPlace → Type 0 = λ x. MayEnd x in subst P is may
 
 -- neither state is at an end or refuses anything
-show_neither : (s t : CutState) (text : List ℕ) → MayEnd s.place → MayEnd t.place → (s.place ≡ AfterEol → ⊥) → (text ≢ [] → t.place ≡ AfterEol → ⊥) → ShowSame s t text
+pub show_neither : (s t : CutState) (text : List ℕ) → MayEnd s.place → MayEnd t.place → (s.place ≡ AfterEol → ⊥) → (text ≢ [] → t.place ≡ AfterEol → ⊥) → ShowSame s t text
 show_neither s t text s_may t_may s_ends t_ends = record {
   at_end = λ is. absurd (s_ends is);
   at_end_again = λ some is. absurd (t_ends some is);
@@ -168,6 +168,12 @@ show_neither s t text s_may t_may s_ends t_ends = record {
   refuses_end = λ is. absurd (may_end s s_may is);
   refuses_end_again = λ is. absurd (may_end t t_may is);
 }
+
+pub show_places : (s t : CutState) (text : List ℕ) (place other : CutPlace) → s ≡ lone place → t ≡ lone other → MayEnd place → MayEnd other
+    → (place ≡ AfterEol → ⊥) → (other ≡ AfterEol → ⊥) → ShowSame s t text
+show_places s t text place other s_is t_is may other_may ends other_ends =
+    let P : CutState → Type 0 = λ x. ShowSame (lone place) x text in
+    show_after s (lone place) t text s_is (subst P (sym t_is) (show_neither (lone place) (lone other) text may other_may ends (λ some. other_ends)))
 
 -- bytes that begin at a place, beside the text of their records after the start of another
 pub record IsPassed (o : Options) (place : CutPlace) (bytes : List ℕ) : Type 0 where
@@ -181,7 +187,7 @@ pub record IsPassed (o : Options) (place : CutPlace) (bytes : List ℕ) : Type 0
 nothing_added : (a b : ℕ) → a ≡ b → a ≡ 0 + b
 nothing_added a b same = omega arith
 
-passed_same : (o : Options) (place : CutPlace) (bytes : List ℕ) → text_from place bytes ≡ bytes → IsSameFrom o (first_state o place) (start o) bytes → IsPassed o place bytes
+pub passed_same : (o : Options) (place : CutPlace) (bytes : List ℕ) → text_from place bytes ≡ bytes → IsSameFrom o (first_state o place) (start o) bytes → IsPassed o place bytes
 passed_same o place bytes is same = record {
   mark = 0;
   text = is;
@@ -191,7 +197,7 @@ passed_same o place bytes is same = record {
   show = show_equal (cut_after o (first_state o place) bytes) (cut_after o (start o) bytes) bytes same.after;
 }
 
-passed_shown : (o : Options) (place : CutPlace) (bytes : List ℕ) → text_from place bytes ≡ bytes → last_begin o (first_state o place) bytes ≡ 0
+pub passed_shown : (o : Options) (place : CutPlace) (bytes : List ℕ) → text_from place bytes ≡ bytes → last_begin o (first_state o place) bytes ≡ 0
     → last_end o (first_state o place) bytes ≡ 0 → last_end o (start o) bytes ≡ 0
     → ShowSame (cut_after o (first_state o place) bytes) (cut_after o (start o) bytes) bytes → IsPassed o place bytes
 passed_shown o place bytes is begin end start_end show = record {
@@ -207,6 +213,23 @@ passed_shown o place bytes is begin end start_end show = record {
 pub passed_eol : (o : Options) (bytes : List ℕ) → IsPassed o AfterEol bytes
 passed_eol o bytes = passed_same o AfterEol bytes refl (record { after = refl; end = refl; begin = begin_is_end o (start o) bytes tt })
 
+pub mark_show : (o : Options) (bytes : List ℕ) → ShowSame (cut_after o (first_state o AfterMark) bytes) (cut_after o (start o) bytes) bytes
+mark_show o [] = show_neither (first_state o AfterMark) (start o) [] tt tt (λ is. cc) (λ some is. some refl)
+mark_show o (b ∷ bs) = show_equal (cut_after o (first_state o AfterMark) (b ∷ bs)) (cut_after o (start o) (b ∷ bs)) (b ∷ bs) refl
+
+pub mark_end : (o : Options) (bytes : List ℕ) → last_end o (first_state o AfterMark) bytes ≡ last_end o (start o) bytes
+mark_end o [] = refl
+mark_end o (b ∷ bs) = refl
+
+pub mark_begin : (o : Options) (bytes : List ℕ) → last_begin o (first_state o AfterMark) bytes ≡ last_end o (start o) bytes
+mark_begin o bytes = begin_is_end o (first_state o AfterMark) bytes tt ∙ mark_end o bytes
+
 pub passed_mark : (o : Options) (bytes : List ℕ) → IsPassed o AfterMark bytes
-passed_mark o [] = passed_shown o AfterMark [] refl refl refl refl (show_neither (first_state o AfterMark) (start o) [] tt tt (λ is. cc) (λ some is. some refl))
-passed_mark o (b ∷ bs) = passed_same o AfterMark (b ∷ bs) refl (same_step o (first_state o AfterMark) (start o) b bs refl tt)
+passed_mark o bytes = record {
+  mark = 0;
+  text = refl;
+  begin = nothing_added (last_begin o (first_state o AfterMark) bytes) (last_end o (start o) bytes) (mark_begin o bytes);
+  no_end = λ none. sym (mark_end o bytes) ∙ none;
+  no_end_again = λ none. mark_end o bytes ∙ none;
+  show = mark_show o bytes;
+}
