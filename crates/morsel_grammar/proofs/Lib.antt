@@ -29,3 +29,4 @@ pub mod FirstEndLemmas
 pub mod WholeCutLemmas
 pub mod MarkCutLemmas
 pub mod OpeningCutLemmas
+pub mod CutLemmas

@@ -1,14 +1,11 @@
 -- The machine that finds cuts from each place where bytes begin, beside its start after an eol byte.
-use Rattle.std.proofs.Common.{◌≡◌, ◌≢◌, ℕ, zero, suc, ◌+◌, ◌<◌, ap, sym, subst, refl, ◌∙◌, inl, inr, arith}
-use Rattle.std.specs.Prelude.{Bool, true, false, ◌&&◌, ◌==◌, ◌⊎◌, if◌then◌else◌, Option, Some, None, List, [], ◌∷◌, drop}
-use Rattle.morsel_grammar.specs.Options.{Options, AreOptions, IsQuoteFor, IsCommentFor}
+use Rattle.std.proofs.Common.{◌≡◌, ◌≢◌, ℕ, ◌+◌, ap, sym, subst, refl, ◌∙◌, inl, inr, arith}
+use Rattle.std.specs.Prelude.{Bool, true, false, ◌&&◌, ◌==◌, if◌then◌else◌, Option, None, List, [], ◌∷◌, drop}
+use Rattle.morsel_grammar.specs.Options.{Options}
 use Rattle.morsel_grammar.specs.Split.{is_quote}
-use Rattle.morsel_grammar.specs.Rows.{mark_len, unmarked}
-use Rattle.morsel_grammar.specs.Machine.{CutPlace, CutState, AtOpening, InMarkOne, InMarkTwo, AfterMark, AfterEol, AfterSeparator, InPlain, InQuotes, AfterQuote, AfterReturn, InComment, BrokenQuote, place_or_later, plain_step, first_step, closed_step, place_step, is_after_eol, begins_record, matched_none, matched_step, is_whole_prefix, first_state, state_at, cut_step, cut_after, last_end, last_begin, RefusesRecord, RefusesEnd}
-use Rattle.morsel_grammar.specs.Cuts.{IsFirstPlace, text_from}
-use Rattle.morsel_grammar.proofs.ByteLemmas.{same_byte, other_byte}
-use Rattle.morsel_grammar.proofs.FieldRunLemmas.{plain_step-on, first_step-plain}
-use Rattle.morsel_grammar.proofs.RunLemmas.{lone, step_on, state_at-lost}
+use Rattle.morsel_grammar.specs.Machine.{CutPlace, CutState, AtOpening, InMarkOne, InMarkTwo, AfterMark, AfterEol, AfterSeparator, InPlain, InQuotes, AfterQuote, AfterReturn, InComment, BrokenQuote, place_or_later, plain_step, first_step, closed_step, place_step, is_after_eol, begins_record, matched_step, is_whole_prefix, first_state, cut_step, cut_after, last_end, last_begin, RefusesRecord, RefusesEnd}
+use Rattle.morsel_grammar.specs.Cuts.{text_from}
+use Rattle.morsel_grammar.proofs.RunLemmas.{lone}
 use Rattle.morsel_grammar.proofs.FirstEndLemmas.{start}
 
 -- the mark is behind

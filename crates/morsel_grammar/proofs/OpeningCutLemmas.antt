@@ -1,16 +1,16 @@
 -- The machine that finds cuts over a whole file, with its byte order mark or without.
-use Rattle.std.proofs.Common.{◌≡◌, ◌≢◌, ℕ, zero, suc, ◌+◌, ◌<◌, ◌≤◌, ap, sym, refl, ◌∙◌, arith}
+use Rattle.std.proofs.Common.{◌≡◌, ℕ, zero, suc, ◌+◌, ◌<◌, ◌≤◌, ap, sym, refl, ◌∙◌, arith}
 use Rattle.std.specs.Prelude.{Bool, true, false, ◌&&◌, ◌==◌, if◌then◌else◌, Option, Some, None, List, [], ◌∷◌, drop}
 use Rattle.morsel_grammar.specs.Options.{Options, AreOptions, IsQuoteFor, IsCommentFor}
 use Rattle.morsel_grammar.specs.Split.{is_quote}
-use Rattle.morsel_grammar.specs.Rows.{mark_len, unmarked}
+use Rattle.morsel_grammar.specs.Rows.{unmarked}
 use Rattle.morsel_grammar.specs.Machine.{CutPlace, CutState, AtOpening, InMarkOne, InMarkTwo, AfterMark, AfterEol, InPlain, place_or_later, plain_step, first_step, place_step, is_after_eol, begins_record, matched_none, matched_step, first_state, state_at, cut_step, cut_after, last_end, last_begin}
-use Rattle.morsel_grammar.specs.Cuts.{IsFirstPlace, text_from}
+use Rattle.morsel_grammar.specs.Cuts.{IsFirstPlace}
 use Rattle.morsel_grammar.proofs.ByteLemmas.{same_byte, other_byte}
 use Rattle.morsel_grammar.proofs.FieldRunLemmas.{plain_step-on, first_step-plain}
 use Rattle.morsel_grammar.proofs.RunLemmas.{lone, step_on, step_lost, state_at-lost}
 use Rattle.morsel_grammar.proofs.FirstEndLemmas.{start}
-use Rattle.morsel_grammar.proofs.MarkCutLemmas.{IsPastMark, IsSameFrom, same_step, same_later, ShowSame, show_after, show_neither, show_places, mark_show, mark_end, mark_begin, IsPassed, passed_same, passed_shown, passed_eol, passed_mark}
+use Rattle.morsel_grammar.proofs.MarkCutLemmas.{same_step, same_later, show_after, show_neither, show_places, mark_show, mark_end, mark_begin, IsPassed, passed_same, passed_shown, passed_eol, passed_mark}
 
 -- a byte from 128 on is text
 high_other : (b c : ℕ) → 128 ≤ b → c < 128 → (b == c) ≡ false

@@ -1,10 +1,10 @@
 -- The machine that finds cuts goes over the record that is read at the front of a text.
-use Rattle.std.proofs.Common.{◌≡◌, ◌≢◌, ℕ, suc, ◌+◌, ◌<◌, ap, sym, subst, refl, ◌∙◌, inl, inr, arith}
-use Rattle.std.specs.Prelude.{Bool, true, false, ◌==◌, ◌⊎◌, if◌then◌else◌, Option, Some, None, List, [], ◌∷◌, ◌++◌, length}
+use Rattle.std.proofs.Common.{◌≡◌, ℕ, ◌+◌, ap, sym, subst, refl, ◌∙◌, inl, inr, arith}
+use Rattle.std.specs.Prelude.{Option, Some, None, List, [], ◌∷◌, ◌++◌, length}
 use Rattle.morsel_grammar.specs.Options.{Options, AreOptions, IsWithout, IsCommentFor}
-use Rattle.morsel_grammar.specs.Grammar.{CsvField, CsvRecord, IsLineEnd}
-use Rattle.morsel_grammar.specs.Split.{line_at, behind_front, comment_body, fields_up_to, fields_record, comment_record, record_then_fields, record_at}
-use Rattle.morsel_grammar.specs.Machine.{CutPlace, CutState, AfterEol, AfterSeparator, InComment, matched_none, place_step, first_state, cut_step, cut_after, last_end, RefusesEnd}
+use Rattle.morsel_grammar.specs.Grammar.{CsvField, IsLineEnd}
+use Rattle.morsel_grammar.specs.Split.{line_at, behind_front, comment_body, fields_up_to, fields_record, record_then_fields, record_at}
+use Rattle.morsel_grammar.specs.Machine.{CutState, AfterEol, AfterSeparator, InComment, matched_none, first_state, RefusesEnd}
 use Rattle.morsel_grammar.specs.Cuts.{EndsAtFirst, FollowsFound, FollowsReading}
 use Rattle.morsel_grammar.proofs.ByteLemmas.{byte_itself, other_byte}
 use Rattle.morsel_grammar.proofs.CommentLemmas.{IsLineText, line_at-read, IsBehind, behind_front-read}

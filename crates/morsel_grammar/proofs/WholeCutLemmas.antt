@@ -1,15 +1,15 @@
 -- A text that begins with a record, and the places where it may be cut: they are where whole records end.
 use Rattle.std.proofs.Common.{◌≡◌, ◌≢◌, ℕ, zero, suc, ◌+◌, ◌≤◌, ap, sym, subst, refl, ◌∙◌, inl, inr, arith, append_assoc, length-append}
-use Rattle.std.proofs.lemmas.List.{append-nil, take-append-drop}
-use Rattle.std.specs.Prelude.{Bool, true, false, ◌⊎◌, Option, Some, None, List, [], ◌∷◌, ◌++◌, length, take, drop}
+use Rattle.std.proofs.lemmas.List.{take-append-drop}
+use Rattle.std.specs.Prelude.{true, Option, Some, None, List, [], ◌∷◌, ◌++◌, length, take, drop}
 use Rattle.morsel_grammar.specs.Options.{Options, AreOptions}
 use Rattle.morsel_grammar.specs.Grammar.{CsvRecord, IsRecord}
 use Rattle.morsel_grammar.specs.Split.{record_at}
 use Rattle.morsel_grammar.specs.GrammarRows.{AreWholeRecords, BeginsNoRecord}
-use Rattle.morsel_grammar.specs.Machine.{CutPlace, CutState, AtOpening, InMarkOne, InMarkTwo, AfterMark, AfterEol, AfterSeparator, InPlain, InQuotes, AfterQuote, AfterReturn, InComment, BrokenQuote, is_after_eol, cut_step, cut_after, last_end, RefusesRecord, RefusesEnd}
+use Rattle.morsel_grammar.specs.Machine.{CutPlace, CutState, AfterEol, InQuotes, BrokenQuote, is_after_eol, cut_step, cut_after, last_end, RefusesRecord, RefusesEnd}
 use Rattle.morsel_grammar.specs.Cuts.{EndsAtFirst, FollowsFound, BeginsNoWholeRecord}
 use Rattle.morsel_grammar.proofs.ByteLemmas.{true_not_false}
-use Rattle.morsel_grammar.proofs.RecordLemmas.{IsFound, record_at-read, record_at-written, refuses_by_grammar}
+use Rattle.morsel_grammar.proofs.RecordLemmas.{IsFound, record_at-read, refuses_by_grammar}
 use Rattle.morsel_grammar.proofs.WholeRecordLemmas.{record_again}
 use Rattle.morsel_grammar.proofs.StateLemmas.{last_place-holds, last_place-none_later}
 use Rattle.morsel_grammar.proofs.RunLemmas.{lone, IsRun, cut_after-append, no_end-append}
@@ -73,7 +73,7 @@ whole_start o text (r ∷ records) fit (line, rest, is, first, later) =
     after_first o text line rest is (line_reaches o r text line rest fit first is) ∙ whole_start o rest records fit later
 
 -- with an end, there is a first record with its eol byte
-no_end_no_record : (o : Options) (text : List ℕ) → AreOptions o → last_end o (start o) text ≡ 0 → BeginsNoWholeRecord o text
+pub no_end_no_record : (o : Options) (text : List ℕ) → AreOptions o → last_end o (start o) text ≡ 0 → BeginsNoWholeRecord o text
 no_end_no_record o text fit none = λ r line rest is first.
     end_before o (start o) line rest (line_reaches o r text line rest fit first is) (ap (last_end o (start o)) (sym is) ∙ none)
 

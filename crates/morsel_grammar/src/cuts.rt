@@ -2,7 +2,7 @@
 ghost use Rattle.std.specs.Prelude.{ℕ};
 ghost use Rattle.morsel_grammar.specs.Options.{Options, AreOptions};
 ghost use Rattle.morsel_grammar.specs.Machine.{CutState};
-ghost use Rattle.morsel_grammar.specs.Cuts.{PassesParts, JoinsPlaces, StaysWithin, HoldsAtLast, HoldsNotLater, FollowsReading, ReadsToFirstEnd, ReadsNothingOpen};
+ghost use Rattle.morsel_grammar.specs.Cuts.{PassesParts, JoinsPlaces, StaysWithin, HoldsAtLast, HoldsNotLater, FollowsReading, ReadsToFirstEnd, ReadsNothingOpen, AreWholeAtEnds, EndsAfterWhole, FindsNoEnd, RefusesWhateverFollows, RefusesOpenEnd, EndsWithRecord};
 
 /// A text in two parts is passed one part after the other, by any machine.
 #[tactic(auto, using(crate::proofs::StateLemmas::passes_parts))]
@@ -50,4 +50,38 @@ pub fn a_record_is_read_to_the_first_end()
 #[tactic(auto, using(crate::proofs::FirstEndLemmas::reads_nothing_open))]
 pub fn nothing_is_read_where_a_text_may_not_end()
     ensures { (o : Options) → AreOptions o → ReadsNothingOpen o }
+{}
+
+/// Bytes at whose end the text may be cut are whole records.
+#[tactic(auto, using(crate::proofs::CutLemmas::whole_at_ends))]
+pub fn a_text_is_cut_after_whole_records()
+    ensures { (o : Options) → AreOptions o → AreWholeAtEnds o }
+{}
+
+/// After whole records a text may be cut.
+pub fn after_whole_records_a_text_may_be_cut()
+    ensures { (o : Options) → AreOptions o → EndsAfterWhole o }
+{}
+
+/// A text has no place to be cut exactly where it begins with no whole record.
+pub fn no_end_is_no_whole_record()
+    ensures { (o : Options) → AreOptions o → FindsNoEnd o }
+{}
+
+/// Where the machine refuses a record, none begins there, whatever follows.
+#[tactic(auto, using(crate::proofs::CutLemmas::refuses_whatever_follows))]
+pub fn what_is_refused_is_no_record()
+    ensures { (o : Options) → AreOptions o → RefusesWhateverFollows o }
+{}
+
+/// Where a text may not end, the record under way is none.
+#[tactic(auto, using(crate::proofs::CutLemmas::refuses_open_end))]
+pub fn an_open_end_is_no_record()
+    ensures { (o : Options) → AreOptions o → RefusesOpenEnd o }
+{}
+
+/// Where a text may end, what is left after its last cut is one record.
+#[tactic(auto, using(crate::proofs::CutLemmas::ends_with_record))]
+pub fn what_is_left_at_the_end_is_one_record()
+    ensures { (o : Options) → AreOptions o → EndsWithRecord o }
 {}
