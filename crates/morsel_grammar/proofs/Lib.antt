@@ -30,3 +30,4 @@ pub mod WholeCutLemmas
 pub mod MarkCutLemmas
 pub mod OpeningCutLemmas
 pub mod CutLemmas
+pub mod BegunLemmas

@@ -138,7 +138,7 @@ under_way o text =
     (last_place-none_later (cut_step o) (λ (s : CutState). is_after_eol s.place) (start o) text)
 
 -- a refused record
-lone_state : (s : CutState) → RefusesRecord s → s ≡ lone BrokenQuote
+pub lone_state : (s : CutState) → RefusesRecord s → s ≡ lone BrokenQuote
 lone_state s is = ap (λ (m : Option ℕ). let t : CutState = record { matched = m; place = s.place } in t) is.0
     ∙ ap (λ (p : CutPlace). let t : CutState = record { matched = None; place = p } in t) is.1
 

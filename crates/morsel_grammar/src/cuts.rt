@@ -2,7 +2,7 @@
 ghost use Rattle.std.specs.Prelude.{ℕ};
 ghost use Rattle.morsel_grammar.specs.Options.{Options, AreOptions};
 ghost use Rattle.morsel_grammar.specs.Machine.{CutState};
-ghost use Rattle.morsel_grammar.specs.Cuts.{PassesParts, JoinsPlaces, StaysWithin, HoldsAtLast, HoldsNotLater, FollowsReading, ReadsToFirstEnd, ReadsNothingOpen, AreWholeAtEnds, EndsAfterWhole, FindsNoEnd, RefusesWhateverFollows, RefusesOpenEnd, EndsWithRecord};
+ghost use Rattle.morsel_grammar.specs.Cuts.{PassesParts, JoinsPlaces, StaysWithin, HoldsAtLast, HoldsNotLater, FollowsReading, ReadsToFirstEnd, ReadsNothingOpen, AreWholeAtEnds, EndsAfterWhole, CutsAfterWhole, PassesWhatIsLeft, FindsNoEnd, RefusesWhateverFollows, RefusesOpenEnd, EndsWithRecord, RefusesForGood, CarriesBegun, CountsBegun, BeginsAtEnds};
 
 /// A text in two parts is passed one part after the other, by any machine.
 #[tactic(auto, using(crate::proofs::StateLemmas::passes_parts))]
@@ -63,6 +63,16 @@ pub fn after_whole_records_a_text_may_be_cut()
     ensures { (o : Options) → AreOptions o → EndsAfterWhole o }
 {}
 
+/// Bytes up to their last end are whole records.
+pub fn up_to_the_last_end_there_are_whole_records()
+    ensures { (o : Options) → AreOptions o → CutsAfterWhole o }
+{}
+
+/// What is left after the last end is passed as if nothing were before it.
+pub fn what_is_left_is_passed_alone()
+    ensures { (o : Options) → AreOptions o → PassesWhatIsLeft o }
+{}
+
 /// A text has no place to be cut exactly where it begins with no whole record.
 pub fn no_end_is_no_whole_record()
     ensures { (o : Options) → AreOptions o → FindsNoEnd o }
@@ -84,4 +94,27 @@ pub fn an_open_end_is_no_record()
 #[tactic(auto, using(crate::proofs::CutLemmas::ends_with_record))]
 pub fn what_is_left_at_the_end_is_one_record()
     ensures { (o : Options) → AreOptions o → EndsWithRecord o }
+{}
+
+/// A refused record is refused for good.
+pub fn a_refused_record_stays_refused()
+    ensures { (o : Options) → RefusesForGood o }
+{}
+
+/// The place of the record that is under way is found part by part.
+#[tactic(auto, using(crate::proofs::BegunLemmas::carries_begun))]
+pub fn where_a_record_began_is_found_part_by_part()
+    ensures { (o : Options) → CarriesBegun o }
+{}
+
+/// The place of the record that is under way counts from the first.
+#[tactic(auto, using(crate::proofs::BegunLemmas::counts_begun))]
+pub fn where_a_record_began_counts_from_the_first()
+    ensures { (o : Options) → CountsBegun o }
+{}
+
+/// After the mark, a record begins only where another ends.
+#[tactic(auto, using(crate::proofs::BegunLemmas::begins_at_ends))]
+pub fn records_begin_where_others_end()
+    ensures { (o : Options) → BeginsAtEnds o }
 {}
