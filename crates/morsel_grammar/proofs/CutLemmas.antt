@@ -6,7 +6,7 @@ use Rattle.morsel_grammar.specs.Options.{Options, AreOptions}
 use Rattle.morsel_grammar.specs.Grammar.{CsvRecord, IsRecord}
 use Rattle.morsel_grammar.specs.GrammarRows.{AreWholeRecords, BeginsNoRecord}
 use Rattle.morsel_grammar.specs.Machine.{CutPlace, AtOpening, AfterEol, CutState, is_after_eol, first_state, cut_step, cut_after, last_end, last_begin, RefusesRecord, RefusesEnd}
-use Rattle.morsel_grammar.specs.Cuts.{IsFirstPlace, text_from, BeginsNoWholeRecord, AreWholeAtEnds, EndsAfterWhole, CutsAfterWhole, PassesWhatIsLeft, FindsNoEnd, RefusesWhateverFollows, RefusesOpenEnd, EndsWithRecord}
+use Rattle.morsel_grammar.specs.Cuts.{IsFirstPlace, text_from, BeginsNoWholeRecord, AreWholeAtEnds, EndsAfterWhole, CutsAfterWhole, PassesWhatIsLeft, FindsNoEnd, RefusesWhateverFollows, RefusesWithoutDelay, RefusesOpenEnd, EndsWithRecord}
 use Rattle.morsel_grammar.proofs.StateLemmas.{last_place-none_later}
 use Rattle.morsel_grammar.proofs.RunLemmas.{cut_after-append}
 use Rattle.morsel_grammar.proofs.AlikeLemmas.{after_line}
@@ -14,6 +14,7 @@ use Rattle.morsel_grammar.proofs.FirstEndLemmas.{start}
 use Rattle.morsel_grammar.proofs.WholeCutLemmas.{HasWhole, start_whole, whole_start, no_end_no_record, no_record_no_end, at_last_end, IsUnderWay, under_way, refused_left, open_left, ended_left}
 use Rattle.morsel_grammar.proofs.MarkCutLemmas.{IsPassed}
 use Rattle.morsel_grammar.proofs.OpeningCutLemmas.{passed}
+use Rattle.morsel_grammar.proofs.RefusalLemmas.{hopeless_left}
 
 -- bytes at whose end the text may be cut
 pub whole_at_ends : (o : Options) → AreOptions o → AreWholeAtEnds o
@@ -66,6 +67,16 @@ refuses_whatever_follows o fit = λ place bytes more is refused.
     let P : List ℕ → Type 0 = λ x. BeginsNoRecord o (x ++ more) in
     let Q : CutState → Type 0 = λ x. RefusesRecord x in
     subst P (left_over o place bytes all) (refused_left o left more fit way.no_end (subst Q (sym way.after) (all.show.refuses_record refused)))
+
+pub refuses_without_delay : (o : Options) → AreOptions o → RefusesWithoutDelay o
+refuses_without_delay o fit = λ place bytes is never.
+    let all = passed o place bytes fit is in
+    let text : List ℕ = drop all.mark bytes in
+    let left : List ℕ = drop (last_end o (start o) text) text in
+    let way : IsUnderWay o text left = under_way o text in
+    let P : List ℕ → Type 0 = λ x. (more : List ℕ) → BeginsNoRecord o (x ++ more) in
+    let Q : CutState → Type 0 = λ x. RefusesRecord x in
+    all.show.refuses_record_again (subst Q way.after (hopeless_left o left fit way.no_end (subst P (sym (left_over o place bytes all)) never)))
 
 pub refuses_open_end : (o : Options) → AreOptions o → RefusesOpenEnd o
 refuses_open_end o fit = λ place bytes is refuses.

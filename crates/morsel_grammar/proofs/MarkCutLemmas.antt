@@ -39,7 +39,7 @@ closed_in o b =
     either_in (b == o.separator) AfterSeparator (if b == o.eol then AfterEol else returned) tt
     (either_in (b == o.eol) AfterEol returned tt (either_in (b == 13 && o.eol == 10) AfterReturn BrokenQuote tt tt))
 
-place_in : (o : Options) (place : CutPlace) (b : ℕ) → IsPastMark place → IsInRecord (place_step o place b)
+pub place_in : (o : Options) (place : CutPlace) (b : ℕ) → IsPastMark place → IsInRecord (place_step o place b)
 place_in o AtOpening b past = absurd past
 place_in o InMarkOne b past = absurd past
 place_in o InMarkTwo b past = absurd past
@@ -65,14 +65,14 @@ step_in o s b past =
     let place : CutPlace = place_step o s.place b in
     state_in o matched place (begins_record place) (is_whole_prefix o.comment matched) (place_in o s.place b past)
 
-in_record_past : (place : CutPlace) → IsInRecord place → IsPastMark place
+pub in_record_past : (place : CutPlace) → IsInRecord place → IsPastMark place
 in_record_past AtOpening is = is
 in_record_past InMarkOne is = is
 in_record_past InMarkTwo is = is
 in_record_past AfterMark is = tt
 in_record_past place is = tt
 
-in_record_begins : (place : CutPlace) → IsInRecord place → begins_record place ≡ is_after_eol place
+pub in_record_begins : (place : CutPlace) → IsInRecord place → begins_record place ≡ is_after_eol place
 in_record_begins AfterMark is = absurd is
 in_record_begins AtOpening is = refl
 in_record_begins InMarkOne is = refl
@@ -131,6 +131,7 @@ pub record ShowSame (s t : CutState) (text : List ℕ) : Type 0 where
   pub at_end : s.place ≡ AfterEol → t.place ≡ AfterEol
   pub at_end_again : text ≢ [] → t.place ≡ AfterEol → s.place ≡ AfterEol
   pub refuses_record : RefusesRecord s → RefusesRecord t
+  pub refuses_record_again : RefusesRecord t → RefusesRecord s
   pub refuses_end : RefusesEnd s → RefusesEnd t
   pub refuses_end_again : RefusesEnd t → RefusesEnd s
 
@@ -139,6 +140,7 @@ show_equal s t text same = record {
   at_end = λ is. ap (λ (x : CutState). x.place) (sym same) ∙ is;
   at_end_again = λ some is. ap (λ (x : CutState). x.place) same ∙ is;
   refuses_record = λ is. let P : CutState → Type 0 = λ x. RefusesRecord x in subst P same is;
+  refuses_record_again = λ is. let P : CutState → Type 0 = λ x. RefusesRecord x in subst P (sym same) is;
   refuses_end = λ is. let P : CutState → Type 0 = λ x. RefusesEnd x in subst P same is;
   refuses_end_again = λ is. let P : CutState → Type 0 = λ x. RefusesEnd x in subst P (sym same) is;
 }
@@ -152,7 +154,7 @@ MayEnd InQuotes = ⊥
 MayEnd BrokenQuote = ⊥
 MayEnd place = Unit {0}
 
-may_end : (s : CutState) → MayEnd s.place → RefusesEnd s → ⊥
+pub may_end : (s : CutState) → MayEnd s.place → RefusesEnd s → ⊥
 may_end s may (inl is) = let P : CutPlace → Type 0 = λ x. MayEnd x in subst P is may
 may_end s may (inr is) = let P : CutPlace → Type 0 = λ x. MayEnd x in subst P is may
 
@@ -162,6 +164,7 @@ show_neither s t text s_may t_may s_ends t_ends = record {
   at_end = λ is. absurd (s_ends is);
   at_end_again = λ some is. absurd (t_ends some is);
   refuses_record = λ is. absurd (may_end s s_may (inr is.1));
+  refuses_record_again = λ is. absurd (may_end t t_may (inr is.1));
   refuses_end = λ is. absurd (may_end s s_may is);
   refuses_end_again = λ is. absurd (may_end t t_may is);
 }

@@ -101,6 +101,11 @@ abbrev pub RefusesWhateverFollows : Options → Type 0
 RefusesWhateverFollows o = (place : CutPlace) (bytes more : List ℕ) → IsFirstPlace place → RefusesRecord (cut_after o (first_state o place) bytes)
     → BeginsNoRecord o (drop (last_begin o (first_state o place) bytes) bytes ++ more)
 
+-- where no record begins at the first byte of the one that is under way, whatever follows, it is refused
+abbrev pub RefusesWithoutDelay : Options → Type 0
+RefusesWithoutDelay o = (place : CutPlace) (bytes : List ℕ) → IsFirstPlace place
+    → ((more : List ℕ) → BeginsNoRecord o (drop (last_begin o (first_state o place) bytes) bytes ++ more)) → RefusesRecord (cut_after o (first_state o place) bytes)
+
 -- where the text may not end, no record begins at the first byte of the one that is under way
 abbrev pub RefusesOpenEnd : Options → Type 0
 RefusesOpenEnd o = (place : CutPlace) (bytes : List ℕ) → IsFirstPlace place → RefusesEnd (cut_after o (first_state o place) bytes)

@@ -2,7 +2,7 @@
 ghost use Rattle.std.specs.Prelude.{ℕ};
 ghost use Rattle.morsel_grammar.specs.Options.{Options, AreOptions};
 ghost use Rattle.morsel_grammar.specs.Machine.{CutState};
-ghost use Rattle.morsel_grammar.specs.Cuts.{PassesParts, JoinsPlaces, StaysWithin, HoldsAtLast, HoldsNotLater, FollowsReading, ReadsToFirstEnd, ReadsNothingOpen, AreWholeAtEnds, EndsAfterWhole, CutsAfterWhole, PassesWhatIsLeft, FindsNoEnd, RefusesWhateverFollows, RefusesOpenEnd, EndsWithRecord, RefusesForGood, CarriesBegun, CountsBegun, BeginsAtEnds};
+ghost use Rattle.morsel_grammar.specs.Cuts.{PassesParts, JoinsPlaces, StaysWithin, HoldsAtLast, HoldsNotLater, FollowsReading, ReadsToFirstEnd, ReadsNothingOpen, AreWholeAtEnds, EndsAfterWhole, CutsAfterWhole, PassesWhatIsLeft, FindsNoEnd, RefusesWhateverFollows, RefusesWithoutDelay, RefusesOpenEnd, EndsWithRecord, RefusesForGood, CarriesBegun, CountsBegun, BeginsAtEnds};
 
 /// A text in two parts is passed one part after the other, by any machine.
 #[tactic(auto, using(crate::proofs::StateLemmas::passes_parts))]
@@ -82,6 +82,12 @@ pub fn no_end_is_no_whole_record()
 #[tactic(auto, using(crate::proofs::CutLemmas::refuses_whatever_follows))]
 pub fn what_is_refused_is_no_record()
     ensures { (o : Options) → AreOptions o → RefusesWhateverFollows o }
+{}
+
+/// Where nothing that follows can make the record under way one, the machine refuses it.
+#[tactic(auto, using(crate::proofs::CutLemmas::refuses_without_delay))]
+pub fn what_can_be_no_record_is_refused()
+    ensures { (o : Options) → AreOptions o → RefusesWithoutDelay o }
 {}
 
 /// Where a text may not end, the record under way is none.

@@ -13,9 +13,9 @@ pub use cuts::{
     records_begin_where_others_end, the_last_place_is_found_part_by_part,
     the_last_place_is_within_the_text, the_machine_follows_what_is_read,
     the_test_holds_at_the_last_place, up_to_the_last_end_there_are_whole_records,
-    what_is_left_at_the_end_is_one_record, what_is_left_is_passed_alone,
-    what_is_refused_is_no_record, where_a_record_began_counts_from_the_first,
-    where_a_record_began_is_found_part_by_part,
+    what_can_be_no_record_is_refused, what_is_left_at_the_end_is_one_record,
+    what_is_left_is_passed_alone, what_is_refused_is_no_record,
+    where_a_record_began_counts_from_the_first, where_a_record_began_is_found_part_by_part,
 };
 pub use laws::{
     a_file_of_the_grammar_is_one_that_is_read, a_record_ends_with_an_eol_byte_or_the_text,
