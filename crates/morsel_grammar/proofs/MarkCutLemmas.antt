@@ -4,7 +4,7 @@ use Rattle.std.specs.Prelude.{Bool, true, false, ◌&&◌, ◌==◌, if◌then�
 use Rattle.morsel_grammar.specs.Options.{Options}
 use Rattle.morsel_grammar.specs.Split.{is_quote}
 use Rattle.morsel_grammar.specs.Machine.{CutPlace, CutState, AtOpening, InMarkOne, InMarkTwo, AfterMark, AfterEol, AfterSeparator, InPlain, InQuotes, AfterQuote, AfterReturn, InComment, BrokenQuote, place_or_later, plain_step, first_step, closed_step, place_step, is_after_eol, begins_record, matched_step, is_whole_prefix, first_state, cut_step, cut_after, last_end, last_begin, RefusesRecord, RefusesEnd}
-use Rattle.morsel_grammar.specs.Cuts.{text_from}
+use Rattle.morsel_grammar.specs.Cuts.{text_from, text_begins}
 use Rattle.morsel_grammar.proofs.RunLemmas.{lone}
 use Rattle.morsel_grammar.proofs.FirstEndLemmas.{start}
 
@@ -178,31 +178,38 @@ show_places s t text place other s_is t_is may other_may ends other_ends =
 -- bytes that begin at a place, beside the text of their records after the start of another
 pub record IsPassed (o : Options) (place : CutPlace) (bytes : List ℕ) : Type 0 where
   pub mark : ℕ
-  pub text : text_from place bytes ≡ drop mark bytes
+  pub mark_is : text_begins place bytes ≡ mark
   pub begin : last_begin o (first_state o place) bytes ≡ mark + last_end o (start o) (drop mark bytes)
   pub no_end : last_end o (first_state o place) bytes ≡ 0 → last_end o (start o) (drop mark bytes) ≡ 0
   pub no_end_again : last_end o (start o) (drop mark bytes) ≡ 0 → last_end o (first_state o place) bytes ≡ 0
   pub show : ShowSame (cut_after o (first_state o place) bytes) (cut_after o (start o) (drop mark bytes)) (drop mark bytes)
 
+pub text_from-begins : (place : CutPlace) (bytes : List ℕ) → text_from place bytes ≡ drop (text_begins place bytes) bytes
+text_from-begins AtOpening bytes = refl
+text_from-begins place bytes = refl
+
+pub passed_text : (o : Options) (place : CutPlace) (bytes : List ℕ) → (all : IsPassed o place bytes) → text_from place bytes ≡ drop all.mark bytes
+passed_text o place bytes all = text_from-begins place bytes ∙ ap (λ (n : ℕ). drop n bytes) all.mark_is
+
 nothing_added : (a b : ℕ) → a ≡ b → a ≡ 0 + b
 nothing_added a b same = omega arith
 
-pub passed_same : (o : Options) (place : CutPlace) (bytes : List ℕ) → text_from place bytes ≡ bytes → IsSameFrom o (first_state o place) (start o) bytes → IsPassed o place bytes
+pub passed_same : (o : Options) (place : CutPlace) (bytes : List ℕ) → text_begins place bytes ≡ 0 → IsSameFrom o (first_state o place) (start o) bytes → IsPassed o place bytes
 passed_same o place bytes is same = record {
   mark = 0;
-  text = is;
+  mark_is = is;
   begin = nothing_added (last_begin o (first_state o place) bytes) (last_end o (start o) bytes) same.begin;
   no_end = λ none. sym same.end ∙ none;
   no_end_again = λ none. same.end ∙ none;
   show = show_equal (cut_after o (first_state o place) bytes) (cut_after o (start o) bytes) bytes same.after;
 }
 
-pub passed_shown : (o : Options) (place : CutPlace) (bytes : List ℕ) → text_from place bytes ≡ bytes → last_begin o (first_state o place) bytes ≡ 0
+pub passed_shown : (o : Options) (place : CutPlace) (bytes : List ℕ) → text_begins place bytes ≡ 0 → last_begin o (first_state o place) bytes ≡ 0
     → last_end o (first_state o place) bytes ≡ 0 → last_end o (start o) bytes ≡ 0
     → ShowSame (cut_after o (first_state o place) bytes) (cut_after o (start o) bytes) bytes → IsPassed o place bytes
 passed_shown o place bytes is begin end start_end show = record {
   mark = 0;
-  text = is;
+  mark_is = is;
   begin = nothing_added (last_begin o (first_state o place) bytes) (last_end o (start o) bytes) (begin ∙ sym start_end);
   no_end = λ none. start_end;
   no_end_again = λ none. end;
@@ -227,7 +234,7 @@ mark_begin o bytes = begin_is_end o (first_state o AfterMark) bytes tt ∙ mark_
 pub passed_mark : (o : Options) (bytes : List ℕ) → IsPassed o AfterMark bytes
 passed_mark o bytes = record {
   mark = 0;
-  text = refl;
+  mark_is = refl;
   begin = nothing_added (last_begin o (first_state o AfterMark) bytes) (last_end o (start o) bytes) (mark_begin o bytes);
   no_end = λ none. sym (mark_end o bytes) ∙ none;
   no_end_again = λ none. mark_end o bytes ∙ none;
