@@ -17,3 +17,18 @@ pub mod ResultLemmas
 pub mod PieceRowLemmas
 pub mod OneEndLemmas
 pub mod OneRowLemmas
+mod MachineFacts
+pub mod StateLemmas
+pub mod RunLemmas
+pub mod FieldRunLemmas
+pub mod FieldsRunLemmas
+pub mod AlikeLemmas
+pub mod PrefixRunLemmas
+pub mod RecordRunLemmas
+pub mod FirstEndLemmas
+pub mod WholeCutLemmas
+pub mod MarkCutLemmas
+pub mod OpeningCutLemmas
+pub mod RefusalLemmas
+pub mod CutLemmas
+pub mod BegunLemmas
