@@ -1,4 +1,6 @@
 //! Texts with the rows that they have, or the place of the record that is refused, worked out by hand.
+mod dialects;
+mod pieces;
 mod plain;
 
 use super::schema_of;

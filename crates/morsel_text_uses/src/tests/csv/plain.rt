@@ -1,4 +1,6 @@
-//! Both readers over every short text of six bytes that the rules of CSV name.
+//! Both readers over every short text of the bytes that the rules of CSV name: of up to six of them under standard options,
+//! and of up to five under each kind of options.
+use super::dialects::{COUNTS as COUNTS_OF_SEVEN, DIALECTS, Dialect, options_of, write_text as write_text_of};
 use crate::tests::schema_of;
 use morsel_frame::{Frame, Schema};
 use morsel_grammar::CsvOptions;
@@ -114,6 +116,67 @@ fn agree_up_to_six(rt: &impl Abort, alloc: Global, columns: &[(&str, ColType)], 
     drop(schema);
 }
 
+/// Both readers agree of every text of this length and kind.
+fn agree_of_kind(
+    rt: &impl Abort,
+    alloc: Global,
+    dialect: &Dialect,
+    len: usize,
+    count: usize,
+    schema: &Schema,
+    head: bool,
+    options: &CsvOptions,
+) {
+    let used = vec![in alloc; true; schema.len()].expect(rt, "memory");
+    let mut text = Vec::new(alloc);
+    for number in 0..count {
+        write_text_of(&mut text, dialect, number, len).expect(rt, "memory");
+        agree(
+            rt,
+            alloc,
+            text.as_slice(),
+            schema,
+            used.as_slice(),
+            head,
+            options,
+        );
+    }
+    drop(text);
+    drop(used);
+}
+
+/// Both readers agree of every text of up to five bytes of this kind.
+fn agree_of_dialect(
+    rt: &impl Abort,
+    alloc: Global,
+    dialect: &Dialect,
+    columns: &[(&str, ColType)],
+    head: bool,
+) {
+    let schema = schema_of(rt, alloc, columns);
+    let options = options_of(rt, alloc, dialect);
+    for (len, count) in COUNTS_OF_SEVEN.iter().enumerate() {
+        agree_of_kind(rt, alloc, dialect, len, *count, &schema, head, &options);
+    }
+    drop(options);
+    drop(schema);
+}
+
+/// Both readers agree under each kind of options. Says how many kinds that were.
+fn agree_of_all_kinds(
+    rt: &impl Abort,
+    alloc: Global,
+    columns: &[(&str, ColType)],
+    head: bool,
+) -> usize {
+    let mut kinds: usize = 0;
+    for dialect in &DIALECTS {
+        agree_of_dialect(rt, alloc, dialect, columns, head);
+        kinds = kinds.saturating_add(1);
+    }
+    kinds
+}
+
 /// One number.
 const ONE: &[(&str, ColType)] = &[("c0", ColType::Int)];
 
@@ -123,19 +186,23 @@ const TWO: &[(&str, ColType)] = &[("c0", ColType::Text), ("c1", ColType::Int)];
 #[test]
 fn both_readers_agree_of_one_column_after_a_header(rt: HostRuntime) {
     agree_up_to_six(&rt, rt.alloc(), ONE, true);
+    assert_eq!(rt; agree_of_all_kinds(&rt, rt.alloc(), ONE, true), 11);
 }
 
 #[test]
 fn both_readers_agree_of_one_column_without_a_header(rt: HostRuntime) {
     agree_up_to_six(&rt, rt.alloc(), ONE, false);
+    assert_eq!(rt; agree_of_all_kinds(&rt, rt.alloc(), ONE, false), 11);
 }
 
 #[test]
 fn both_readers_agree_of_two_columns_after_a_header(rt: HostRuntime) {
     agree_up_to_six(&rt, rt.alloc(), TWO, true);
+    assert_eq!(rt; agree_of_all_kinds(&rt, rt.alloc(), TWO, true), 11);
 }
 
 #[test]
 fn both_readers_agree_of_two_columns_without_a_header(rt: HostRuntime) {
     agree_up_to_six(&rt, rt.alloc(), TWO, false);
+    assert_eq!(rt; agree_of_all_kinds(&rt, rt.alloc(), TWO, false), 11);
 }
