@@ -2,13 +2,15 @@
 //! number of rows it also prints the time of each row.
 #![tactic(auto)]
 
+mod cuts;
 mod expr;
+mod facts;
 mod table;
 mod timing;
 
 use morsel_meaning::Fault;
 use std::io::ErrorKind;
-use std::rt::Env;
+use std::rt::{Clock, Env};
 use std::{env, io};
 use timing::Timing;
 
@@ -25,13 +27,19 @@ fn rows_asked<R: Env + AllocGlobal>(rt: &R) -> io::Result<Option<usize>> {
     })
 }
 
+/// Runs all parts.
+fn run<R: Clock + Print + AllocGlobal>(rt: &R, timing: Timing, rows: usize) -> Result<(), Fault> {
+    expr::run(rt, timing, rows)?;
+    cuts::run(rt, timing)
+}
+
 fn main(rt: HostRuntime) -> io::Result<()> {
     let asked = rows_asked(&rt)?;
     let timing = Timing {
         timed: asked.is_some(),
         runs: if asked.is_some() { 7 } else { 1 },
     };
-    match expr::run(&rt, timing, asked.unwrap_or(FEW_ROWS)) {
+    match run(&rt, timing, asked.unwrap_or(FEW_ROWS)) {
         Ok(()) => Ok(()),
         Err(Fault::OutOfMemory) => Err(io::Error::from(ErrorKind::OutOfMemory)),
         Err(_) => Err(io::Error::from(ErrorKind::Other)),

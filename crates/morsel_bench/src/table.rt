@@ -20,7 +20,7 @@ impl Numbers {
     }
 
     /// The next one.
-    fn next(&mut self) -> u64 {
+    pub fn next(&mut self) -> u64 {
         let mut state = self.state;
         state ^= state.wrapping_shl(13);
         state ^= state >> 7;

@@ -5,6 +5,7 @@ use std::alloc::Global;
 use std::process::Abort;
 
 /// How a text is written, with a byte more that matters to it.
+#[derive(Clone, Copy)]
 pub struct Dialect {
     separator: u8,
     quote: Option<u8>,

@@ -53,6 +53,7 @@ fn steps_of(rt: &impl Abort, text: &[u8], cut: usize, options: &CsvOptions) -> [
 }
 
 /// How a text is read: its columns and options.
+#[derive(Clone, Copy)]
 struct Task<'a> {
     alloc: Global,
     schema: &'a Schema,
