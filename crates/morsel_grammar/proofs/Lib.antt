@@ -17,3 +17,4 @@ pub mod ResultLemmas
 pub mod PieceRowLemmas
 pub mod OneEndLemmas
 pub mod OneRowLemmas
+mod MachineFacts

@@ -11,3 +11,4 @@ pub mod GrammarRows
 pub mod GrammarResults
 pub mod Joined
 pub mod OneEnd
+pub mod Machine
