@@ -1,0 +1,4 @@
+-- What a cutter says of the bytes that it was fed.
+pub mod Places
+pub mod Runs
+pub mod Cutting
