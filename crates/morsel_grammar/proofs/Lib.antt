@@ -18,3 +18,9 @@ pub mod PieceRowLemmas
 pub mod OneEndLemmas
 pub mod OneRowLemmas
 mod MachineFacts
+pub mod StateLemmas
+pub mod RunLemmas
+pub mod FieldRunLemmas
+pub mod FieldsRunLemmas
+pub mod AlikeLemmas
+pub mod PrefixRunLemmas

@@ -12,3 +12,4 @@ pub mod GrammarResults
 pub mod Joined
 pub mod OneEnd
 pub mod Machine
+pub mod Cuts

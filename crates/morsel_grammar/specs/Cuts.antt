@@ -1,0 +1,100 @@
+-- What the machine that finds the cuts and the grammar say of each other, for one choice of options; and what holds of any machine.
+use Rattle.std.specs.Prelude.{◌≡◌, ◌≢◌, ◌⊎◌, ◌↔◌, ℕ, ◌≤◌, Bool, true, Option, Some, None, List, [], ◌∷◌, ◌++◌, length, take, drop}
+use Rattle.morsel_grammar.specs.Options.{Options}
+use Rattle.morsel_grammar.specs.Grammar.{CsvRecord, IsRecord}
+use Rattle.morsel_grammar.specs.Split.{record_at}
+use Rattle.morsel_grammar.specs.Rows.{unmarked}
+use Rattle.morsel_grammar.specs.GrammarRows.{AreWholeRecords, BeginsNoRecord}
+use Rattle.morsel_grammar.specs.Machine.{CutPlace, CutState, AtOpening, AfterMark, AfterEol, state_after, last_place, joined_place, first_state, cut_after, last_end, last_begin, RefusesRecord, RefusesEnd}
+
+-- a text in two parts is passed one part after the other
+abbrev pub PassesParts : {S : Type 0} → (S → ℕ → S) → Type 0
+PassesParts {S} step = (s : S) (front back : List ℕ) → state_after step s (front ++ back) ≡ state_after step (state_after step s front) back
+
+-- the last place of a text in two parts
+abbrev pub JoinsPlaces : {S : Type 0} → (S → ℕ → S) → Type 0
+JoinsPlaces {S} step = (test : S → Bool) (s : S) (front back : List ℕ) → last_place step test s (front ++ back)
+    ≡ joined_place (last_place step test s front) (length front) (last_place step test (state_after step s front) back)
+
+-- the last place is within the text
+abbrev pub StaysWithin : {S : Type 0} → (S → ℕ → S) → Type 0
+StaysWithin {S} step = (test : S → Bool) (s : S) (bytes : List ℕ) → last_place step test s bytes ≤ length bytes
+
+-- where there is a last place, the test holds at it
+abbrev pub HoldsAtLast : {S : Type 0} → (S → ℕ → S) → Type 0
+HoldsAtLast {S} step = (test : S → Bool) (s : S) (bytes : List ℕ) → last_place step test s bytes ≢ 0
+    → test (state_after step s (take (last_place step test s bytes) bytes)) ≡ true
+
+-- after the last place there is none
+abbrev pub HoldsNotLater : {S : Type 0} → (S → ℕ → S) → Type 0
+HoldsNotLater {S} step = (test : S → Bool) (s : S) (bytes : List ℕ) → (let n = last_place step test s bytes in
+    last_place step test (state_after step s (take n bytes)) (drop n bytes) ≡ 0)
+
+-- the place at which bytes begin: a file, its first record after the mark, or a record after an eol byte
+abbrev pub IsFirstPlace : CutPlace → Type 0
+IsFirstPlace AtOpening = Unit {0}
+IsFirstPlace AfterMark = Unit {0}
+IsFirstPlace AfterEol = Unit {0}
+IsFirstPlace place = ⊥
+
+-- the text of the records, of the bytes that begin at a place
+abbrev pub text_from : CutPlace → List ℕ → List ℕ
+text_from AtOpening bytes = unmarked bytes
+text_from place bytes = bytes
+
+-- the record is what there is up to the first place where the text may be cut; or there is none, and it ends with the text
+abbrev pub EndsAtFirst : Options → CutState → List ℕ → List ℕ → Type 0
+EndsAtFirst o s text rest =
+    ((line : List ℕ) × (text ≡ line ++ o.eol ∷ rest) × (last_end o s line ≡ 0) × (cut_after o s (line ++ o.eol ∷ []) ≡ first_state o AfterEol))
+    ⊎ ((rest ≡ []) × (last_end o s text ≡ 0) × (RefusesEnd (cut_after o s text) → ⊥))
+
+-- the machine goes over what is found at the front of a text, up to its end. Where nothing is, it finds no end, and the text may not end
+abbrev pub FollowsFound : {R : Type 0} → Options → CutState → List ℕ → Option (R × List ℕ) → Type 0
+FollowsFound o s text None = (last_end o s text ≡ 0) × RefusesEnd (cut_after o s text)
+FollowsFound o s text (Some found) = EndsAtFirst o s text found.1
+
+-- what is read at the front of a text, the machine follows
+abbrev pub FollowsReading : Options → Type 0
+FollowsReading o = (text : List ℕ) → FollowsFound o (first_state o AfterEol) text (record_at o text)
+
+-- a record is read up to the first place where the text may be cut, or up to the end of the text where there is none
+abbrev pub ReadsToFirstEnd : Options → Type 0
+ReadsToFirstEnd o = (text rest : List ℕ) → text ≢ [] → EndsAtFirst o (first_state o AfterEol) text rest → (r : CsvRecord) × (record_at o text ≡ Some (r, rest))
+
+-- no record is read where the text has no place where it may be cut, and may not end
+abbrev pub ReadsNothingOpen : Options → Type 0
+ReadsNothingOpen o = (text : List ℕ) → last_end o (first_state o AfterEol) text ≡ 0 → RefusesEnd (cut_after o (first_state o AfterEol) text) → record_at o text ≡ None
+
+-- no record with its eol byte is a front of the text
+abbrev pub BeginsNoWholeRecord : Options → List ℕ → Type 0
+BeginsNoWholeRecord o text = (r : CsvRecord) (line rest : List ℕ) → text ≡ line ++ o.eol ∷ rest → IsRecord o r text rest → ⊥
+
+-- bytes at whose end the text may be cut are whole records, each with its eol byte
+abbrev pub AreWholeAtEnds : Options → Type 0
+AreWholeAtEnds o = (place : CutPlace) (bytes : List ℕ) → IsFirstPlace place → (cut_after o (first_state o place) bytes).place ≡ AfterEol
+    → (records : List CsvRecord) × AreWholeRecords o (text_from place bytes) records
+
+-- after whole records, at least one, a record begins
+abbrev pub EndsAfterWhole : Options → Type 0
+EndsAfterWhole o = (place : CutPlace) (bytes : List ℕ) (r : CsvRecord) (records : List CsvRecord) → IsFirstPlace place → AreWholeRecords o (text_from place bytes) (r ∷ records)
+    → cut_after o (first_state o place) bytes ≡ first_state o AfterEol
+
+-- there is no place where the text may be cut exactly where it begins with no record that has its eol byte
+abbrev pub FindsNoEnd : Options → Type 0
+FindsNoEnd o = (place : CutPlace) (bytes : List ℕ) → IsFirstPlace place
+    → (last_end o (first_state o place) bytes ≡ 0) ↔ BeginsNoWholeRecord o (text_from place bytes)
+
+-- where a record is refused, none begins at its first byte, whatever follows
+abbrev pub RefusesWhateverFollows : Options → Type 0
+RefusesWhateverFollows o = (place : CutPlace) (bytes more : List ℕ) → IsFirstPlace place → RefusesRecord (cut_after o (first_state o place) bytes)
+    → BeginsNoRecord o (drop (last_begin o (first_state o place) bytes) bytes ++ more)
+
+-- where the text may not end, no record begins at the first byte of the one that is under way
+abbrev pub RefusesOpenEnd : Options → Type 0
+RefusesOpenEnd o = (place : CutPlace) (bytes : List ℕ) → IsFirstPlace place → RefusesEnd (cut_after o (first_state o place) bytes)
+    → BeginsNoRecord o (drop (last_begin o (first_state o place) bytes) bytes)
+
+-- where the text may end, what there is of the record that is under way is one record
+abbrev pub EndsWithRecord : Options → Type 0
+EndsWithRecord o = (place : CutPlace) (bytes : List ℕ) → IsFirstPlace place → (RefusesEnd (cut_after o (first_state o place) bytes) → ⊥)
+    → (let left = drop (last_begin o (first_state o place) bytes) bytes in left ≢ [] → (r : CsvRecord) × IsRecord o r left [])
