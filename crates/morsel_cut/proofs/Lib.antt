@@ -1,4 +1,4 @@
 -- Lemmas on runs of bytes.
-pub mod JoinLemmas
 pub mod RunLemmas
 pub mod PassLemmas
+pub mod CuttingLemmas

@@ -10,7 +10,7 @@ use Rattle.morsel_cut.specs.declared.step.Signs.{Signs}
 use Rattle.morsel_cut.specs.declared.pass.Run.{Run}
 use Rattle.morsel_cut.specs.declared.prefix.Standing.{Standing}
 use Rattle.morsel_cut.specs.declared.prefix.Passed.{Passed}
-use Rattle.morsel_cut.proofs.JoinLemmas.{state_after-append, last_place-append, last_place-le}
+use Rattle.morsel_grammar.proofs.StateLemmas.{state_after-append, last_place-append, last_place-within}
 
 -- the last place of a text with one byte more
 one_more : (step : CutState → ℕ → CutState) (test : CutState → Bool) (s : CutState) (front : List ℕ) (b : ℕ) (before len last : ℕ) (s' : CutState)
@@ -42,8 +42,11 @@ passes_on o s text at passed standing next within first state_is same end_is beg
       begin_is = one_more (cut_step o) (λ (x : CutState). begins_record x.place) s front b passed.begin (at + 1) next.begin (cut_state standing) first.begin_is size stepped begin_is;
     })
 
+pub passed_end-le : (o : Options) (s : CutState) (bytes : List ℕ) (passed : Passed) → Passes o s bytes passed → passed.end ≤ length bytes
+passed_end-le o s bytes passed passes = omega (arith, passes.end_is, last_place-within (cut_step o) (λ (x : CutState). is_after_eol x.place) s bytes)
+
 pub passed_begin-le : (o : Options) (s : CutState) (bytes : List ℕ) (passed : Passed) → Passes o s bytes passed → passed.begin ≤ length bytes
-passed_begin-le o s bytes passed passes = omega (arith, passes.begin_is, last_place-le (cut_step o) (λ (x : CutState). begins_record x.place) s bytes)
+passed_begin-le o s bytes passed passes = omega (arith, passes.begin_is, last_place-within (cut_step o) (λ (x : CutState). begins_record x.place) s bytes)
 
 -- without comments the machine has no more than its place
 abbrev bare : CutPlace → CutState

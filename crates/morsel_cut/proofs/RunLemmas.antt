@@ -12,7 +12,7 @@ use Rattle.morsel_cut.specs.Runs.{up_to_last, RunsTo}
 use Rattle.morsel_cut.specs.declared.step.ByteAt.{ByteAt}
 use Rattle.morsel_cut.specs.declared.step.ByteAt.TheVariants as places
 use Rattle.morsel_cut.specs.declared.pass.Run.{Run}
-use Rattle.morsel_cut.proofs.JoinLemmas.{state_after-append, last_place-append, last_place-le}
+use Rattle.morsel_grammar.proofs.StateLemmas.{state_after-append, last_place-append, last_place-within}
 
 -- none of these bytes is a quote
 abbrev pub AreUnquoted : Option ℕ → List ℕ → Type 0
@@ -166,7 +166,7 @@ run_on o place text at len run next both within first second place_is end_is beg
 
 -- no end is behind the bytes
 pub run_end-le : (o : Options) (place : CutPlace) (bytes : List ℕ) (run : Run) → RunsTo o place bytes run → run.end ≤ length bytes
-run_end-le o place bytes run runs = omega (arith, runs.end_is, last_place-le (place_step o) is_after_eol place bytes)
+run_end-le o place bytes run runs = omega (arith, runs.end_is, last_place-within (place_step o) is_after_eol place bytes)
 
 pub run_begin-le : (o : Options) (place : CutPlace) (bytes : List ℕ) (run : Run) → RunsTo o place bytes run → run.begin ≤ length bytes
-run_begin-le o place bytes run runs = omega (arith, runs.begin_is, last_place-le (place_step o) begins_record place bytes)
+run_begin-le o place bytes run runs = omega (arith, runs.begin_is, last_place-within (place_step o) begins_record place bytes)

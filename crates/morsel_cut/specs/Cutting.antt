@@ -1,9 +1,9 @@
 -- A text that is cut: what was fed of it, and what feeding more answers.
-use Rattle.std.specs.Prelude.{◌≡◌, ℕ, ◌+◌, true, false, Result, Ok, Err, List, [], length}
+use Rattle.std.specs.Prelude.{◌≡◌, ℕ, ◌+◌, true, false, Result, Ok, Err, List, [], ◌++◌, length}
 use Rattle.morsel_meaning.specs.declared.fault.Fault.{Fault}
 use Rattle.morsel_meaning.specs.declared.fault.Fault.TheVariants as faults
 use Rattle.morsel_grammar.specs.Options.{Options, options_of}
-use Rattle.morsel_grammar.specs.Machine.{AtOpening, CutState, first_state, cut_after, last_end, begun_after, RefusesRecord}
+use Rattle.morsel_grammar.specs.Machine.{AtOpening, CutState, first_state, cut_after, last_end, last_begin, begun_after, RefusesRecord}
 
 -- a text that is cut, as far as it was fed
 pub record Cutting : Type 0 where
@@ -35,7 +35,21 @@ fed_with c bytes = record {
 abbrev pub begun_fault : Cutting → Fault
 begun_fault c = faults.Malformed c.file c.begun
 
--- a piece was fed: how many of its bytes there are up to the last end of a record, 0 where none ends in it; or the record that is under way is none
-abbrev pub Feeds : Cutting → List ℕ → Result ℕ Fault → Cutting → Type 0
-Feeds old piece (Ok len) new = (new ≡ fed_with old piece) × (len ≡ last_end old.options old.state piece) × (RefusesRecord new.state → ⊥)
-Feeds old piece (Err fault) new = (new ≡ fed_with old piece) × (fault ≡ begun_fault new) × RefusesRecord new.state
+-- how many bytes of the piece there are up to the last end of a record, 0 where none ends in it; or the record that is under way is none
+abbrev pub Feeds : Cutting → List ℕ → Result ℕ Fault → Type 0
+Feeds c piece (Ok len) = (len ≡ last_end c.options c.state piece) × (RefusesRecord (fed_with c piece).state → ⊥)
+Feeds c piece (Err fault) = (fault ≡ begun_fault (fed_with c piece)) × RefusesRecord (fed_with c piece).state
+
+-- a fault comes again, whatever is fed
+abbrev pub KeepsFaults : Type 0
+KeepsFaults = (c : Cutting) (bytes : List ℕ) → RefusesRecord c.state
+    → RefusesRecord (fed_with c bytes).state × (begun_fault (fed_with c bytes) ≡ begun_fault c)
+
+-- bytes that are fed in two pieces are fed as in one
+abbrev pub FeedsPieces : Type 0
+FeedsPieces = (c : Cutting) (front back : List ℕ) → fed_with (fed_with c front) back ≡ fed_with c (front ++ back)
+
+-- a text is cut by its separator, quote, eol and comment prefix alone
+abbrev pub CutsByBytes : Type 0
+CutsByBytes = (o : Options) (s : CutState) (bytes : List ℕ) → (cut_after (cut_options o) s bytes ≡ cut_after o s bytes)
+    × (last_end (cut_options o) s bytes ≡ last_end o s bytes) × (last_begin (cut_options o) s bytes ≡ last_begin o s bytes)

@@ -4,7 +4,7 @@ ghost use Rattle.morsel_grammar.specs.Options.{AreOptions};
 ghost use Rattle.morsel_grammar.specs.Machine.{RefusesEnd};
 ghost use Rattle.morsel_cut.specs.Places.{cut_state, options_with};
 ghost use Rattle.morsel_cut.specs.Runs.{Passes};
-ghost use Rattle.morsel_cut.specs.Cutting.{cut_opening, begun_fault, Feeds};
+ghost use Rattle.morsel_cut.specs.Cutting.{cut_opening, fed_with, begun_fault, Feeds};
 
 use crate::pass::whole_run;
 use crate::prefix::{Passed, Standing, pass_bytes};
@@ -89,7 +89,9 @@ impl Cutter {
     /// that record, counted from the first byte of the file; and so it is at every later call.
     pub fn feed(&mut self, piece: &[u8]) -> Result<usize, Fault>
         requires places { self.old.fed + length piece.now < 2 ^ 64 }
-        ensures { Feeds self.old piece.now result self.new }
+        ensures fed { self.new ≡ fed_with self.old piece.now }
+        ensures answer { Feeds self.old piece.now result }
+        ensures within { IfOk result (λ len. len ≤ length piece.now) }
     {
         let passed = pass(self.standing, piece, self.signs, &self.prefix);
         if passed.begin > 0 {
@@ -128,7 +130,8 @@ fn pass(from: Standing, piece: &[u8], signs: Signs, prefix: &Option<Name>) -> Pa
     requires matched { prefix.now ≡ None → from.matched ≡ None }
     ensures passes { Passes (options_with signs prefix.now) (cut_state from) piece.now result }
     ensures matched { prefix.now ≡ None → result.standing.matched ≡ None }
-    ensures within { result.begin ≤ length piece.now }
+    ensures ends { result.end ≤ length piece.now }
+    ensures begins { result.begin ≤ length piece.now }
 {
     if let Some(prefix) = prefix {
         return pass_bytes(from, piece, signs, prefix.as_str().as_bytes());

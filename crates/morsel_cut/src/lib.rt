@@ -2,8 +2,12 @@
 #![tactic(auto)]
 
 mod cutter;
+mod laws;
 mod pass;
 mod prefix;
 mod step;
+#[cfg(test)]
+mod tests;
 
 pub use cutter::Cutter;
+pub use laws::{a_fault_comes_again, a_text_is_cut_by_four_options, bytes_are_fed_piece_by_piece};

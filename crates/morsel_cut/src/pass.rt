@@ -131,7 +131,8 @@ fn front_run(from: ByteAt, text: &[u8], signs: Signs) -> (Run, usize)
 pub fn whole_run(from: ByteAt, text: &[u8], signs: Signs) -> Run
     requires apart { signs.separator ≢ signs.eol }
     ensures run { RunsTo (sign_options signs) (cut_place from) text.now result }
-    ensures within { result.begin ≤ length text.now }
+    ensures ends { result.end ≤ length text.now }
+    ensures begins { result.begin ≤ length text.now }
 {
     let mut run = Run {
         place: from,

@@ -88,7 +88,8 @@ fn prefix_step(from: Standing, b: u8, signs: Signs, prefix: &[u8]) -> Standing
 /// What a text does where comments begin with this prefix.
 pub fn pass_bytes(from: Standing, text: &[u8], signs: Signs, prefix: &[u8]) -> Passed
     ensures passes { Passes (options_with signs (Some prefix.now)) (cut_state from) text.now result }
-    ensures within { result.begin ≤ length text.now }
+    ensures ends { result.end ≤ length text.now }
+    ensures begins { result.begin ≤ length text.now }
 {
     let mut passed = Passed {
         standing: from,

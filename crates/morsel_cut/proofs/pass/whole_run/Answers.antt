@@ -21,7 +21,12 @@ loop-at-preserved c = record {
       c.then-run.ensures.place c.then-run.ensures.end c.then-run.ensures.begin;
 }
 
-pub returns-clause-within : goal.returns-clause-within
-returns-clause-within c =
+pub returns-clause-ends : goal.returns-clause-ends
+returns-clause-ends c =
+    let within = run_end-le _ _ _ _ c.loop-at.invariant.run in
+    omega (arith, within, length-take {A = ℕ})
+
+pub returns-clause-begins : goal.returns-clause-begins
+returns-clause-begins c =
     let within = run_begin-le _ _ _ _ c.loop-at.invariant.run in
     omega (arith, within, length-take {A = ℕ})
