@@ -1,9 +1,9 @@
 -- States of the machine that finds cuts that differ in nothing that a text shows.
 use Rattle.std.proofs.Common.{◌≡◌, ◌≢◌, ℕ, ap, sym, refl, ◌∙◌, inl, inr, append_assoc}
 use Rattle.std.proofs.lemmas.List.{append-nil}
-use Rattle.std.specs.Prelude.{Bool, true, false, ◌⊎◌, if◌then◌else◌, Option, Some, None, List, [], ◌∷◌, ◌++◌}
+use Rattle.std.specs.Prelude.{Bool, true, false, if◌then◌else◌, Option, Some, None, List, [], ◌∷◌, ◌++◌}
 use Rattle.morsel_grammar.specs.Options.{Options}
-use Rattle.morsel_grammar.specs.Machine.{CutPlace, CutState, AfterEol, InQuotes, InComment, BrokenQuote, place_or_later, is_after_eol, begins_record, matched_step, place_step, is_whole_prefix, first_state, state_at, cut_step, cut_after, last_end, RefusesEnd}
+use Rattle.morsel_grammar.specs.Machine.{CutPlace, CutState, AfterEol, InComment, place_or_later, is_after_eol, begins_record, matched_step, place_step, is_whole_prefix, first_state, state_at, cut_step, cut_after, last_end, RefusesEnd}
 use Rattle.morsel_grammar.specs.Cuts.{EndsAtFirst, FollowsFound}
 use Rattle.morsel_grammar.proofs.ByteLemmas.{true_not_false}
 

@@ -1,11 +1,10 @@
 -- The machine that finds cuts goes over the field that is read at the front of a text.
-use Rattle.std.proofs.Common.{◌≡◌, ◌≢◌, ℕ, ap, sym, subst, refl, ◌∙◌, append_assoc}
+use Rattle.std.proofs.Common.{◌≡◌, ℕ, ap, sym, refl, ◌∙◌, append_assoc}
 use Rattle.std.specs.Prelude.{Bool, true, false, ◌==◌, if◌then◌else◌, Option, Some, None, List, [], ◌∷◌, ◌++◌}
 use Rattle.morsel_grammar.specs.Options.{Options, IsWithout}
-use Rattle.morsel_grammar.specs.Grammar.{CsvField}
-use Rattle.morsel_grammar.specs.Split.{is_quote, stops, plain_at, quoted_at, with_byte, in_quotes, plain_field, field_at, begins}
+use Rattle.morsel_grammar.specs.Split.{is_quote, plain_at, quoted_at, with_byte, in_quotes, plain_field, field_at}
 use Rattle.morsel_grammar.specs.Machine.{CutPlace, AfterSeparator, InPlain, InQuotes, AfterQuote, plain_step, first_step, place_step}
-use Rattle.morsel_grammar.proofs.ByteLemmas.{byte_itself, same_byte, other_byte}
+use Rattle.morsel_grammar.proofs.ByteLemmas.{other_byte}
 use Rattle.morsel_grammar.proofs.PlainFieldLemmas.{IsStop, IsPlainText, plain_at-read, quote_is}
 use Rattle.morsel_grammar.proofs.RunLemmas.{lone, IsRun, run_nothing, run_append, run_on}
 
@@ -47,8 +46,8 @@ plain_content o b bs (c ∷ bytes) after no_quote is =
     ∙ plain_step-on o c (other_byte c o.separator is.no_separator.0) (other_byte c o.eol is.no_eol.0) in (
       InPlain,
       run_append o (lone AfterSeparator) (lone InPlain) (lone InPlain) (c ∷ []) bytes
-      (run_on o AfterSeparator InPlain c plain refl)
-      (plain_run o bytes is.no_separator.1 is.no_eol.1),
+          (run_on o AfterSeparator InPlain c plain refl)
+          (plain_run o bytes is.no_separator.1 is.no_eol.1),
       is.stop,
     )
   where

@@ -1,15 +1,14 @@
 -- The machine that finds cuts goes over the fields that are read at the front of a text.
 use Rattle.std.proofs.Common.{◌≡◌, ℕ, zero, suc, ◌+◌, ◌<◌, ap, sym, subst, refl, ◌∙◌, inl, inr, arith, length-append}
-use Rattle.std.proofs.lemmas.List.{append-nil}
-use Rattle.std.specs.Prelude.{Bool, true, false, ◌&&◌, ◌||◌, ◌==◌, ◌⊎◌, if◌then◌else◌, Option, Some, None, List, [], ◌∷◌, ◌++◌, length}
+use Rattle.std.specs.Prelude.{Bool, true, false, ◌&&◌, ◌||◌, ◌==◌, if◌then◌else◌, Option, Some, None, List, [], ◌∷◌, length}
 use Rattle.morsel_grammar.specs.Options.{Options, AreOptions}
 use Rattle.morsel_grammar.specs.Grammar.{CsvField}
-use Rattle.morsel_grammar.specs.Split.{is_quote, stops, field_at, ended, returned, with_field, fields_then, fields_up_to}
-use Rattle.morsel_grammar.specs.Machine.{CutPlace, AtOpening, InMarkOne, InMarkTwo, AfterMark, AfterEol, AfterSeparator, InPlain, InQuotes, AfterQuote, AfterReturn, InComment, BrokenQuote, CutState, closed_step, place_step, RefusesEnd, cut_after}
+use Rattle.morsel_grammar.specs.Split.{field_at, ended, returned, with_field, fields_then, fields_up_to}
+use Rattle.morsel_grammar.specs.Machine.{CutPlace, AfterEol, AfterSeparator, InPlain, InQuotes, AfterQuote, AfterReturn, BrokenQuote, CutState, place_step, RefusesEnd}
 use Rattle.morsel_grammar.specs.Cuts.{EndsAtFirst, FollowsFound}
-use Rattle.morsel_grammar.proofs.ByteLemmas.{true_not_false, same_byte, other_byte, neither, either_first, either_second}
+use Rattle.morsel_grammar.proofs.ByteLemmas.{true_not_false, same_byte, neither}
 use Rattle.morsel_grammar.proofs.RecordEndLemmas.{is_quote-stop}
-use Rattle.morsel_grammar.proofs.RunLemmas.{lone, IsRun, run_nothing, run_append, run_on, ends_here, ends_with_text, ends_behind, follows_behind}
+use Rattle.morsel_grammar.proofs.RunLemmas.{lone, IsRun, run_nothing, run_append, run_on, ends_here, ends_with_text, follows_behind}
 use Rattle.morsel_grammar.proofs.FieldRunLemmas.{Follows, RunsField, field_at-run}
 
 -- what is found after a field

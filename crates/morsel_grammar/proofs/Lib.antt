@@ -24,3 +24,10 @@ pub mod FieldRunLemmas
 pub mod FieldsRunLemmas
 pub mod AlikeLemmas
 pub mod PrefixRunLemmas
+pub mod RecordRunLemmas
+pub mod FirstEndLemmas
+pub mod WholeCutLemmas
+pub mod MarkCutLemmas
+pub mod OpeningCutLemmas
+pub mod CutLemmas
+pub mod BegunLemmas

@@ -1,6 +1,6 @@
 -- Runs of the machine that finds cuts: stretches of a text within which no record ends.
 use Rattle.std.proofs.Common.{◌≡◌, ℕ, ap, sym, subst, refl, ◌∙◌, inl, inr, append_assoc}
-use Rattle.std.specs.Prelude.{Bool, true, false, if◌then◌else◌, Option, Some, None, List, [], ◌∷◌, ◌++◌, length}
+use Rattle.std.specs.Prelude.{Bool, false, Option, Some, None, List, [], ◌∷◌, ◌++◌, length}
 use Rattle.morsel_grammar.specs.Options.{Options}
 use Rattle.morsel_grammar.specs.Machine.{CutPlace, CutState, AtOpening, InMarkOne, InMarkTwo, AfterMark, AfterEol, AfterSeparator, InPlain, InQuotes, AfterQuote, AfterReturn, InComment, BrokenQuote, RefusesEnd, place_or_later, joined_place, place_step, is_after_eol, begins_record, matched_step, is_whole_prefix, first_state, state_at, cut_step, cut_after, last_end}
 use Rattle.morsel_grammar.specs.Cuts.{EndsAtFirst, FollowsFound}

@@ -1,6 +1,6 @@
 -- Any machine over bytes: its state and its last place, over a text in two parts.
-use Rattle.std.proofs.Common.{◌≡◌, ◌≢◌, ℕ, zero, suc, ◌+◌, ◌≤◌, ap, sym, subst, refl, ◌∙◌, arith}
-use Rattle.std.specs.Prelude.{Bool, true, false, if◌then◌else◌, List, [], ◌∷◌, ◌++◌, length, take, drop}
+use Rattle.std.proofs.Common.{◌≡◌, ◌≢◌, ℕ, zero, suc, ◌+◌, ◌≤◌, ap, refl, ◌∙◌, arith}
+use Rattle.std.specs.Prelude.{Bool, true, false, List, [], ◌∷◌, ◌++◌, length, take, drop}
 use Rattle.morsel_grammar.specs.Machine.{state_after, place_or_later, last_place, joined_place}
 use Rattle.morsel_grammar.specs.Cuts.{PassesParts, JoinsPlaces, StaysWithin, HoldsAtLast, HoldsNotLater}
 

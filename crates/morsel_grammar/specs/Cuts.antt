@@ -1,11 +1,11 @@
 -- What the machine that finds the cuts and the grammar say of each other, for one choice of options; and what holds of any machine.
-use Rattle.std.specs.Prelude.{◌≡◌, ◌≢◌, ◌⊎◌, ◌↔◌, ℕ, ◌≤◌, Bool, true, Option, Some, None, List, [], ◌∷◌, ◌++◌, length, take, drop}
+use Rattle.std.specs.Prelude.{◌≡◌, ◌≢◌, ◌⊎◌, ◌↔◌, ℕ, ◌+◌, ◌≤◌, Bool, true, Option, Some, None, List, [], ◌∷◌, ◌++◌, length, take, drop}
 use Rattle.morsel_grammar.specs.Options.{Options}
 use Rattle.morsel_grammar.specs.Grammar.{CsvRecord, IsRecord}
 use Rattle.morsel_grammar.specs.Split.{record_at}
 use Rattle.morsel_grammar.specs.Rows.{unmarked}
 use Rattle.morsel_grammar.specs.GrammarRows.{AreWholeRecords, BeginsNoRecord}
-use Rattle.morsel_grammar.specs.Machine.{CutPlace, CutState, AtOpening, AfterMark, AfterEol, state_after, last_place, joined_place, first_state, cut_after, last_end, last_begin, RefusesRecord, RefusesEnd}
+use Rattle.morsel_grammar.specs.Machine.{CutPlace, CutState, AtOpening, AfterMark, AfterEol, state_after, last_place, joined_place, first_state, cut_after, last_end, last_begin, begun_after, RefusesRecord, RefusesEnd}
 
 -- a text in two parts is passed one part after the other
 abbrev pub PassesParts : {S : Type 0} → (S → ℕ → S) → Type 0
@@ -59,7 +59,7 @@ FollowsReading o = (text : List ℕ) → FollowsFound o (first_state o AfterEol)
 
 -- a record is read up to the first place where the text may be cut, or up to the end of the text where there is none
 abbrev pub ReadsToFirstEnd : Options → Type 0
-ReadsToFirstEnd o = (text rest : List ℕ) → text ≢ [] → EndsAtFirst o (first_state o AfterEol) text rest → (r : CsvRecord) × (record_at o text ≡ Some (r, rest))
+ReadsToFirstEnd o = (text rest : List ℕ) → EndsAtFirst o (first_state o AfterEol) text rest → (r : CsvRecord) × (record_at o text ≡ Some (r, rest))
 
 -- no record is read where the text has no place where it may be cut, and may not end
 abbrev pub ReadsNothingOpen : Options → Type 0
@@ -78,6 +78,18 @@ AreWholeAtEnds o = (place : CutPlace) (bytes : List ℕ) → IsFirstPlace place 
 abbrev pub EndsAfterWhole : Options → Type 0
 EndsAfterWhole o = (place : CutPlace) (bytes : List ℕ) (r : CsvRecord) (records : List CsvRecord) → IsFirstPlace place → AreWholeRecords o (text_from place bytes) (r ∷ records)
     → cut_after o (first_state o place) bytes ≡ first_state o AfterEol
+
+-- bytes up to their last end are whole records, and after them a record begins
+abbrev pub CutsAfterWhole : Options → Type 0
+CutsAfterWhole o = (place : CutPlace) (bytes : List ℕ) → IsFirstPlace place → (let n = last_end o (first_state o place) bytes in
+    ((records : List CsvRecord) × AreWholeRecords o (text_from place (take n bytes)) records)
+    × (n ≢ 0 → cut_after o (first_state o place) (take n bytes) ≡ first_state o AfterEol))
+
+-- bytes after their last end have none, and the machine passes them as if nothing were before them
+abbrev pub PassesWhatIsLeft : Options → Type 0
+PassesWhatIsLeft o = (place : CutPlace) (bytes : List ℕ) → IsFirstPlace place → (let n = last_end o (first_state o place) bytes in
+    n ≢ 0 → (last_end o (first_state o AfterEol) (drop n bytes) ≡ 0)
+    × (cut_after o (first_state o AfterEol) (drop n bytes) ≡ cut_after o (first_state o place) bytes))
 
 -- there is no place where the text may be cut exactly where it begins with no record that has its eol byte
 abbrev pub FindsNoEnd : Options → Type 0
@@ -98,3 +110,21 @@ RefusesOpenEnd o = (place : CutPlace) (bytes : List ℕ) → IsFirstPlace place 
 abbrev pub EndsWithRecord : Options → Type 0
 EndsWithRecord o = (place : CutPlace) (bytes : List ℕ) → IsFirstPlace place → (RefusesEnd (cut_after o (first_state o place) bytes) → ⊥)
     → (let left = drop (last_begin o (first_state o place) bytes) bytes in left ≢ [] → (r : CsvRecord) × IsRecord o r left [])
+
+-- a refused record is refused for good, and no other begins
+abbrev pub RefusesForGood : Options → Type 0
+RefusesForGood o = (s : CutState) (bytes : List ℕ) → RefusesRecord s
+    → (cut_after o s bytes ≡ s) × (last_end o s bytes ≡ 0) × ((fed begun : ℕ) → begun_after o s fed begun bytes ≡ begun)
+
+-- the place of the record that is under way is found part by part
+abbrev pub CarriesBegun : Options → Type 0
+CarriesBegun o = (s : CutState) (fed begun : ℕ) (front back : List ℕ)
+    → begun_after o s fed begun (front ++ back) ≡ begun_after o (cut_after o s front) (fed + length front) (begun_after o s fed begun front) back
+
+-- where the first record of the bytes begins with them, the place of the one that is under way counts from there
+abbrev pub CountsBegun : Options → Type 0
+CountsBegun o = (s : CutState) (fed : ℕ) (bytes : List ℕ) → begun_after o s fed fed bytes ≡ fed + last_begin o s bytes
+
+-- after the mark, a record begins only where another ends
+abbrev pub BeginsAtEnds : Options → Type 0
+BeginsAtEnds o = (place : CutPlace) (bytes : List ℕ) → IsFirstPlace place → place ≢ AtOpening → last_begin o (first_state o place) bytes ≡ last_end o (first_state o place) bytes
