@@ -49,14 +49,14 @@ pub passed_begin-le : (o : Options) (s : CutState) (bytes : List ℕ) (passed : 
 passed_begin-le o s bytes passed passes = omega (arith, passes.begin_is, last_place-within (cut_step o) (λ (x : CutState). begins_record x.place) s bytes)
 
 -- without comments the machine has no more than its place
-abbrev bare : CutPlace → CutState
+abbrev pub bare : CutPlace → CutState
 bare place = record { matched = None; place = place }
 
 same_either : (t : Bool) (s : CutState) → (if t then s else s) ≡ s
 same_either true s = refl
 same_either false s = refl
 
-bare_step : (signs : Signs) (place : CutPlace) (b : ℕ) → cut_step (options_with signs None) (bare place) b ≡ bare (place_step (sign_options signs) place b)
+pub bare_step : (signs : Signs) (place : CutPlace) (b : ℕ) → cut_step (options_with signs None) (bare place) b ≡ bare (place_step (sign_options signs) place b)
 bare_step signs place b =
     let next = place_step (sign_options signs) place b in
     same_either (begins_record next) (bare next)

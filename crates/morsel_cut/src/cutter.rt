@@ -52,11 +52,7 @@ impl Cutter {
         ensures out_of_memory { IsOkUnless result Fault.OutOfMemory }
         ensures without_comments { options.now.comment ≡ None → IsOk result }
     {
-        let signs = Signs {
-            separator: options.separator(),
-            quote: options.quote(),
-            eol: options.eol(),
-        };
+        let signs = Signs::of(options);
         let Some(prefix) = options.comment() else {
             return Ok(Cutter {
                 signs,

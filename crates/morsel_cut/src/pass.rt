@@ -48,7 +48,7 @@ pub fn later_place(before: usize, len: usize, later: usize) -> usize
 
 /// How many bytes come before the next quote.
 #[inline(always)]
-fn unquoted_len(text: &[u8], quote: Option<u8>) -> usize
+pub fn unquoted_len(text: &[u8], quote: Option<u8>) -> usize
     ensures within { result ≤ length text.now }
     ensures unquoted { (k : ℕ) → k < result → is_quote quote (slice_index text.now k) ≡ false }
     ensures stops { result < length text.now → is_quote quote (slice_index text.now result) ≡ true }

@@ -65,7 +65,7 @@ fn matched_step(prefix: &[u8], matched: Option<usize>, b: u8) -> Option<usize>
 }
 
 /// The state after one byte more.
-fn prefix_step(from: Standing, b: u8, signs: Signs, prefix: &[u8]) -> Standing
+pub fn prefix_step(from: Standing, b: u8, signs: Signs, prefix: &[u8]) -> Standing
     ensures { cut_state result ≡ cut_step (options_with signs (Some prefix.now)) (cut_state from) b }
 {
     let place = signs.step(from.place, b);

@@ -10,7 +10,10 @@
 ghost use Rattle.std.specs.Prelude.{◌≡◌, ◌↔◌, IsTrue};
 ghost use Rattle.morsel_grammar.specs.Split.{is_quote};
 ghost use Rattle.morsel_grammar.specs.Machine.{is_after_eol, begins_record, plain_step, first_step, closed_step, place_step};
-ghost use Rattle.morsel_cut.specs.Places.{cut_place, sign_options, IsOutside};
+ghost use Rattle.morsel_cut.specs.Places.{cut_place, options_with, sign_options, IsOutside};
+ghost use Rattle.morsel_cut.specs.Cutting.{cut_options};
+
+use morsel_grammar::CsvOptions;
 
 /// Where the next byte of a text stands.
 #[derive(Clone, Copy, Debug, PartialEq, Eq)]
@@ -87,6 +90,17 @@ impl ByteAt {
 }
 
 impl Signs {
+    /// Those of a text that is written so.
+    pub fn of(options: &CsvOptions) -> Signs
+        ensures { options_with result options.now.comment ≡ cut_options options.now }
+    {
+        Signs {
+            separator: options.separator(),
+            quote: options.quote(),
+            eol: options.eol(),
+        }
+    }
+
     /// Whether a field that begins with this byte is quoted.
     #[inline(always)]
     pub fn is_quote(self, b: u8) -> bool
