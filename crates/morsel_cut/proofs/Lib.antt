@@ -5,3 +5,4 @@ pub mod CuttingLemmas
 pub mod SizeLemmas
 pub mod BlankLemmas
 pub mod RowLemmas
+pub mod CountLemmas

@@ -1,5 +1,5 @@
 //! Worked texts, and short texts cut at every place, under each kind of options.
-use crate::Cutter;
+use crate::{Cutter, HeadEnd, head_end, rows_of};
 use morsel_grammar::CsvOptions;
 use morsel_meaning::{Fault, Name, Why};
 use std::alloc::Global;
@@ -122,4 +122,50 @@ fn options_that_contradict_each_other_are_refused(rt: HostRuntime) -> Result<(),
     );
     drop(got);
     Ok(())
+}
+
+#[test]
+fn blank_lines_are_rows_of_one_column_alone(rt: HostRuntime) -> Result<(), Fail> {
+    let options = CsvOptions::standard(rt.alloc())?;
+    let text = b"a\n\nb\r\n\r\n\"c\nd\"\n\"\"";
+    let got = (rows_of(text, 1, &options), rows_of(text, 2, &options));
+    drop(options);
+    assert_eq!(rt; got, (6, 4));
+    Ok(())
+}
+
+#[test]
+fn comments_are_no_rows(rt: HostRuntime) {
+    let options = options_of(&rt, rt.alloc(), b',', Some(b'"'), b'\n', Some("\"#"));
+    let got = rows_of(b"\"#a\n\"\"\n\"#", 1, &options);
+    drop(options);
+    assert_eq!(rt; got, 1);
+}
+
+#[test]
+fn a_header_follows_comments_and_blank_lines(rt: HostRuntime) {
+    let options = options_of(&rt, rt.alloc(), b',', Some(b'"'), b'\n', Some("#"));
+    let got = head_end(b"\n#c\n\r\nid,x\n1,2\n", &options);
+    drop(options);
+    assert_eq!(rt;
+        got,
+        HeadEnd {
+            len: 11,
+            awaits_header: false
+        }
+    );
+}
+
+#[test]
+fn a_header_may_be_still_to_come(rt: HostRuntime) {
+    let options = options_of(&rt, rt.alloc(), b',', Some(b'"'), b'\n', Some("#"));
+    let got = head_end(b"\n#c\n", &options);
+    drop(options);
+    assert_eq!(rt;
+        got,
+        HeadEnd {
+            len: 4,
+            awaits_header: true
+        }
+    );
 }

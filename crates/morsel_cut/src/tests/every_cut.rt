@@ -1,5 +1,7 @@
-//! Every text of up to five bytes that the rules of CSV name, cut at every place: two pieces answer as the whole text.
+//! Every text of up to five bytes that the rules of CSV name, cut at every place: two pieces answer as the whole text, and have
+//! as many rows.
 use super::{answers, options_of};
+use crate::rows_of;
 use morsel_grammar::CsvOptions;
 use morsel_meaning::Fault;
 use std::alloc::Global;
@@ -43,10 +45,24 @@ fn joined(
     }
 }
 
+/// The rows of a text that may end are those up to a place where it may be cut, and those after it.
+fn same_rows(rt: &impl Abort, options: &CsvOptions, text: &[u8], columns: usize, cut: usize) {
+    assert!(rt; cut <= text.len());
+    let whole = rows_of(text, columns, options);
+    let front = rows_of(&text[..cut], columns, options);
+    let back = rows_of(&text[cut..], columns, options);
+    assert!(rt; front < 1000 && back < 1000);
+    assert_eq!(rt; whole, front + back);
+}
+
 /// A text that is cut at a place is answered as it is whole.
 fn agree(rt: &impl Abort, options: &CsvOptions, text: &[u8], at: usize) {
     assert!(rt; at <= text.len());
     let (whole, _, end) = answers(rt, options, text, b"");
+    if let (Ok(cut), Ok(())) = (&whole, &end) {
+        same_rows(rt, options, text, 1, *cut);
+        same_rows(rt, options, text, 2, *cut);
+    }
     let (first, second, other) = answers(rt, options, &text[..at], &text[at..]);
     assert!(rt; joined(rt, first, at, second) == whole);
     assert!(rt; other == end);
