@@ -33,7 +33,13 @@ fn tell_cuts<R: Clock + Print + AllocGlobal>(
 ) -> Result<(), Fault> {
     let cuts = cuts_of(rt.alloc(), text, options)?;
     let fed = time_feed(rt, timing, text, options)?;
-    tell(rt, timing, "feed in pieces, bytes up to ends", fed, text.len())?;
+    tell(
+        rt,
+        timing,
+        "feed in pieces, bytes up to ends",
+        fed,
+        text.len(),
+    )?;
     let counted = time_rows(rt, timing, text, &cuts, options)?;
     tell(rt, timing, "rows of pieces, by bytes", counted, text.len())?;
     tell_reads(rt, timing, text, &cuts, options)
@@ -49,9 +55,21 @@ fn tell_reads<R: Clock + Print + AllocGlobal>(
 ) -> Result<(), Fault> {
     let schema = facts_schema(rt.alloc())?;
     let whole = time_reads(rt, timing, text, &[0, text.len()], &schema, options)?;
-    tell(rt, timing, "read of the whole, rows by bytes", whole, text.len())?;
+    tell(
+        rt,
+        timing,
+        "read of the whole, rows by bytes",
+        whole,
+        text.len(),
+    )?;
     let pieces = time_reads(rt, timing, text, cuts, &schema, options)?;
-    tell(rt, timing, "read of pieces, rows by bytes", pieces, text.len())
+    tell(
+        rt,
+        timing,
+        "read of pieces, rows by bytes",
+        pieces,
+        text.len(),
+    )
 }
 
 /// Feeds the rest of a text, and adds up the bytes up to the last ends.
@@ -73,12 +91,7 @@ fn feed_all(text: &[u8], options: &CsvOptions) -> Result<usize, Fault> {
 }
 
 /// Puts the places where a text may be cut, the rest of which begins at `at`.
-fn put_cuts(
-    cuts: &mut Vec<usize>,
-    cutter: &mut Cutter,
-    at: usize,
-    text: &[u8],
-) -> Result<(), Fault>
+fn put_cuts(cuts: &mut Vec<usize>, cutter: &mut Cutter, at: usize, text: &[u8]) -> Result<(), Fault>
     requires { cutter.old.fed + length text.now < 2 ^ 64 }
 {
     if text.is_empty() {

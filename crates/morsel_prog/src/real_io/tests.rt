@@ -4,16 +4,19 @@
 ghost use Rattle.std.specs.Prelude.{◌≡◌, ◌<◌, ◌≤◌, length, slice_index, IfSome};
 
 use super::*;
+use std::alloc::Alloc;
 use std::mem::drop;
 use std::os::unix::fs::symlink;
 use std::process::Abort;
-use std::alloc::Alloc;
 use std::{env, fs, process};
 
 /// The path of a file of this name, which no other process makes.
 fn path_of(rt: &HostRuntime, name: &str) -> Option<String> {
     let file = format!(in rt.alloc(); "morsel-{}-{name}", process::id(rt.process())).ok()?;
-    let path = env::temp_dir(rt).ok()?.join(rt.alloc(), file.as_str()).ok()?;
+    let path = env::temp_dir(rt)
+        .ok()?
+        .join(rt.alloc(), file.as_str())
+        .ok()?;
     String::from_str(rt.alloc(), path.as_path().as_str()).ok()
 }
 
@@ -118,7 +121,12 @@ fn what_is_no_regular_file_is_no_source(rt: HostRuntime) {
     let absent = "no-such-file.csv: No such file or directory (os error 2)";
     refuses(&rt, &mut io, "no-such-file.csv", absent);
     refuses(&rt, &mut io, "/", "/: not a regular file");
-    refuses(&rt, &mut io, "/proc/version", "/proc/version: not a regular file");
+    refuses(
+        &rt,
+        &mut io,
+        "/proc/version",
+        "/proc/version: not a regular file",
+    );
     assert_eq!(rt; (io.read_faults, io.write_faults, io.failed), (3, 0, 0));
     drop(io);
 }
@@ -138,7 +146,10 @@ fn is_no_sink(rt: &impl Abort, io: &mut RealIo<'_, HostRuntime>, name: &str, oth
     io.open_source(name).expect(rt, "the file is opened");
     assert_eq!(rt; io.make_sink(name), Err(IoErr::Failed));
     assert_eq!(rt; io.make_sink(other), Err(IoErr::Failed));
-    assert_eq!(rt; (io.read_faults, io.write_faults, io.sinks.len()), (0, 2, 0));
+    assert_eq!(rt;
+        (io.read_faults, io.write_faults, io.sinks.len()),
+        (0, 2, 0)
+    );
 }
 
 #[test]
@@ -233,7 +244,12 @@ fn cannot_be_read(rt: &impl Abort, io: &mut RealIo<'_, HostRuntime>, file: FileN
 }
 
 /// A file that is no longer as it was opened, or is another one, or is gone, can't be read.
-fn must_be_the_same(rt: &(impl Abort + Files), io: &mut RealIo<'_, HostRuntime>, file: FileNo, name: &str)
+fn must_be_the_same(
+    rt: &(impl Abort + Files),
+    io: &mut RealIo<'_, HostRuntime>,
+    file: FileNo,
+    name: &str,
+)
     requires opened { file.0 < length io.old.sizes }
     requires size { slice_index io.old.sizes file.0 ≡ 5 }
 {

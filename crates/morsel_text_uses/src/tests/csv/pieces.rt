@@ -99,7 +99,9 @@ fn read_pieces(
     let mut awaits_header = head;
     for step in steps {
         if step.end > given {
-            let piece = text.get(given..step.end).expect(rt, "a place within the text");
+            let piece = text
+                .get(given..step.end)
+                .expect(rt, "a place within the text");
             awaits_header = read_piece(rt, task, piece, given, awaits_header, shown)?;
             given = step.end;
         }
@@ -239,7 +241,10 @@ fn all_kinds(
     head: bool,
 ) {
     for dialect in &DIALECTS {
-        assert_eq!(rt; readings_of(rt, alloc, dialect, columns, used, head), READINGS);
+        assert_eq!(rt;
+            readings_of(rt, alloc, dialect, columns, used, head),
+            READINGS
+        );
     }
 }
 

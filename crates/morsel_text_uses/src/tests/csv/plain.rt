@@ -1,6 +1,8 @@
 //! Both readers over every short text of the bytes that the rules of CSV name: of up to six of them under standard options,
 //! and of up to five under each kind of options.
-use super::dialects::{COUNTS as COUNTS_OF_SEVEN, DIALECTS, Dialect, options_of, write_text as write_text_of};
+use super::dialects::{
+    COUNTS as COUNTS_OF_SEVEN, DIALECTS, Dialect, options_of, write_text as write_text_of,
+};
 use crate::tests::schema_of;
 use morsel_frame::{Frame, Schema};
 use morsel_grammar::CsvOptions;
