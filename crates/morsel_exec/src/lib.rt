@@ -5,7 +5,5 @@
 pub mod laws;
 pub mod machine;
 mod permutation;
-#[cfg(test)]
-mod tests;
 
 pub use permutation::{Permutation, random_permutation};

@@ -17,10 +17,3 @@ pub use filters::filter;
 pub use node::{CmpOp, PredNode, Rhs};
 pub use pred::Pred;
 pub use truth::Truth;
-
-#[cfg(test)]
-mod plain_tests;
-#[cfg(test)]
-mod samples;
-#[cfg(test)]
-mod tests;

@@ -1,13 +1,13 @@
 //! Rows from outside, and a plain program that visits each state of a small machine.
-use crate::laws::{after_cancel, after_start, after_turn, after_wake};
-use crate::machine::{Event, Sched, TaskAt};
-use crate::random_permutation;
+mod visit;
+
+use morsel_exec::laws::{after_cancel, after_start, after_turn, after_wake};
+use morsel_exec::machine::{Event, Sched, TaskAt};
+use morsel_exec::random_permutation;
 use morsel_meaning::TaskNo;
 use rand_core::SeedableRng;
 use rand_xoshiro::Xoshiro256PlusPlus;
 use std::test::Fail;
-
-mod visit;
 
 #[test]
 fn one_task_is_spawned_taken_and_finished_once(rt: HostRuntime) -> Result<(), Fail> {

@@ -2,7 +2,7 @@
 //! a plain table does, and no task is lost.
 ghost use Rattle.std.specs.Prelude.{◌<◌};
 
-use crate::machine::{Event, Sched, TaskAt};
+use morsel_exec::machine::{Event, Sched, TaskAt};
 use morsel_meaning::{Fault, TaskNo};
 use std::alloc::{AllocError, Global};
 use std::test::Fail;

@@ -1,8 +1,11 @@
 //! Predicates on small frames, with values worked out by hand.
-use super::*;
-use crate::samples::{boxed, compared, frame_of, truths_of};
+mod plain;
+mod samples;
+
+use morsel_expr::{CmpOp, Pred, PredNode, Rhs, Truth, filter};
 use morsel_frame::{Cell, Frame};
 use morsel_meaning::{ColType, Fault, Name, Value, Why};
+use samples::{boxed, compared, frame_of, truths_of};
 use std::alloc::Global;
 use std::test::Fail;
 

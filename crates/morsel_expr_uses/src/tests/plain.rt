@@ -1,6 +1,6 @@
 //! Each pair of seventeen small predicates, joined in two ways, beside a plain reading of each row by its cells.
-use super::*;
-use crate::samples::{boxed, compared, frame_of, truths_of};
+use super::samples::{boxed, compared, frame_of, truths_of};
+use morsel_expr::{CmpOp, PredNode, Rhs, Truth};
 use morsel_frame::{Cell, Frame};
 use morsel_meaning::{ColType, Fault, Name, Value};
 use std::alloc::Global;

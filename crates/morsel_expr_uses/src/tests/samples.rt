@@ -2,7 +2,7 @@
 //! one value that is dropped at most, since each is proved to be dropped at each exit.
 ghost use Rattle.std.specs.Prelude.{◌≡◌, ◌∷◌, [], IfOk};
 
-use super::*;
+use morsel_expr::{CmpOp, Pred, PredNode, Rhs, Truth};
 use morsel_frame::{Cell, Column, Frame, Schema};
 use morsel_meaning::{ColType, Fault, Field, Name};
 use std::alloc::Global;
