@@ -1,0 +1,7 @@
+-- Lemmas on runs of bytes, on the ends of records and on rows.
+pub mod RunLemmas
+pub mod PassLemmas
+pub mod CuttingLemmas
+pub mod SizeLemmas
+pub mod BlankLemmas
+pub mod RowLemmas

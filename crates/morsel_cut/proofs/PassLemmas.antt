@@ -1,0 +1,91 @@
+-- What bytes do with and without a comment prefix.
+use Rattle.std.proofs.Common.{◌≡◌, ℕ, ◌+◌, ◌<◌, ◌≤◌, ◌∙◌, sym, ap, refl, arith, subst, Bool, true, false, List, [], ◌∷◌, ◌++◌, length, take, get_or}
+use Rattle.std.proofs.lemmas.List.{length-take-le, take_more}
+use Rattle.std.specs.Prelude.{Option, None, if◌then◌else◌}
+use Rattle.morsel_grammar.specs.Options.{Options}
+use Rattle.morsel_grammar.specs.Machine.{CutPlace, CutState, state_after, last_place, place_or_later, joined_place, place_step, cut_step, cut_after, is_after_eol, begins_record}
+use Rattle.morsel_cut.specs.Places.{cut_place, cut_state, options_with, sign_options}
+use Rattle.morsel_cut.specs.Runs.{RunsTo, Passes}
+use Rattle.morsel_cut.specs.declared.step.Signs.{Signs}
+use Rattle.morsel_cut.specs.declared.pass.Run.{Run}
+use Rattle.morsel_cut.specs.declared.prefix.Standing.{Standing}
+use Rattle.morsel_cut.specs.declared.prefix.Passed.{Passed}
+use Rattle.morsel_grammar.proofs.StateLemmas.{state_after-append, last_place-append, last_place-within}
+
+-- the last place of a text with one byte more
+one_more : (step : CutState → ℕ → CutState) (test : CutState → Bool) (s : CutState) (front : List ℕ) (b : ℕ) (before len last : ℕ) (s' : CutState)
+    → before ≡ last_place step test s front → len ≡ length front + 1 → s' ≡ step (state_after step s front) b
+    → last ≡ (if test s' then len else before) → last ≡ last_place step test s (front ++ b ∷ [])
+one_more step test s front b before len last s' before_is len_is s'_is last_is =
+    last_is
+    ∙ by (test s')
+    ∙ ap (λ (x : CutState). joined_place (last_place step test s front) (length front) (place_or_later (test x) 0)) s'_is
+    ∙ sym (last_place-append step test s front (b ∷ []))
+  where
+    by : (t : Bool) → (if t then len else before) ≡ joined_place (last_place step test s front) (length front) (place_or_later t 0)
+    by true = len_is
+    by false = before_is
+
+pub passes_on : (o : Options) (s : CutState) (text : List ℕ) (at : ℕ) (passed : Passed) (standing : Standing) (next : Passed) → at < length text → Passes o s (take at text) passed
+    → cut_state standing ≡ cut_step o (cut_state passed.standing) (get_or text at 0) → next.standing ≡ standing
+    → next.end ≡ (if is_after_eol (cut_place standing.place) then at + 1 else passed.end)
+    → next.begin ≡ (if begins_record (cut_place standing.place) then at + 1 else passed.begin)
+    → Passes o s (take (at + 1) text) next
+passes_on o s text at passed standing next within first state_is same end_is begin_is =
+    let front = take at text in
+    let b = get_or text at 0 in
+    let size : at + 1 ≡ length front + 1 = ap (λ (n : ℕ). n + 1) (sym (length-take-le at text (omega arith))) in
+    let stepped : cut_state standing ≡ cut_step o (cut_after o s front) b = state_is ∙ ap (λ (x : CutState). cut_step o x b) first.state_is in
+    subst (λ (bytes : List ℕ). Passes o s bytes next) (sym (take_more text at 0 within)) (record {
+      state_is = ap cut_state same ∙ stepped ∙ sym (state_after-append (cut_step o) s front (b ∷ []));
+      end_is = one_more (cut_step o) (λ (x : CutState). is_after_eol x.place) s front b passed.end (at + 1) next.end (cut_state standing) first.end_is size stepped end_is;
+      begin_is = one_more (cut_step o) (λ (x : CutState). begins_record x.place) s front b passed.begin (at + 1) next.begin (cut_state standing) first.begin_is size stepped begin_is;
+    })
+
+pub passed_end-le : (o : Options) (s : CutState) (bytes : List ℕ) (passed : Passed) → Passes o s bytes passed → passed.end ≤ length bytes
+passed_end-le o s bytes passed passes = omega (arith, passes.end_is, last_place-within (cut_step o) (λ (x : CutState). is_after_eol x.place) s bytes)
+
+pub passed_begin-le : (o : Options) (s : CutState) (bytes : List ℕ) (passed : Passed) → Passes o s bytes passed → passed.begin ≤ length bytes
+passed_begin-le o s bytes passed passes = omega (arith, passes.begin_is, last_place-within (cut_step o) (λ (x : CutState). begins_record x.place) s bytes)
+
+-- without comments the machine has no more than its place
+abbrev pub bare : CutPlace → CutState
+bare place = record { matched = None; place = place }
+
+same_either : (t : Bool) (s : CutState) → (if t then s else s) ≡ s
+same_either true s = refl
+same_either false s = refl
+
+pub bare_step : (signs : Signs) (place : CutPlace) (b : ℕ) → cut_step (options_with signs None) (bare place) b ≡ bare (place_step (sign_options signs) place b)
+bare_step signs place b =
+    let next = place_step (sign_options signs) place b in
+    same_either (begins_record next) (bare next)
+
+bare_after : (signs : Signs) (place : CutPlace) (bytes : List ℕ)
+    → state_after (cut_step (options_with signs None)) (bare place) bytes ≡ bare (state_after (place_step (sign_options signs)) place bytes)
+bare_after signs place [] = refl
+bare_after signs place (b ∷ bs) =
+    ap (λ (s : CutState). state_after (cut_step (options_with signs None)) s bs) (bare_step signs place b)
+    ∙ bare_after signs (place_step (sign_options signs) place b) bs
+
+bare_last : (signs : Signs) (test : CutPlace → Bool) (place : CutPlace) (bytes : List ℕ)
+    → last_place (cut_step (options_with signs None)) (λ (s : CutState). test s.place) (bare place) bytes ≡ last_place (place_step (sign_options signs)) test place bytes
+bare_last signs test place [] = refl
+bare_last signs test place (b ∷ bs) =
+    let next = place_step (sign_options signs) place b in
+    let step = cut_step (options_with signs None) in
+    ap (λ (s : CutState). place_or_later (test s.place) (last_place step (λ (x : CutState). test x.place) s bs)) (bare_step signs place b)
+    ∙ ap (place_or_later (test next)) (bare_last signs test next bs)
+
+-- so a run says all
+pub passes_bare : (signs : Signs) (from : Standing) (bytes : List ℕ) (run : Run) → from.matched ≡ None
+    → RunsTo (sign_options signs) (cut_place from.place) bytes run
+    → Passes (options_with signs None) (cut_state from) bytes (record { standing = record { matched = None; place = run.place }; end = run.end; begin = run.begin })
+passes_bare signs from bytes run none runs =
+    let start : cut_state from ≡ bare (cut_place from.place) = ap (λ (m : Option ℕ). let s : CutState = record { matched = m; place = cut_place from.place } in s) none in
+    let P : CutState → Type 0 = λ s. Passes (options_with signs None) s bytes (record { standing = record { matched = None; place = run.place }; end = run.end; begin = run.begin }) in
+    subst P (sym start) (record {
+      state_is = ap bare runs.place_is ∙ sym (bare_after signs (cut_place from.place) bytes);
+      end_is = runs.end_is ∙ sym (bare_last signs is_after_eol (cut_place from.place) bytes);
+      begin_is = runs.begin_is ∙ sym (bare_last signs begins_record (cut_place from.place) bytes);
+    })

@@ -1,0 +1,31 @@
+use Rattle.std.proofs.Common.{◌≡◌, ◌-◌, ◌∙◌, length, take, drop, ap, arith}
+use Rattle.std.proofs.lemmas.List.{take_rest, length-drop}
+use Rattle.morsel_cut.proofs.RowLemmas.{passed_none, passes_record, finds_header, finds_no_header}
+use Rattle.morsel_cut.proofs.header.head_end.Goals as goal
+
+pub loop-at-init : goal.loop-at-init
+loop-at-init c = record {
+  within = omega arith;
+  passed = λ records are. passed_none c.args.options.now c.args.bytes.now records are;
+}
+
+pub loop-at-preserved : goal.loop-at-preserved
+loop-at-preserved c =
+    let bytes = c.args.bytes.now in
+    let at = c.loop-at.at in
+    let size : length (take (length bytes - at) (drop at bytes)) ≡ length bytes - at = ap length (take_rest bytes at) ∙ length-drop at bytes in
+    record {
+      within = omega (arith, size);
+      passed = λ records are.
+          passes_record c.args.options.now bytes _ at c.record_size-at.result c.is_row-is_header.result records c.record_size-at.ensures.fit c.loop-at-test.true
+          (take_rest bytes at) (c.loop-at.invariant.passed records are) c.record_size-at.ensures.value c.is_row-is_header.ensures c.if-is_header.false;
+    }
+
+pub returns-then-is_header : goal.returns-then-is_header
+returns-then-is_header c = λ records are.
+    finds_header c.args.options.now c.args.bytes.now _ c.loop-at.at c.record_size-at.result c.is_row-is_header.result records c.record_size-at.ensures.fit c.loop-at-test.true
+    (take_rest c.args.bytes.now c.loop-at.at) (c.loop-at.invariant.passed records are) c.record_size-at.ensures.value c.is_row-is_header.ensures c.if-is_header.true
+
+pub returns : goal.returns
+returns c = λ records are.
+    finds_no_header c.args.options.now c.args.bytes.now c.loop-at.at records c.loop-at.invariant.within c.loop-at-test.false (c.loop-at.invariant.passed records are)

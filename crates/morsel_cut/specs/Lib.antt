@@ -1,0 +1,6 @@
+-- What a cutter says of the bytes that it was fed, and how many rows whole records are.
+pub mod Places
+pub mod Runs
+pub mod Cutting
+pub mod FirstEnds
+pub mod RowCounts

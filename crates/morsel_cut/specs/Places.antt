@@ -1,0 +1,43 @@
+-- The places of the code, as the places of the machine.
+use Rattle.std.specs.Prelude.{true, false, Option, None, List, [], ℕ}
+use Rattle.morsel_grammar.specs.Options.{Options, options_of}
+use Rattle.morsel_grammar.specs.Machine.{CutState, CutPlace, AtOpening, InMarkOne, InMarkTwo, AfterMark, AfterEol, AfterSeparator, InPlain, InQuotes, AfterQuote, AfterReturn, InComment, BrokenQuote}
+use Rattle.morsel_cut.specs.declared.step.ByteAt.{ByteAt}
+use Rattle.morsel_cut.specs.declared.step.ByteAt.TheVariants as places
+use Rattle.morsel_cut.specs.declared.step.Signs.{Signs}
+use Rattle.morsel_cut.specs.declared.prefix.Standing.{Standing}
+
+-- the place of the machine
+abbrev pub cut_place : ByteAt → CutPlace
+cut_place places.AtOpening = AtOpening
+cut_place places.InMarkOne = InMarkOne
+cut_place places.InMarkTwo = InMarkTwo
+cut_place places.AfterMark = AfterMark
+cut_place places.AfterEol = AfterEol
+cut_place places.AfterSeparator = AfterSeparator
+cut_place places.InPlain = InPlain
+cut_place places.InQuotes = InQuotes
+cut_place places.AfterQuote = AfterQuote
+cut_place places.AfterReturn = AfterReturn
+cut_place places.InComment = InComment
+cut_place places.BrokenQuote = BrokenQuote
+
+-- options with these bytes, and without comments
+abbrev pub sign_options : Signs → Options
+sign_options signs = options_of signs.separator signs.quote signs.eol None true [] false
+
+-- up to the next quote, each byte is one of a field without quotes, or ends one
+abbrev pub IsOutside : CutPlace → Type 0
+IsOutside AfterMark = Unit {0}
+IsOutside AfterEol = Unit {0}
+IsOutside AfterSeparator = Unit {0}
+IsOutside InPlain = Unit {0}
+IsOutside place = ⊥
+
+-- options with these bytes and this comment prefix
+abbrev pub options_with : Signs → Option (List ℕ) → Options
+options_with signs prefix = options_of signs.separator signs.quote signs.eol prefix true [] false
+
+-- the state of the machine
+abbrev pub cut_state : Standing → CutState
+cut_state standing = record { matched = standing.matched; place = cut_place standing.place }

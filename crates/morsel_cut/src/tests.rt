@@ -1,0 +1,125 @@
+//! Worked texts, and short texts cut at every place, under each kind of options.
+use crate::Cutter;
+use morsel_grammar::CsvOptions;
+use morsel_meaning::{Fault, Name, Why};
+use std::alloc::Global;
+use std::mem::drop;
+use std::process::Abort;
+use std::test::Fail;
+
+mod every_cut;
+
+/// Options without a header and with an empty null text.
+fn options_of(
+    rt: &impl Abort,
+    alloc: Global,
+    separator: u8,
+    quote: Option<u8>,
+    eol: u8,
+    comment: Option<&str>,
+) -> CsvOptions {
+    let comment = match comment {
+        Some(prefix) => Some(Name::new(alloc, prefix).expect(rt, "memory")),
+        None => None,
+    };
+    let null = Name::new(alloc, "").expect(rt, "memory");
+    CsvOptions::new(separator, quote, eol, comment, false, null, false).expect(rt, "options")
+}
+
+/// The answers to two pieces, and to the end.
+fn answers(
+    rt: &impl Abort,
+    options: &CsvOptions,
+    first: &[u8],
+    second: &[u8],
+) -> (
+    Result<usize, Fault>,
+    Result<usize, Fault>,
+    Result<(), Fault>,
+) {
+    assert!(rt; first.len() < 1000 && second.len() < 1000);
+    let mut cutter = Cutter::new(options, 3).expect(rt, "memory");
+    let one = cutter.feed(first);
+    let other = cutter.feed(second);
+    (one, other, cutter.finish())
+}
+
+#[test]
+fn an_eol_in_quotes_ends_no_record(rt: HostRuntime) -> Result<(), Fail> {
+    let options = CsvOptions::standard(rt.alloc())?;
+    let got = answers(&rt, &options, b"x,\"a", b"\nb\"\r\n");
+    drop(options);
+    assert!(rt; got == (Ok(0), Ok(5), Ok(())));
+    Ok(())
+}
+
+#[test]
+fn a_broken_quote_is_refused_at_its_record_again_and_again(rt: HostRuntime) -> Result<(), Fail> {
+    let options = CsvOptions::standard(rt.alloc())?;
+    let got = answers(&rt, &options, b"\xEF\xBB\xBFa\n\"b\"c\n", b"d\n");
+    drop(options);
+    let fault = Fault::Malformed { file: 3, at: 5 };
+    let again = Fault::Malformed { file: 3, at: 5 };
+    let still = Fault::Malformed { file: 3, at: 5 };
+    assert!(rt; got == (Err(fault), Err(again), Err(still)));
+    Ok(())
+}
+
+#[test]
+fn an_open_quote_is_refused_at_the_end(rt: HostRuntime) -> Result<(), Fail> {
+    let options = CsvOptions::standard(rt.alloc())?;
+    let got = answers(&rt, &options, b"a\nb,\"", b"\n\n");
+    drop(options);
+    assert!(rt; got == (Ok(2), Ok(0), Err(Fault::Malformed { file: 3, at: 2 })));
+    Ok(())
+}
+
+#[test]
+fn a_mark_that_is_cut_is_a_mark(rt: HostRuntime) -> Result<(), Fail> {
+    let options = CsvOptions::standard(rt.alloc())?;
+    let got = answers(&rt, &options, b"\xEF", b"\xBB\xBF\"a\"\n");
+    drop(options);
+    assert!(rt; got == (Ok(0), Ok(6), Ok(())));
+    Ok(())
+}
+
+#[test]
+fn a_mark_alone_ends_no_record(rt: HostRuntime) -> Result<(), Fail> {
+    let options = CsvOptions::standard(rt.alloc())?;
+    let got = answers(&rt, &options, b"\xEF\xBB", b"\xBF");
+    drop(options);
+    assert!(rt; got == (Ok(0), Ok(0), Ok(())));
+    Ok(())
+}
+
+#[test]
+fn a_comment_may_begin_with_the_quote(rt: HostRuntime) {
+    let options = options_of(&rt, rt.alloc(), b',', Some(b'"'), b'\n', Some("\"#"));
+    let got = answers(&rt, &options, b"\"", b"#\"x\n\"\n");
+    drop(options);
+    assert!(rt; got == (Ok(0), Ok(4), Err(Fault::Malformed { file: 3, at: 5 })));
+}
+
+#[test]
+fn a_prefix_may_be_longer_than_a_piece(rt: HostRuntime) {
+    let options = options_of(&rt, rt.alloc(), b',', Some(b'"'), b'\n', Some("#!##"));
+    let got = answers(&rt, &options, b"#!", b"##,\"\n#!\"\n");
+    drop(options);
+    assert!(rt; got == (Ok(0), Ok(9), Ok(())));
+}
+
+#[test]
+fn options_that_contradict_each_other_are_refused(rt: HostRuntime) -> Result<(), Fail> {
+    let null = Name::new(rt.alloc(), "")?;
+    let got = CsvOptions::new(10, None, 11, None, false, null, false);
+    assert!(rt;
+        matches!(
+            got,
+            Err(Fault::InvalidQuery {
+                why: Why::ParseBytes
+            })
+        )
+    );
+    drop(got);
+    Ok(())
+}
