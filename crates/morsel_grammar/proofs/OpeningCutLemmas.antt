@@ -1,6 +1,6 @@
 -- The machine that finds cuts over a whole file, with its byte order mark or without.
 use Rattle.std.proofs.Common.{◌≡◌, ℕ, zero, suc, ◌+◌, ◌<◌, ◌≤◌, ap, sym, refl, ◌∙◌, arith}
-use Rattle.std.specs.Prelude.{Bool, true, false, ◌&&◌, ◌==◌, if◌then◌else◌, Option, Some, None, List, [], ◌∷◌}
+use Rattle.std.specs.Prelude.{Bool, true, false, ◌&&◌, ◌==◌, if◌then◌else◌, Option, Some, None, List, [], ◌∷◌, ◌++◌, length}
 use Rattle.morsel_grammar.specs.Options.{Options, AreOptions, IsQuoteFor, IsCommentFor}
 use Rattle.morsel_grammar.specs.Split.{is_quote}
 use Rattle.morsel_grammar.specs.Rows.{mark_len}
@@ -198,3 +198,35 @@ passed o place bytes fit is = absurd is
 
 pub passes_mark : (o : Options) → AreOptions o → PassesMark o
 passes_mark o fit = λ bytes. (after_mark o 239 187 191 bytes fit refl refl refl, mark_end o bytes)
+
+-- no record ends within the mark: what follows an end does not make a mark
+mark_after_one : (o : Options) (a : ℕ) (more : List ℕ) (t : Bool) → AreOptions o → (a == 239) ≡ t → (cut_step o (first_state o AtOpening) a).place ≡ AfterEol → mark_len (a ∷ more) ≡ 0
+mark_after_one o a more true fit is ends =
+    let both : InMarkOne ≡ AfterEol = ap (λ (x : CutState). x.place) (sym (open_one o a fit is)) ∙ ends in cc
+mark_after_one o a more false fit other ends = no_mark_first a more other
+
+mark_after_two : (o : Options) (a b : ℕ) (more : List ℕ) (t u : Bool) → AreOptions o → (a == 239) ≡ t → (b == 187) ≡ u
+    → (cut_after o (first_state o AtOpening) (a ∷ b ∷ [])).place ≡ AfterEol → mark_len (a ∷ b ∷ more) ≡ 0
+mark_after_two o a b more true true fit one two ends =
+    let after : cut_after o (first_state o AtOpening) (a ∷ b ∷ []) ≡ lone InMarkTwo =
+    after_step o (first_state o AtOpening) (lone InMarkOne) a (b ∷ []) (open_one o a fit one) ∙ open_two o b two in
+    let both : InMarkTwo ≡ AfterEol = ap (λ (x : CutState). x.place) (sym after) ∙ ends in cc
+mark_after_two o a b more true false fit one other ends = no_mark_second a b more one other
+mark_after_two o a b more false u fit other two ends = no_mark_first a (b ∷ more) other
+
+pub mark_len-front : (o : Options) (front more : List ℕ) → AreOptions o → (cut_after o (first_state o AtOpening) front).place ≡ AfterEol → mark_len (front ++ more) ≡ mark_len front
+mark_len-front o [] more fit ends = let both : AtOpening ≡ AfterEol = ends in cc
+mark_len-front o (a ∷ []) more fit ends = mark_after_one o a more (a == 239) fit refl ends
+mark_len-front o (a ∷ b ∷ []) more fit ends = mark_after_two o a b more (a == 239) (b == 187) fit refl refl ends
+mark_len-front o (a ∷ b ∷ c ∷ front) more fit ends = refl
+
+-- the mark is within the text
+pub mark_len-within : (bytes : List ℕ) → mark_len bytes ≤ length bytes
+mark_len-within [] = omega arith
+mark_len-within (a ∷ []) = omega arith
+mark_len-within (a ∷ b ∷ []) = omega arith
+mark_len-within (a ∷ b ∷ c ∷ bytes) = within (a == 239 && (b == 187 && c == 191)) (length bytes)
+  where
+    within : (t : Bool) (n : ℕ) → (if t then 3 else 0) ≤ suc (suc (suc n))
+    within true n = omega arith
+    within false n = omega arith
