@@ -5,3 +5,6 @@ pub mod CuttingLemmas
 pub mod SizeLemmas
 pub mod BlankLemmas
 pub mod RowLemmas
+pub mod PieceLemmas
+pub mod PieceWholeLemmas
+pub mod PieceReadLemmas

@@ -20,11 +20,14 @@ abbrev pub piece_first : List ℕ → List (List ℕ) → List (List ℕ)
 piece_first [] pieces = pieces
 piece_first (b ∷ bytes) pieces = (b ∷ bytes) ∷ pieces
 
--- after each chunk the text that came is cut at its last end. A piece is what stands between two cuts; these are the pieces after what came before
+-- what a chunk adds to the text up to its last end, after what came before
+abbrev pub chunk_piece : Options → List ℕ → List ℕ → List ℕ
+chunk_piece o came chunk = drop (last_cut o came) (take (last_cut o (came ++ chunk)) (came ++ chunk))
+
+-- after each chunk the text that came is cut at its last end; a piece is what stands between two cuts. These are the pieces after what came before
 abbrev pub pieces_after : Options → List ℕ → List (List ℕ) → List (List ℕ)
 pieces_after o came [] = []
-pieces_after o came (chunk ∷ chunks) =
-    piece_first (drop (last_cut o came) (take (last_cut o (came ++ chunk)) (came ++ chunk))) (pieces_after o (came ++ chunk) chunks)
+pieces_after o came (chunk ∷ chunks) = piece_first (chunk_piece o came chunk) (pieces_after o (came ++ chunk) chunks)
 
 -- the pieces of a file of which these chunks came
 abbrev pub cut_pieces : Options → List (List ℕ) → List (List ℕ)

@@ -9,19 +9,18 @@ pub fn pieces_and_rest_are_the_text()
 {}
 
 /// A chunk with an end in it ends a piece, and any other is added to the rest.
-#[tactic(auto, using(crate::proofs::PieceLemmas::cuts_by_chunk))]
 pub fn a_chunk_with_an_end_ends_a_piece()
     ensures { (o : Options) → CutsByChunk o }
 {}
 
 /// Each piece is whole records, the first one after its mark.
-#[tactic(auto, using(crate::proofs::PieceLemmas::cuts_whole))]
+#[tactic(auto, using(crate::proofs::PieceWholeLemmas::cuts_whole))]
 pub fn pieces_are_whole_records()
     ensures { (o : Options) → AreOptions o → CutsWhole o }
 {}
 
 /// The mark is that of the first piece, or where there is none that of the rest.
-#[tactic(auto, using(crate::proofs::PieceLemmas::marks_first))]
+#[tactic(auto, using(crate::proofs::PieceWholeLemmas::marks_first))]
 pub fn the_mark_stands_in_the_first_piece()
     ensures { (o : Options) → AreOptions o → MarksFirst o }
 {}
@@ -39,25 +38,21 @@ pub fn the_used_columns_of_a_file_are_read_piece_by_piece()
 {}
 
 /// The record that is under way begins where the rest does.
-#[tactic(auto, using(crate::proofs::PieceLemmas::begins_with_rest))]
 pub fn the_record_under_way_begins_with_the_rest()
     ensures { (o : Options) → AreOptions o → BeginsWithRest o }
 {}
 
 /// Where a record is refused, there are whole records before it, and it is none, whatever follows.
-#[tactic(auto, using(crate::proofs::PieceReadLemmas::stops_at_refused))]
 pub fn a_file_stops_at_a_refused_record()
     ensures { (o : Options) → AreOptions o → StopsAtRefused o }
 {}
 
 /// Where a file may not end, there are whole records before its last record, and that is none.
-#[tactic(auto, using(crate::proofs::PieceReadLemmas::stops_at_open_end))]
 pub fn a_file_stops_at_an_open_end()
     ensures { (o : Options) → AreOptions o → StopsAtOpenEnd o }
 {}
 
 /// Where a file may end, the rest is one record, or nothing.
-#[tactic(auto, using(crate::proofs::PieceLemmas::ends_with_rest))]
 pub fn the_rest_is_one_record_at_the_end()
     ensures { (o : Options) → AreOptions o → EndsWithRest o }
 {}
