@@ -8,3 +8,4 @@ pub mod RowLemmas
 pub mod PieceLemmas
 pub mod PieceWholeLemmas
 pub mod PieceReadLemmas
+mod PieceFacts

@@ -9,11 +9,10 @@ use Rattle.morsel_meaning.specs.Values.{Row}
 use Rattle.morsel_grammar.specs.Options.{Options, AreOptions}
 use Rattle.morsel_grammar.specs.Grammar.{CsvRecord, IsRecord}
 use Rattle.morsel_grammar.specs.Cells.{CsvCell}
-use Rattle.morsel_grammar.specs.Split.{record_at}
 use Rattle.morsel_grammar.specs.Rows.{mark_len, unmarked}
 use Rattle.morsel_grammar.specs.Reading.{Malformed, Refusal, Reading, ends, refuses, split_then, reading, Read, read_of}
 use Rattle.morsel_grammar.specs.GrammarRows.{BeginsNoRecord}
-use Rattle.morsel_grammar.specs.Joined.{joined_at, joined, joined_read_at, joined_read}
+use Rattle.morsel_grammar.specs.Joined.{joined_at, joined, joined_read_at}
 use Rattle.morsel_grammar.specs.Machine.{AtOpening, CutState, first_state, cut_after, last_begin, RefusesRecord, RefusesEnd}
 use Rattle.morsel_grammar.proofs.RecordLemmas.{reads_by_grammar, refuses_by_grammar}
 use Rattle.morsel_grammar.proofs.RunLemmas.{cut_after-append}
@@ -25,7 +24,7 @@ use Rattle.morsel_grammar.proofs.PieceRowLemmas.{reads_rows_of_pieces}
 use Rattle.morsel_grammar.proofs.CutLemmas.{refuses_open_end, begins_after_whole}
 use Rattle.morsel_grammar.proofs.BegunLemmas.{carries_begun, refuses_for_good}
 use Rattle.morsel_cut.specs.Cutting.{cut_opening, fed_with}
-use Rattle.morsel_cut.specs.Pieces.{cut_pieces, cut_rest, cut_texts, texts_unmarked, first_mark, IsWhole, reading_each, read_each, StopsAtRecord, ReadsCutTexts, ReadsRowsOfCutTexts, StopsAtRefused, StopsAtOpenEnd, ReadsUpToRefused}
+use Rattle.morsel_cut.specs.Pieces.{cut_pieces, cut_rest, texts_unmarked, first_mark, IsWhole, reading_each, read_each, StopsAtRecord, ReadsCutTexts, ReadsRowsOfCutTexts, StopsAtRefused, StopsAtOpenEnd, ReadsUpToRefused, ReadsRowsUpToRefused}
 use Rattle.morsel_cut.proofs.PieceLemmas.{joins_cut_texts}
 use Rattle.morsel_cut.proofs.PieceWholeLemmas.{cuts_whole, marks_first, begun_of}
 
@@ -175,3 +174,15 @@ reads_up_to_refused o fit = λ kinds head file at stop.
     ∙ joined_same (reading o kinds head mark stop.front) (λ awaits_header. reading o kinds awaits_header place stop.rest) (λ awaits_header. refuses awaits_header at Malformed)
     (λ awaits_header. reading_refused o kinds awaits_header place stop.rest fit stop.refused
     ∙ ap (λ (n : ℕ). refuses awaits_header n Malformed) (sym stop.place_is))
+
+pub reads_rows_up_to_refused : (o : Options) → AreOptions o → ReadsRowsUpToRefused o
+reads_rows_up_to_refused o fit = λ kinds used head file at stop.
+    let mark : ℕ = mark_len file in
+    let place : ℕ = mark + length stop.front in
+    let front : Read = read_of used (reading o kinds head mark stop.front) in
+    ap (λ (x : List ℕ). read_of used (reading o kinds head mark x)) stop.split
+    ∙ reads_rows_of_pieces o fit kinds used head mark stop.front stop.rest stop.records stop.whole
+    ∙ joined_read_same front.rows front.head front.refusal
+    (λ awaits_header. read_of used (reading o kinds awaits_header place stop.rest)) (λ awaits_header. read_of used (refuses awaits_header at Malformed))
+    (λ awaits_header. ap (read_of used) (reading_refused o kinds awaits_header place stop.rest fit stop.refused
+    ∙ ap (λ (n : ℕ). refuses awaits_header n Malformed) (sym stop.place_is)))

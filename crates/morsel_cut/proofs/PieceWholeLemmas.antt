@@ -8,7 +8,7 @@ use Rattle.morsel_grammar.specs.Options.{Options, AreOptions}
 use Rattle.morsel_grammar.specs.Grammar.{CsvRecord, IsRecord}
 use Rattle.morsel_grammar.specs.Rows.{mark_len, unmarked}
 use Rattle.morsel_grammar.specs.GrammarRows.{AreWholeRecords}
-use Rattle.morsel_grammar.specs.Machine.{CutPlace, CutState, AtOpening, AfterEol, place_or_later, joined_place, state_after, last_place, is_after_eol, begins_record, first_state, cut_step, cut_after, last_end, last_begin}
+use Rattle.morsel_grammar.specs.Machine.{CutState, AtOpening, place_or_later, joined_place, state_after, last_place, is_after_eol, begins_record, first_state, cut_step, cut_after, last_end, last_begin}
 use Rattle.morsel_grammar.proofs.StateLemmas.{last_place-append}
 use Rattle.morsel_grammar.proofs.RunLemmas.{cut_after-append}
 use Rattle.morsel_grammar.proofs.FirstEndLemmas.{start}

@@ -9,7 +9,7 @@ use Rattle.morsel_grammar.specs.Reading.{Reading, Malformed, ends, refuses, read
 use Rattle.morsel_grammar.specs.GrammarRows.{AreWholeRecords, BeginsNoRecord}
 use Rattle.morsel_grammar.specs.Joined.{joined, joined_read}
 use Rattle.morsel_grammar.specs.Machine.{AtOpening, first_state, last_end, RefusesRecord, RefusesEnd}
-use Rattle.morsel_cut.specs.Cutting.{Cutting, cut_opening, fed_with}
+use Rattle.morsel_cut.specs.Cutting.{cut_opening, fed_with}
 
 -- how many bytes of a file that came there are up to its last end
 abbrev pub last_cut : Options → List ℕ → ℕ
@@ -145,3 +145,9 @@ abbrev pub ReadsUpToRefused : Options → Type 0
 ReadsUpToRefused o = (kinds : List ColType) (head : Bool) (file : List ℕ) (at : ℕ) (stop : StopsAtRecord o file at) →
     reading o kinds head (mark_len file) (unmarked file)
     ≡ joined (reading o kinds head (mark_len file) stop.front) (λ awaits_header. refuses awaits_header at Malformed)
+
+-- the same of the used columns' rows
+abbrev pub ReadsRowsUpToRefused : Options → Type 0
+ReadsRowsUpToRefused o = (kinds : List ColType) (used : List Bool) (head : Bool) (file : List ℕ) (at : ℕ) (stop : StopsAtRecord o file at) →
+    read_of used (reading o kinds head (mark_len file) (unmarked file))
+    ≡ joined_read (read_of used (reading o kinds head (mark_len file) stop.front)) (λ awaits_header. read_of used (refuses awaits_header at Malformed))

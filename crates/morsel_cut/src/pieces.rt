@@ -1,6 +1,6 @@
 //! Laws: a text that comes in chunks, cut where its cutter says, is pieces of whole records and a rest, and is read piece by piece.
 ghost use Rattle.morsel_grammar.specs.Options.{Options, AreOptions};
-ghost use Rattle.morsel_cut.specs.Pieces.{JoinsCutTexts, CutsByChunk, CutsWhole, MarksFirst, ReadsCutTexts, ReadsRowsOfCutTexts, BeginsWithRest, StopsAtRefused, StopsAtOpenEnd, EndsWithRest, ReadsUpToRefused};
+ghost use Rattle.morsel_cut.specs.Pieces.{JoinsCutTexts, CutsByChunk, CutsWhole, MarksFirst, ReadsCutTexts, ReadsRowsOfCutTexts, BeginsWithRest, StopsAtRefused, StopsAtOpenEnd, EndsWithRest, ReadsUpToRefused, ReadsRowsUpToRefused};
 
 /// The pieces and the rest are the text.
 #[tactic(auto, using(crate::proofs::PieceLemmas::joins_cut_texts))]
@@ -61,4 +61,10 @@ pub fn the_rest_is_one_record_at_the_end()
 #[tactic(auto, using(crate::proofs::PieceReadLemmas::reads_up_to_refused))]
 pub fn reading_refuses_where_a_file_stops()
     ensures { (o : Options) → AreOptions o → ReadsUpToRefused o }
+{}
+
+/// Reading the used columns of a file that stops at a record refuses that record, unless it refuses one before it.
+#[tactic(auto, using(crate::proofs::PieceReadLemmas::reads_rows_up_to_refused))]
+pub fn reading_used_columns_refuses_where_a_file_stops()
+    ensures { (o : Options) → AreOptions o → ReadsRowsUpToRefused o }
 {}
