@@ -8,17 +8,18 @@ use Rattle.morsel_grammar.specs.Options.{Options, AreOptions}
 use Rattle.morsel_grammar.specs.Grammar.{CsvRecord, IsRecord}
 use Rattle.morsel_grammar.specs.Rows.{mark_len, unmarked}
 use Rattle.morsel_grammar.specs.GrammarRows.{AreWholeRecords}
-use Rattle.morsel_grammar.specs.Machine.{CutState, AtOpening, place_or_later, joined_place, state_after, last_place, is_after_eol, begins_record, first_state, cut_step, cut_after, last_end, last_begin}
+use Rattle.morsel_grammar.specs.Machine.{CutState, AtOpening, AfterEol, place_or_later, joined_place, state_after, last_place, is_after_eol, begins_record, first_state, cut_step, cut_after, last_end, last_begin}
+use Rattle.morsel_grammar.specs.Cuts.{BeginsNoWholeRecord}
 use Rattle.morsel_grammar.proofs.StateLemmas.{last_place-append}
 use Rattle.morsel_grammar.proofs.RunLemmas.{cut_after-append}
 use Rattle.morsel_grammar.proofs.FirstEndLemmas.{start}
 use Rattle.morsel_grammar.proofs.WholeCutLemmas.{HasWhole, start_whole}
 use Rattle.morsel_grammar.proofs.MarkCutLemmas.{IsPassed, passed_text, begin_is_end}
 use Rattle.morsel_grammar.proofs.OpeningCutLemmas.{passed_opening, mark_len-front}
-use Rattle.morsel_grammar.proofs.CutLemmas.{cuts_after_whole, passes_what_is_left, ends_with_record}
+use Rattle.morsel_grammar.proofs.CutLemmas.{cuts_after_whole, passes_what_is_left, finds_no_end, ends_with_record}
 use Rattle.morsel_grammar.proofs.BegunLemmas.{counts_begun}
 use Rattle.morsel_cut.specs.Cutting.{cut_opening, fed_with}
-use Rattle.morsel_cut.specs.Pieces.{last_cut, piece_first, chunk_piece, pieces_after, cut_pieces, cut_rest, cut_texts, texts_unmarked, first_mark, rest_begins, rest_unmarked, IsWhole, CutsWhole, MarksFirst, BeginsWithRest, EndsWithRest}
+use Rattle.morsel_cut.specs.Pieces.{last_cut, piece_first, chunk_piece, pieces_after, cut_pieces, cut_rest, cut_texts, texts_unmarked, first_mark, rest_begins, rest_unmarked, IsWhole, CutsWhole, LeavesNoWhole, MarksFirst, BeginsWithRest, EndsWithRest}
 use Rattle.morsel_cut.proofs.PieceLemmas.{last_cut-within, last_cut-grows, front_then_piece, pieces_are_front, joins_cut_texts, first_some, some_front}
 
 -- where the test holds at the end of some bytes, that is its last place
@@ -149,6 +150,23 @@ cuts_whole o fit = λ chunks. all_whole o chunks fit (shown o [] chunks fit refl
 -- without a cut, the rest is the text
 rest_all : (o : Options) (chunks : List (List ℕ)) → last_cut o (concat chunks) ≡ 0 → cut_rest o chunks ≡ concat chunks
 rest_all o chunks none = ap (λ (n : ℕ). drop n (concat chunks)) none
+
+no_whole : (o : Options) (chunks : List (List ℕ)) → AreOptions o → ShowsPieces o [] chunks → BeginsNoWholeRecord o (rest_unmarked (cut_pieces o chunks) (cut_rest o chunks))
+no_whole o chunks fit (inl (none, cut)) =
+    let P : List ℕ → Type 0 = λ x. BeginsNoWholeRecord o x in
+    let same : rest_unmarked (cut_pieces o chunks) (cut_rest o chunks) ≡ unmarked (concat chunks) =
+    ap (λ (x : List (List ℕ)). rest_unmarked x (cut_rest o chunks)) none ∙ ap unmarked (rest_all o chunks cut) in
+    subst P (sym same) ((finds_no_end o fit AtOpening (concat chunks) tt).0 cut)
+no_whole o chunks fit (inr has) =
+    let text : List ℕ = concat chunks in
+    let P : List ℕ → Type 0 = λ x. BeginsNoWholeRecord o x in
+    let Q : List ℕ → Type 0 = λ x. last_cut o x ≢ 0 in
+    let some : last_cut o text ≢ 0 = subst Q (sym has.split) (some_grown o has.seen has.more has.some) in
+    subst P (sym (ap (λ (x : List (List ℕ)). rest_unmarked x (cut_rest o chunks)) has.pieces_are))
+    ((finds_no_end o fit AfterEol (cut_rest o chunks) tt).0 (passes_what_is_left o fit AtOpening text tt some).0)
+
+pub leaves_no_whole : (o : Options) → AreOptions o → LeavesNoWhole o
+leaves_no_whole o fit = λ chunks. no_whole o chunks fit (shown o [] chunks fit refl)
 
 has_mark : (o : Options) (chunks : List (List ℕ)) → AreOptions o → ShowsPieces o [] chunks → first_mark (cut_texts o chunks) ≡ mark_len (concat chunks)
 has_mark o chunks fit (inl (none, cut)) = ap (λ (x : List (List ℕ)). first_mark (x ++ cut_rest o chunks ∷ [])) none ∙ ap mark_len (rest_all o chunks cut)

@@ -9,6 +9,7 @@ use Rattle.morsel_grammar.specs.Reading.{Reading, Malformed, ends, refuses, read
 use Rattle.morsel_grammar.specs.GrammarRows.{AreWholeRecords, BeginsNoRecord}
 use Rattle.morsel_grammar.specs.Joined.{joined, joined_read}
 use Rattle.morsel_grammar.specs.Machine.{AtOpening, first_state, last_end, RefusesRecord, RefusesEnd}
+use Rattle.morsel_grammar.specs.Cuts.{BeginsNoWholeRecord}
 use Rattle.morsel_cut.specs.Cutting.{cut_opening, fed_with}
 
 -- how many bytes of a file that came there are up to its last end
@@ -103,6 +104,10 @@ CutsByChunk o = (file : ℕ) (chunks : List (List ℕ)) (chunk : List ℕ) → (
 -- each piece is whole records, the first one after its mark
 abbrev pub CutsWhole : Options → Type 0
 CutsWhole o = (chunks : List (List ℕ)) → All (IsWhole o) (texts_unmarked (cut_pieces o chunks))
+
+-- the pieces have all the whole records: the rest begins with none
+abbrev pub LeavesNoWhole : Options → Type 0
+LeavesNoWhole o = (chunks : List (List ℕ)) → BeginsNoWholeRecord o (rest_unmarked (cut_pieces o chunks) (cut_rest o chunks))
 
 -- the first text has the mark of the file
 abbrev pub MarksFirst : Options → Type 0

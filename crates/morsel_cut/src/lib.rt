@@ -21,7 +21,7 @@ pub use pieces::{
     a_file_stops_at_a_refused_record, a_file_stops_at_an_open_end, pieces_and_rest_are_the_text,
     pieces_are_whole_records, reading_refuses_where_a_file_stops,
     reading_used_columns_refuses_where_a_file_stops, the_mark_stands_in_the_first_piece,
-    the_record_under_way_begins_with_the_rest, the_rest_is_one_record_at_the_end,
-    the_used_columns_of_a_file_are_read_piece_by_piece,
+    the_record_under_way_begins_with_the_rest, the_rest_begins_with_no_whole_record,
+    the_rest_is_one_record_at_the_end, the_used_columns_of_a_file_are_read_piece_by_piece,
 };
 pub use rows::rows_of;

@@ -1,6 +1,6 @@
 //! Laws: a text that comes in chunks, cut where its cutter says, is pieces of whole records and a rest, and is read piece by piece.
 ghost use Rattle.morsel_grammar.specs.Options.{Options, AreOptions};
-ghost use Rattle.morsel_cut.specs.Pieces.{JoinsCutTexts, CutsByChunk, CutsWhole, MarksFirst, ReadsCutTexts, ReadsRowsOfCutTexts, BeginsWithRest, StopsAtRefused, StopsAtOpenEnd, EndsWithRest, ReadsUpToRefused, ReadsRowsUpToRefused};
+ghost use Rattle.morsel_cut.specs.Pieces.{JoinsCutTexts, CutsByChunk, CutsWhole, LeavesNoWhole, MarksFirst, ReadsCutTexts, ReadsRowsOfCutTexts, BeginsWithRest, StopsAtRefused, StopsAtOpenEnd, EndsWithRest, ReadsUpToRefused, ReadsRowsUpToRefused};
 
 /// The pieces and the rest are the text.
 #[tactic(auto, using(crate::proofs::PieceLemmas::joins_cut_texts))]
@@ -17,6 +17,12 @@ pub fn a_chunk_with_an_end_ends_a_piece()
 #[tactic(auto, using(crate::proofs::PieceWholeLemmas::cuts_whole))]
 pub fn pieces_are_whole_records()
     ensures { (o : Options) → AreOptions o → CutsWhole o }
+{}
+
+/// The rest begins with no whole record.
+#[tactic(auto, using(crate::proofs::PieceWholeLemmas::leaves_no_whole))]
+pub fn the_rest_begins_with_no_whole_record()
+    ensures { (o : Options) → AreOptions o → LeavesNoWhole o }
 {}
 
 /// The mark is that of the first piece, or where there is none that of the rest.
