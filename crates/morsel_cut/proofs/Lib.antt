@@ -6,3 +6,7 @@ pub mod SizeLemmas
 pub mod BlankLemmas
 pub mod RowLemmas
 pub mod CountLemmas
+pub mod PieceLemmas
+pub mod PieceWholeLemmas
+pub mod PieceReadLemmas
+mod PieceFacts

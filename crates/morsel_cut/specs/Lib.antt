@@ -2,5 +2,6 @@
 pub mod Places
 pub mod Runs
 pub mod Cutting
+pub mod Pieces
 pub mod FirstEnds
 pub mod RowCounts

@@ -6,7 +6,7 @@ use Rattle.morsel_grammar.specs.Options.{Options, AreOptions}
 use Rattle.morsel_grammar.specs.Grammar.{CsvRecord, IsRecord}
 use Rattle.morsel_grammar.specs.GrammarRows.{AreWholeRecords, BeginsNoRecord}
 use Rattle.morsel_grammar.specs.Machine.{CutPlace, AtOpening, AfterEol, CutState, is_after_eol, first_state, cut_step, cut_after, last_end, last_begin, RefusesRecord, RefusesEnd}
-use Rattle.morsel_grammar.specs.Cuts.{IsFirstPlace, text_from, BeginsNoWholeRecord, AreWholeAtEnds, EndsAfterWhole, CutsAfterWhole, PassesWhatIsLeft, FindsNoEnd, RefusesWhateverFollows, RefusesWithoutDelay, RefusesOpenEnd, EndsWithRecord, BeginsAfterWhole, text_begins}
+use Rattle.morsel_grammar.specs.Cuts.{IsFirstPlace, text_from, BeginsNoWholeRecord, AreWholeAtEnds, MayCutAfterWhole, CutsAfterWhole, PassesWhatIsLeft, FindsNoEnd, RefusesWhateverFollows, RefusesWithoutDelay, RefusesOpenEnd, EndsWithRecord, BeginsAfterWhole, text_begins}
 use Rattle.morsel_grammar.proofs.StateLemmas.{last_place-within, last_place-none_later}
 use Rattle.morsel_grammar.proofs.RunLemmas.{cut_after-append}
 use Rattle.morsel_grammar.proofs.AlikeLemmas.{after_line}
@@ -35,8 +35,8 @@ drop_nothing zero bytes some = some
 drop_nothing (suc n) [] some = some
 drop_nothing (suc n) (b ∷ bs) some = λ none. cc
 
-pub ends_after_whole : (o : Options) → AreOptions o → EndsAfterWhole o
-ends_after_whole o fit = λ place bytes r records is whole.
+pub may_cut_after_whole : (o : Options) → AreOptions o → MayCutAfterWhole o
+may_cut_after_whole o fit = λ place bytes r records is whole.
     let all = passed o place bytes fit is in
     let P : List ℕ → Type 0 = λ x. AreWholeRecords o x (r ∷ records) in
     let here : AreWholeRecords o (drop all.mark bytes) (r ∷ records) = subst P (passed_text o place bytes all) whole in

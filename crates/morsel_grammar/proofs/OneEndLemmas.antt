@@ -7,26 +7,19 @@ use Rattle.std.specs.Str.{is_utf8}
 use Rattle.morsel_meaning.specs.declared.value.ColType.{ColType}
 use Rattle.morsel_meaning.specs.Values.{Row}
 use Rattle.morsel_grammar.specs.Options.{Options, AreOptions}
-use Rattle.morsel_grammar.specs.Grammar.{CsvField, CsvRecord, Comment, Fields, IsRecord, Records}
+use Rattle.morsel_grammar.specs.Grammar.{CsvField, CsvRecord, Comment, Fields, IsRecord}
 use Rattle.morsel_grammar.specs.Cells.{CsvCell}
 use Rattle.morsel_grammar.specs.Rows.{RowOf, IsRow, Misfit, is_header, cells_of, row_of}
 use Rattle.morsel_grammar.specs.Reading.{Flaw, Malformed, NotUtf8, IllTyped, Refusal, Reading, refuses, row_then, record_then, split_then, reading, used_values, Read, value_then, read_of}
-use Rattle.morsel_grammar.specs.GrammarRows.{AreWholeRecords, HasOtherWidth, HasRows, HasFlaw, RowsOfGrammar}
+use Rattle.morsel_grammar.specs.GrammarRows.{HasOtherWidth, HasRows, HasFlaw, RowsOfGrammar}
 use Rattle.morsel_grammar.specs.Joined.{joined_read_at}
 use Rattle.morsel_grammar.specs.OneEnd.{place_in, EndsOnce}
 use Rattle.morsel_grammar.proofs.RecordLemmas.{refuses_by_grammar}
 use Rattle.morsel_grammar.proofs.FirstRecordLemmas.{record_taken}
-use Rattle.morsel_grammar.proofs.WholeRecordLemmas.{records_joined}
+use Rattle.morsel_grammar.proofs.WholeRecordLemmas.{records_whole}
 use Rattle.morsel_grammar.proofs.UsedRowLemmas.{values_in, read_of-ends}
 use Rattle.morsel_grammar.proofs.JoinedLemmas.{reading-split, reading-record}
 use Rattle.morsel_grammar.proofs.PieceRowLemmas.{reads_rows_of_pieces}
-
--- whole records are records
-pub records_whole : (o : Options) (front : List ℕ) (records : List CsvRecord) → AreOptions o → AreWholeRecords o front records → Records o front records
-records_whole o front records fit whole =
-    let P : List ℕ → Type 0 = λ x. Records o x (records ++ []) in
-    let Q : List CsvRecord → Type 0 = λ x. Records o front x in
-    subst Q (append-nil records) (subst P (append-nil front) (records_joined o front [] records [] fit whole refl))
 
 -- nothing is read but the place of a refused record
 abbrev pub StopsAt : ℕ → Read → Type 0

@@ -15,7 +15,7 @@ use Rattle.morsel_grammar.specs.OneEnd.{StandsOnce}
 use Rattle.morsel_grammar.proofs.FirstRecordLemmas.{record_taken}
 use Rattle.morsel_grammar.proofs.ReadingLemmas.{reading-ends}
 use Rattle.morsel_grammar.proofs.JoinedLemmas.{reading-record, reading-joined}
-use Rattle.morsel_grammar.proofs.OneEndLemmas.{records_whole}
+use Rattle.morsel_grammar.proofs.WholeRecordLemmas.{records_whole}
 
 -- after so many rows a row was read at the place, or its record was refused there
 abbrev pub StandsAt : Reading → ℕ → ℕ → Type 0

@@ -1,11 +1,11 @@
 -- The machine that finds cuts over a whole file, with its byte order mark or without.
 use Rattle.std.proofs.Common.{◌≡◌, ℕ, zero, suc, ◌+◌, ◌<◌, ◌≤◌, ap, sym, refl, ◌∙◌, arith}
-use Rattle.std.specs.Prelude.{Bool, true, false, ◌&&◌, ◌==◌, if◌then◌else◌, Option, Some, None, List, [], ◌∷◌}
+use Rattle.std.specs.Prelude.{Bool, true, false, ◌&&◌, ◌==◌, if◌then◌else◌, Option, Some, None, List, [], ◌∷◌, ◌++◌, length}
 use Rattle.morsel_grammar.specs.Options.{Options, AreOptions, IsQuoteFor, IsCommentFor}
 use Rattle.morsel_grammar.specs.Split.{is_quote}
 use Rattle.morsel_grammar.specs.Rows.{mark_len}
-use Rattle.morsel_grammar.specs.Machine.{CutPlace, CutState, AtOpening, InMarkOne, InMarkTwo, AfterMark, AfterEol, InPlain, place_or_later, plain_step, first_step, place_step, is_after_eol, begins_record, matched_none, matched_step, first_state, state_at, cut_step, cut_after, last_end, last_begin}
-use Rattle.morsel_grammar.specs.Cuts.{IsFirstPlace}
+use Rattle.morsel_grammar.specs.Machine.{CutPlace, CutState, AtOpening, InMarkOne, InMarkTwo, AfterMark, AfterEol, InPlain, place_or_later, plain_step, first_step, place_step, is_after_eol, begins_record, no_byte_matched, matched_step, first_state, state_at, cut_step, cut_after, last_end, last_begin}
+use Rattle.morsel_grammar.specs.Cuts.{IsFirstPlace, PassesMark}
 use Rattle.morsel_grammar.proofs.ByteLemmas.{same_byte, other_byte}
 use Rattle.morsel_grammar.proofs.FieldRunLemmas.{plain_step-on, first_step-plain}
 use Rattle.morsel_grammar.proofs.RunLemmas.{lone, step_on, step_lost, state_at-lost}
@@ -26,7 +26,7 @@ high_plain o b fit high = plain_step-on o b (high_other b o.separator high fit.s
 high_first : (o : Options) (b : ℕ) → AreOptions o → 128 ≤ b → first_step o b ≡ InPlain
 high_first o b fit high = first_step-plain o b (high_no_quote o.separator o.eol b o.quote fit.quote high) ∙ high_plain o b fit high
 
-high_unmatched : (eol b : ℕ) (prefix : Option (List ℕ)) → IsCommentFor eol prefix → 128 ≤ b → matched_step prefix (matched_none prefix) b ≡ None
+high_unmatched : (eol b : ℕ) (prefix : Option (List ℕ)) → IsCommentFor eol prefix → 128 ≤ b → matched_step prefix (no_byte_matched prefix) b ≡ None
 high_unmatched eol b None fit high = refl
 high_unmatched eol b (Some []) fit high = absurd fit
 high_unmatched eol b (Some (c ∷ prefix)) fit high =
@@ -63,7 +63,7 @@ open_three o c is =
 other_first : (o : Options) (a : ℕ) → (a == 239) ≡ false → cut_step o (first_state o AtOpening) a ≡ cut_step o (start o) a
 other_first o a other =
     let same : place_step o AtOpening a ≡ place_step o AfterEol a = rw other refl in
-    ap (state_at o (matched_step o.comment (matched_none o.comment) a)) same
+    ap (state_at o (matched_step o.comment (no_byte_matched o.comment) a)) same
 
 other_lone : (o : Options) (place : CutPlace) (b : ℕ) → place_step o place b ≡ place_step o InPlain b → cut_step o (lone place) b ≡ cut_step o (lone InPlain) b
 other_lone o place b same = ap (state_at o (matched_step o.comment None b)) same
@@ -108,6 +108,13 @@ third_end (suc n) none = cc
 third_end_again : (n : ℕ) → n ≡ 0 → place_or_later false (place_or_later false (place_or_later false n)) ≡ 0
 third_end_again n none = ap (λ (n : ℕ). place_or_later false (place_or_later false (place_or_later false n))) none
 
+after_mark : (o : Options) (a b c : ℕ) (bs : List ℕ) → AreOptions o → (a == 239) ≡ true → (b == 187) ≡ true → (c == 191) ≡ true
+    → cut_after o (first_state o AtOpening) (a ∷ b ∷ c ∷ bs) ≡ cut_after o (first_state o AfterMark) bs
+after_mark o a b c bs fit one two three =
+    after_step o (first_state o AtOpening) (lone InMarkOne) a (b ∷ c ∷ bs) (open_one o a fit one)
+    ∙ after_step o (lone InMarkOne) (lone InMarkTwo) b (c ∷ bs) (open_two o b two)
+    ∙ after_step o (lone InMarkTwo) (first_state o AfterMark) c bs (open_three o c three)
+
 passed_whole : (o : Options) (a b c : ℕ) (bs : List ℕ) → AreOptions o → (a == 239) ≡ true → (b == 187) ≡ true → (c == 191) ≡ true → IsPassed o AtOpening (a ∷ b ∷ c ∷ bs)
 passed_whole o a b c bs fit one two three =
     let opening : CutState = first_state o AtOpening in
@@ -117,10 +124,7 @@ passed_whole o a b c bs fit one two three =
     ∙ ap (place_or_later false) (end_step o (lone InMarkOne) (lone InMarkTwo) b (c ∷ bs) (open_two o b two))
     ∙ ap (λ (n : ℕ). place_or_later false (place_or_later false n)) (end_step o (lone InMarkTwo) marked c bs (open_three o c three))
     ∙ ap (λ (n : ℕ). place_or_later false (place_or_later false (place_or_later false n))) (mark_end o bs) in
-    let after : cut_after o opening (a ∷ b ∷ c ∷ bs) ≡ cut_after o marked bs =
-    after_step o opening (lone InMarkOne) a (b ∷ c ∷ bs) (open_one o a fit one)
-    ∙ after_step o (lone InMarkOne) (lone InMarkTwo) b (c ∷ bs) (open_two o b two)
-    ∙ after_step o (lone InMarkTwo) marked c bs (open_three o c three) in
+    let after : cut_after o opening (a ∷ b ∷ c ∷ bs) ≡ cut_after o marked bs = after_mark o a b c bs fit one two three in
     record {
       mark = 3;
       mark_is = mark_len_all a b c bs true (mark_test a b c true true true one two three);
@@ -191,3 +195,38 @@ passed o AtOpening bytes fit is = passed_opening o bytes fit
 passed o AfterMark bytes fit is = passed_mark o bytes
 passed o AfterEol bytes fit is = passed_eol o bytes
 passed o place bytes fit is = absurd is
+
+pub passes_mark : (o : Options) → AreOptions o → PassesMark o
+passes_mark o fit = λ bytes. (after_mark o 239 187 191 bytes fit refl refl refl, mark_end o bytes)
+
+-- no record ends within the mark: what follows an end does not make a mark
+mark_after_one : (o : Options) (a : ℕ) (more : List ℕ) (t : Bool) → AreOptions o → (a == 239) ≡ t → (cut_step o (first_state o AtOpening) a).place ≡ AfterEol → mark_len (a ∷ more) ≡ 0
+mark_after_one o a more true fit is ends =
+    let both : InMarkOne ≡ AfterEol = ap (λ (x : CutState). x.place) (sym (open_one o a fit is)) ∙ ends in cc
+mark_after_one o a more false fit other ends = no_mark_first a more other
+
+mark_after_two : (o : Options) (a b : ℕ) (more : List ℕ) (t u : Bool) → AreOptions o → (a == 239) ≡ t → (b == 187) ≡ u
+    → (cut_after o (first_state o AtOpening) (a ∷ b ∷ [])).place ≡ AfterEol → mark_len (a ∷ b ∷ more) ≡ 0
+mark_after_two o a b more true true fit one two ends =
+    let after : cut_after o (first_state o AtOpening) (a ∷ b ∷ []) ≡ lone InMarkTwo =
+    after_step o (first_state o AtOpening) (lone InMarkOne) a (b ∷ []) (open_one o a fit one) ∙ open_two o b two in
+    let both : InMarkTwo ≡ AfterEol = ap (λ (x : CutState). x.place) (sym after) ∙ ends in cc
+mark_after_two o a b more true false fit one other ends = no_mark_second a b more one other
+mark_after_two o a b more false u fit other two ends = no_mark_first a (b ∷ more) other
+
+pub mark_len-front : (o : Options) (front more : List ℕ) → AreOptions o → (cut_after o (first_state o AtOpening) front).place ≡ AfterEol → mark_len (front ++ more) ≡ mark_len front
+mark_len-front o [] more fit ends = let both : AtOpening ≡ AfterEol = ends in cc
+mark_len-front o (a ∷ []) more fit ends = mark_after_one o a more (a == 239) fit refl ends
+mark_len-front o (a ∷ b ∷ []) more fit ends = mark_after_two o a b more (a == 239) (b == 187) fit refl refl ends
+mark_len-front o (a ∷ b ∷ c ∷ front) more fit ends = refl
+
+-- the mark is within the text
+pub mark_len-within : (bytes : List ℕ) → mark_len bytes ≤ length bytes
+mark_len-within [] = omega arith
+mark_len-within (a ∷ []) = omega arith
+mark_len-within (a ∷ b ∷ []) = omega arith
+mark_len-within (a ∷ b ∷ c ∷ bytes) = within (a == 239 && (b == 187 && c == 191)) (length bytes)
+  where
+    within : (t : Bool) (n : ℕ) → (if t then 3 else 0) ≤ suc (suc (suc n))
+    within true n = omega arith
+    within false n = omega arith

@@ -4,7 +4,7 @@ use Rattle.std.specs.Prelude.{Option, Some, None, List, [], ◌∷◌, ◌++◌,
 use Rattle.morsel_grammar.specs.Options.{Options, AreOptions, IsWithout, IsCommentFor}
 use Rattle.morsel_grammar.specs.Grammar.{CsvField, IsLineEnd}
 use Rattle.morsel_grammar.specs.Split.{line_at, behind_front, comment_body, fields_up_to, fields_record, record_then_fields, record_at}
-use Rattle.morsel_grammar.specs.Machine.{CutState, AfterEol, AfterSeparator, InComment, matched_none, first_state, RefusesEnd}
+use Rattle.morsel_grammar.specs.Machine.{CutState, AfterEol, AfterSeparator, InComment, no_byte_matched, first_state, RefusesEnd}
 use Rattle.morsel_grammar.specs.Cuts.{EndsAtFirst, FollowsFound, FollowsReading}
 use Rattle.morsel_grammar.proofs.ByteLemmas.{byte_itself, other_byte}
 use Rattle.morsel_grammar.proofs.CommentLemmas.{IsLineText, line_at-read, IsBehind, behind_front-read}
@@ -75,7 +75,7 @@ prefix_follows o c prefix b bs (Some body) fit is found =
 
 -- of the options, what begins a record
 by_comment : (o : Options) (comment : Option (List ℕ)) (b : ℕ) (bs : List ℕ) → AreOptions o → o.comment ≡ comment → IsCommentFor o.eol comment
-    → FollowsFound o (record { matched = matched_none comment; place = AfterEol }) (b ∷ bs) (record_then_fields o (b ∷ bs) (comment_body comment (b ∷ bs)))
+    → FollowsFound o (record { matched = no_byte_matched comment; place = AfterEol }) (b ∷ bs) (record_then_fields o (b ∷ bs) (comment_body comment (b ∷ bs)))
 by_comment o None b bs fit asked is = lone_follows o b bs fit
 by_comment o (Some []) b bs fit asked is = absurd is
 by_comment o (Some (c ∷ prefix)) b bs fit asked is =

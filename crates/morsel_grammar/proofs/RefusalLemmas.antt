@@ -6,7 +6,7 @@ use Rattle.morsel_grammar.specs.Options.{Options, AreOptions, IsCommentFor}
 use Rattle.morsel_grammar.specs.Grammar.{CsvRecord, Comment, IsRecord}
 use Rattle.morsel_grammar.specs.Split.{is_quote}
 use Rattle.morsel_grammar.specs.GrammarRows.{BeginsNoRecord}
-use Rattle.morsel_grammar.specs.Machine.{CutPlace, CutState, AtOpening, InMarkOne, InMarkTwo, AfterMark, AfterEol, AfterSeparator, InPlain, InQuotes, AfterQuote, AfterReturn, InComment, BrokenQuote, place_or_later, joined_place, plain_step, first_step, closed_step, place_step, is_after_eol, begins_record, matched_none, matched_step, is_whole_prefix, first_state, state_at, cut_step, cut_after, last_end, RefusesRecord, RefusesEnd}
+use Rattle.morsel_grammar.specs.Machine.{CutPlace, CutState, AtOpening, InMarkOne, InMarkTwo, AfterMark, AfterEol, AfterSeparator, InPlain, InQuotes, AfterQuote, AfterReturn, InComment, BrokenQuote, place_or_later, joined_place, plain_step, first_step, closed_step, place_step, is_after_eol, begins_record, no_byte_matched, matched_step, is_whole_prefix, first_state, state_at, cut_step, cut_after, last_end, RefusesRecord, RefusesEnd}
 use Rattle.morsel_grammar.proofs.ByteLemmas.{byte_itself, same_byte}
 use Rattle.morsel_grammar.proofs.PlainFieldLemmas.{quote_is}
 use Rattle.morsel_grammar.proofs.RunLemmas.{lone, last_end-append, cut_after-append, step_lost, state_at-lost}
@@ -176,7 +176,7 @@ matched_front o prefix k j c left (b ∷ bs) place is past none some =
 
 -- of the options, what a record that is still matching can become
 matched_mended : (o : Options) (comment : Option (List ℕ)) (left : List ℕ) (j : ℕ) → o.comment ≡ comment → IsCommentFor o.eol comment
-    → (let s : CutState = record { matched = matched_none comment; place = AfterEol } in
+    → (let s : CutState = record { matched = no_byte_matched comment; place = AfterEol } in
     last_end o s left ≡ 0 → (cut_after o s left).matched ≡ Some j → (rest : List ℕ) × IsRecord o (Comment []) (left ++ rest) [])
 matched_mended o None left j asked is = λ none some. not_matched (cut_after o (lone AfterEol) left) j (lost_stays o AfterEol left tt none) some
 matched_mended o (Some []) left j asked is = λ none some. absurd is

@@ -5,7 +5,7 @@ use Rattle.std.specs.Prelude.{Bool, true, false, ◌⊎◌, Option, Some, None, 
 use Rattle.morsel_grammar.specs.Options.{Options, AreOptions, IsWithout, IsQuoteFor}
 use Rattle.morsel_grammar.specs.Grammar.{CsvField, CsvRecord, Comment, Fields, doubled, Spells, IsLineEnd, IsEnd, AreFields, IsRecord, Records}
 use Rattle.morsel_grammar.specs.GrammarRows.{AreWholeRecords}
-use Rattle.morsel_grammar.specs.Laws.{EndsWithEol, StandsWhateverFollows, SplitsBehindWhole}
+use Rattle.morsel_grammar.specs.Laws.{EndsWithEol, StandsWhateverFollows, SplitsBehindWhole, JoinsWhole, WholeAreRecords}
 use Rattle.morsel_grammar.proofs.CommentLemmas.{prefix_without_eol, front_before}
 use Rattle.morsel_grammar.proofs.RecordLemmas.{EndsIn, record_ends, begins_with_one}
 
@@ -178,6 +178,26 @@ records_joined o front rest (r ∷ a) b fit whole split =
     some_line [] after is = cc
     some_line (b ∷ line) after is = cc
 
+-- whole records are records
+pub records_whole : (o : Options) (front : List ℕ) (records : List CsvRecord) → AreOptions o → AreWholeRecords o front records → Records o front records
+records_whole o front records fit whole =
+    let P : List ℕ → Type 0 = λ x. Records o x (records ++ []) in
+    let Q : List CsvRecord → Type 0 = λ x. Records o front x in
+    subst Q (append-nil records) (subst P (append-nil front) (records_joined o front [] records [] fit whole refl))
+
+-- whole records after whole records are whole records
+pub whole_joined : (o : Options) (front back : List ℕ) (a b : List CsvRecord) → AreOptions o → AreWholeRecords o front a → AreWholeRecords o back b → AreWholeRecords o (front ++ back) (a ++ b)
+whole_joined o front back [] b fit none whole = let P : List ℕ → Type 0 = λ x. AreWholeRecords o (x ++ back) b in subst P (sym none) whole
+whole_joined o front back (r ∷ a) b fit whole more =
+    let split : front ++ back ≡ whole.0 ++ o.eol ∷ (whole.1 ++ back) = ap (λ (x : List ℕ). x ++ back) whole.2 ∙ append_assoc whole.0 (o.eol ∷ whole.1) back in
+    let P : List ℕ → Type 0 = λ x. IsRecord o r x (whole.1 ++ back) in (
+      whole.0,
+      whole.1 ++ back,
+      split,
+      subst P (sym split) (record_again o r front whole.0 whole.1 fit whole.3 whole.2 (whole.1 ++ back)),
+      whole_joined o whole.1 back a b fit whole.4 more,
+    )
+
 by_eol : (o : Options) (r : CsvRecord) (text rest : List ℕ) → EndsIn o (IsRecord o r) text rest → (rest ≡ []) ⊎ ((line : List ℕ) × (text ≡ line ++ o.eol ∷ rest))
 by_eol o r text rest (inl none) = inl none
 by_eol o r text rest (inr (line, split, again)) = inr (line, split)
@@ -196,3 +216,9 @@ splits_behind_whole o fit = λ front rest whole records are. (
       subst P (sym same) found.2,
   λ split. records_joined o front rest whole records fit are split,
 )
+
+pub joins_whole : (o : Options) → AreOptions o → JoinsWhole o
+joins_whole o fit = λ front back records others first second. whole_joined o front back records others fit first second
+
+pub whole_are_records : (o : Options) → AreOptions o → WholeAreRecords o
+whole_are_records o fit = λ text records whole. records_whole o text records fit whole

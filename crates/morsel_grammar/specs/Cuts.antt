@@ -47,7 +47,7 @@ abbrev pub text_begins : CutPlace → List ℕ → ℕ
 text_begins AtOpening bytes = mark_len bytes
 text_begins place bytes = 0
 
--- the record is what there is up to the first place where the text may be cut; or there is none, and it ends with the text
+-- the record is what there is up to the first place where the text may be cut; or there is no such place, and the record ends with the text
 abbrev pub EndsAtFirst : Options → CutState → List ℕ → List ℕ → Type 0
 EndsAtFirst o s text rest =
     ((line : List ℕ) × (text ≡ line ++ o.eol ∷ rest) × (last_end o s line ≡ 0) × (cut_after o s (line ++ o.eol ∷ []) ≡ first_state o AfterEol))
@@ -79,9 +79,9 @@ abbrev pub AreWholeAtEnds : Options → Type 0
 AreWholeAtEnds o = (place : CutPlace) (bytes : List ℕ) → IsFirstPlace place → (cut_after o (first_state o place) bytes).place ≡ AfterEol
     → (records : List CsvRecord) × AreWholeRecords o (text_from place bytes) records
 
--- after whole records, at least one, a record begins
-abbrev pub EndsAfterWhole : Options → Type 0
-EndsAfterWhole o = (place : CutPlace) (bytes : List ℕ) (r : CsvRecord) (records : List CsvRecord) → IsFirstPlace place → AreWholeRecords o (text_from place bytes) (r ∷ records)
+-- after whole records, at least one, a text may be cut, and a record begins
+abbrev pub MayCutAfterWhole : Options → Type 0
+MayCutAfterWhole o = (place : CutPlace) (bytes : List ℕ) (r : CsvRecord) (records : List CsvRecord) → IsFirstPlace place → AreWholeRecords o (text_from place bytes) (r ∷ records)
     → cut_after o (first_state o place) bytes ≡ first_state o AfterEol
 
 -- bytes up to their last end are whole records, and after them a record begins
@@ -95,6 +95,11 @@ abbrev pub PassesWhatIsLeft : Options → Type 0
 PassesWhatIsLeft o = (place : CutPlace) (bytes : List ℕ) → IsFirstPlace place → (let n = last_end o (first_state o place) bytes in
     n ≢ 0 → (last_end o (first_state o AfterEol) (drop n bytes) ≡ 0)
     × (cut_after o (first_state o AfterEol) (drop n bytes) ≡ cut_after o (first_state o place) bytes))
+
+-- what follows the mark of a file is passed as from the place after it, and its last end is the one that is found after an eol byte
+abbrev pub PassesMark : Options → Type 0
+PassesMark o = (bytes : List ℕ) → (cut_after o (first_state o AtOpening) (239 ∷ 187 ∷ 191 ∷ bytes) ≡ cut_after o (first_state o AfterMark) bytes)
+    × (last_end o (first_state o AfterMark) bytes ≡ last_end o (first_state o AfterEol) bytes)
 
 -- there is no place where the text may be cut exactly where it begins with no record that has its eol byte
 abbrev pub FindsNoEnd : Options → Type 0

@@ -47,6 +47,15 @@ abbrev pub SplitsBehindWhole : Options → Type 0
 SplitsBehindWhole o = (front rest : List ℕ) (whole records : List CsvRecord) → AreWholeRecords o front whole
     → Records o (front ++ rest) (whole ++ records) ↔ Records o rest records
 
+-- whole records after whole records are whole records
+abbrev pub JoinsWhole : Options → Type 0
+JoinsWhole o = (front back : List ℕ) (records others : List CsvRecord) → AreWholeRecords o front records → AreWholeRecords o back others
+    → AreWholeRecords o (front ++ back) (records ++ others)
+
+-- whole records are records
+abbrev pub WholeAreRecords : Options → Type 0
+WholeAreRecords o = (text : List ℕ) (records : List CsvRecord) → AreWholeRecords o text records → Records o text records
+
 -- reading gives the rows of the grammar, or refuses by it
 abbrev pub ReadsCells : Options → Type 0
 ReadsCells o = (kinds : List ColType) (head : Bool) (at : ℕ) (text : List ℕ) → (let r = reading o kinds head at text in

@@ -9,7 +9,7 @@ abbrev pub state_after : {S : Type 0} → (S → ℕ → S) → S → List ℕ �
 state_after step s [] = s
 state_after step s (b ∷ bs) = state_after step (step s b) bs
 
--- how many bytes there are up to a later place, if there is one; else one where `here` holds after it, and none
+-- `later` counts from after one byte: one more than it, where it is not 0; else 1 where `here` holds; else 0
 abbrev pub place_or_later : Bool → ℕ → ℕ
 place_or_later here zero = if here then 1 else 0
 place_or_later here (suc later) = suc (suc later)
@@ -82,13 +82,13 @@ begins_record place = false
 -- a comment is known only at the end of its prefix. Until then its bytes are taken as those of a field too, since a
 -- prefix may contain the quote and the separator: where a byte differs from the prefix, the record is fields all along
 pub record CutState : Type 0 where
-  pub matched : Option ℕ  -- the record so far is so many bytes of the comment prefix, and these are all its bytes but not all of the prefix
+  pub matched : Option ℕ  -- the record so far is a front of the comment prefix, of so many bytes, and not all of it. None: there is no prefix, or the record is no longer a front of it, or is a comment already
   pub place : CutPlace
 
--- where a record begins: no byte of the prefix, where there is one
-abbrev pub matched_none : Option (List ℕ) → Option ℕ
-matched_none None = None
-matched_none (Some prefix) = Some 0
+-- where a record begins it is no byte of the prefix yet, where there is a prefix
+abbrev pub no_byte_matched : Option (List ℕ) → Option ℕ
+no_byte_matched None = None
+no_byte_matched (Some prefix) = Some 0
 
 -- the bytes of the prefix that the record is, after one byte more
 abbrev pub matched_step : Option (List ℕ) → Option ℕ → ℕ → Option ℕ
@@ -104,7 +104,7 @@ is_whole_prefix (Some prefix) (Some k) = k == length prefix
 
 -- the state in which a record begins at this place
 abbrev pub first_state : Options → CutPlace → CutState
-first_state o place = record { matched = matched_none o.comment; place = place }
+first_state o place = record { matched = no_byte_matched o.comment; place = place }
 
 -- the state of a record that is these bytes of the prefix, and at this place if it is no comment
 abbrev pub state_at : Options → Option ℕ → CutPlace → CutState

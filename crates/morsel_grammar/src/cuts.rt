@@ -2,33 +2,33 @@
 ghost use Rattle.std.specs.Prelude.{ℕ};
 ghost use Rattle.morsel_grammar.specs.Options.{Options, AreOptions};
 ghost use Rattle.morsel_grammar.specs.Machine.{CutState};
-ghost use Rattle.morsel_grammar.specs.Cuts.{PassesParts, JoinsPlaces, StaysWithin, HoldsAtLast, HoldsNotLater, FollowsReading, ReadsToFirstEnd, ReadsNothingOpen, AreWholeAtEnds, EndsAfterWhole, CutsAfterWhole, PassesWhatIsLeft, FindsNoEnd, RefusesWhateverFollows, RefusesWithoutDelay, RefusesOpenEnd, EndsWithRecord, BeginsAfterWhole, RefusesForGood, CarriesBegun, CountsBegun, BeginsAtEnds};
+ghost use Rattle.morsel_grammar.specs.Cuts.{PassesParts, JoinsPlaces, StaysWithin, HoldsAtLast, HoldsNotLater, FollowsReading, ReadsToFirstEnd, ReadsNothingOpen, AreWholeAtEnds, MayCutAfterWhole, CutsAfterWhole, PassesWhatIsLeft, PassesMark, FindsNoEnd, RefusesWhateverFollows, RefusesWithoutDelay, RefusesOpenEnd, EndsWithRecord, BeginsAfterWhole, RefusesForGood, CarriesBegun, CountsBegun, BeginsAtEnds};
 
-/// A text in two parts is passed one part after the other, by any machine.
+/// A text in two parts is passed one part after the other, by any machine with these states.
 #[tactic(auto, using(crate::proofs::StateLemmas::passes_parts))]
 pub fn a_text_is_passed_part_by_part()
     ensures { (step : CutState → ℕ → CutState) → PassesParts step }
 {}
 
-/// The last place of a text in two parts is that of the second, or else that of the first.
+/// The last place of a text in two parts is that of the second, or else that of the first, by any machine with these states.
 #[tactic(auto, using(crate::proofs::StateLemmas::joins_places))]
 pub fn the_last_place_is_found_part_by_part()
     ensures { (step : CutState → ℕ → CutState) → JoinsPlaces step }
 {}
 
-/// The last place of a text is within it.
+/// The last place of a text is within it, by any machine with these states.
 #[tactic(auto, using(crate::proofs::StateLemmas::stays_within))]
 pub fn the_last_place_is_within_the_text()
     ensures { (step : CutState → ℕ → CutState) → StaysWithin step }
 {}
 
-/// At a last place, its test holds.
+/// At a last place its test holds, by any machine with these states.
 #[tactic(auto, using(crate::proofs::StateLemmas::holds_at_last))]
 pub fn the_test_holds_at_the_last_place()
     ensures { (step : CutState → ℕ → CutState) → HoldsAtLast step }
 {}
 
-/// After the last place there is none.
+/// After the last place there is none, by any machine with these states.
 #[tactic(auto, using(crate::proofs::StateLemmas::holds_not_later))]
 pub fn after_the_last_place_there_is_none()
     ensures { (step : CutState → ℕ → CutState) → HoldsNotLater step }
@@ -60,7 +60,7 @@ pub fn a_text_is_cut_after_whole_records()
 
 /// After whole records a text may be cut.
 pub fn after_whole_records_a_text_may_be_cut()
-    ensures { (o : Options) → AreOptions o → EndsAfterWhole o }
+    ensures { (o : Options) → AreOptions o → MayCutAfterWhole o }
 {}
 
 /// Bytes up to their last end are whole records.
@@ -71,6 +71,11 @@ pub fn up_to_the_last_end_there_are_whole_records()
 /// What is left after the last end is passed as if nothing were before it.
 pub fn what_is_left_is_passed_alone()
     ensures { (o : Options) → AreOptions o → PassesWhatIsLeft o }
+{}
+
+/// What follows a file's mark is passed as from the place after it, and its last end is found as after an eol byte.
+pub fn what_follows_the_mark_is_passed_alone()
+    ensures { (o : Options) → AreOptions o → PassesMark o }
 {}
 
 /// A text has no place to be cut exactly where it begins with no whole record.

@@ -1,6 +1,6 @@
 //! Laws: the functions that read a CSV text follow its grammar, for all options that do not contradict each other.
 ghost use Rattle.morsel_grammar.specs.Options.{Options, AreOptions};
-ghost use Rattle.morsel_grammar.specs.Laws.{ReadsByGrammar, RefusesByGrammar, BeginsWithOne, IsOneList, TakesBytes, EndsWithEol, StandsWhateverFollows, SplitsBehindWhole, ReadsCells, ReadsAllCells, PlacesRows, ReadsRows, ReadsAllRows, RefusesOpenQuotes, ReadsFiles};
+ghost use Rattle.morsel_grammar.specs.Laws.{ReadsByGrammar, RefusesByGrammar, BeginsWithOne, IsOneList, TakesBytes, EndsWithEol, StandsWhateverFollows, SplitsBehindWhole, JoinsWhole, WholeAreRecords, ReadsCells, ReadsAllCells, PlacesRows, ReadsRows, ReadsAllRows, RefusesOpenQuotes, ReadsFiles};
 ghost use Rattle.morsel_grammar.specs.GrammarResults.{AnswersByGrammar, AnswersAllRows};
 ghost use Rattle.morsel_grammar.specs.Joined.{ReadsPieces, ReadsRowsOfPieces};
 ghost use Rattle.morsel_grammar.specs.OneEnd.{EndsOnce, StandsOnce};
@@ -51,6 +51,18 @@ pub fn what_follows_changes_no_record()
 #[tactic(auto, using(crate::proofs::WholeRecordLemmas::splits_behind_whole))]
 pub fn a_text_is_split_behind_whole_records()
     ensures { (o : Options) → AreOptions o → SplitsBehindWhole o }
+{}
+
+/// Whole records after whole records are whole records.
+#[tactic(auto, using(crate::proofs::WholeRecordLemmas::joins_whole))]
+pub fn whole_records_are_joined()
+    ensures { (o : Options) → AreOptions o → JoinsWhole o }
+{}
+
+/// Whole records are records.
+#[tactic(auto, using(crate::proofs::WholeRecordLemmas::whole_are_records))]
+pub fn whole_records_are_records()
+    ensures { (o : Options) → AreOptions o → WholeAreRecords o }
 {}
 
 /// Reading a text gives the rows of cells that the grammar gives it, or refuses the first record that the grammar refuses.

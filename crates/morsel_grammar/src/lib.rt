@@ -14,9 +14,9 @@ pub use cuts::{
     the_last_place_is_found_part_by_part, the_last_place_is_within_the_text,
     the_machine_follows_what_is_read, the_test_holds_at_the_last_place,
     up_to_the_last_end_there_are_whole_records, what_can_be_no_record_is_refused,
-    what_is_left_at_the_end_is_one_record, what_is_left_is_passed_alone,
-    what_is_refused_is_no_record, where_a_record_began_counts_from_the_first,
-    where_a_record_began_is_found_part_by_part,
+    what_follows_the_mark_is_passed_alone, what_is_left_at_the_end_is_one_record,
+    what_is_left_is_passed_alone, what_is_refused_is_no_record,
+    where_a_record_began_counts_from_the_first, where_a_record_began_is_found_part_by_part,
 };
 pub use laws::{
     a_file_of_the_grammar_is_one_that_is_read, a_record_ends_with_an_eol_byte_or_the_text,
@@ -27,6 +27,7 @@ pub use laws::{
     readers_answer_by_the_grammar, reading_gives_the_grammars_cells,
     reading_gives_the_grammars_rows, so_many_rows_end_at_one_place,
     used_columns_are_read_piece_by_piece, what_follows_changes_no_record,
-    what_is_not_read_is_no_record, what_is_read_is_what_is_written,
+    what_is_not_read_is_no_record, what_is_read_is_what_is_written, whole_records_are_joined,
+    whole_records_are_records,
 };
 pub use options::CsvOptions;
