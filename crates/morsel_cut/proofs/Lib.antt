@@ -6,3 +6,5 @@ pub mod SizeLemmas
 pub mod BlankLemmas
 pub mod RowLemmas
 pub mod CountLemmas
+pub mod LineLemmas
+pub mod MarkLemmas

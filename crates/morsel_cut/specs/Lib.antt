@@ -4,3 +4,4 @@ pub mod Runs
 pub mod Cutting
 pub mod FirstEnds
 pub mod RowCounts
+pub mod PlainLines

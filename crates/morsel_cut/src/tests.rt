@@ -169,3 +169,39 @@ fn a_header_may_be_still_to_come(rt: HostRuntime) {
         }
     );
 }
+
+/// Lines of two fields each, and after so many of them a line of this text.
+fn lines_with(rt: &impl Abort, alloc: Global, count: usize, at: usize, other: &[u8]) -> Vec<u8> {
+    let mut text = Vec::new(alloc);
+    for line in 0..count {
+        if line == at {
+            text.extend_from_slice(other).expect(rt, "memory");
+        }
+        text.extend_from_slice(b"ab,c\r\n").expect(rt, "memory");
+    }
+    text
+}
+
+/// A line of this text among 100 others gives so many rows of one column and of two.
+fn counts(rt: &impl Abort, alloc: Global, at: usize, other: &[u8], one: usize, two: usize) {
+    let options = CsvOptions::standard(alloc).expect(rt, "memory");
+    let text = lines_with(rt, alloc, 100, at, other);
+    let got = (
+        rows_of(text.as_slice(), 1, &options),
+        rows_of(text.as_slice(), 2, &options),
+    );
+    drop(text);
+    drop(options);
+    assert_eq!(rt; got, (one, two), "at {at}");
+}
+
+#[test]
+fn many_lines_are_counted(rt: HostRuntime) {
+    for at in 0..100 {
+        counts(&rt, rt.alloc(), at, b"", 100, 100);
+        counts(&rt, rt.alloc(), at, b"\n", 101, 100);
+        counts(&rt, rt.alloc(), at, b"\r\n", 101, 100);
+        counts(&rt, rt.alloc(), at, b"\r,\n", 101, 101);
+        counts(&rt, rt.alloc(), at, b"\"\n\n\"\n", 101, 101);
+    }
+}
