@@ -1,26 +1,27 @@
 -- What the machine that finds cuts says of the grammar, from each place where bytes begin.
-use Rattle.std.proofs.Common.{◌≡◌, ◌≢◌, ℕ, zero, suc, ap, sym, subst, refl, ◌∙◌}
-use Rattle.std.proofs.lemmas.List.{drop-drop, take-append-drop}
-use Rattle.std.specs.Prelude.{List, [], ◌∷◌, ◌++◌, take, drop}
+use Rattle.std.proofs.Common.{◌≡◌, ◌≢◌, ℕ, zero, suc, ◌+◌, ap, sym, subst, refl, ◌∙◌}
+use Rattle.std.proofs.lemmas.List.{drop-drop, take-append-drop, length-take-le}
+use Rattle.std.specs.Prelude.{List, [], ◌∷◌, ◌++◌, length, take, drop}
 use Rattle.morsel_grammar.specs.Options.{Options, AreOptions}
 use Rattle.morsel_grammar.specs.Grammar.{CsvRecord, IsRecord}
 use Rattle.morsel_grammar.specs.GrammarRows.{AreWholeRecords, BeginsNoRecord}
 use Rattle.morsel_grammar.specs.Machine.{CutPlace, AtOpening, AfterEol, CutState, is_after_eol, first_state, cut_step, cut_after, last_end, last_begin, RefusesRecord, RefusesEnd}
-use Rattle.morsel_grammar.specs.Cuts.{IsFirstPlace, text_from, BeginsNoWholeRecord, AreWholeAtEnds, EndsAfterWhole, CutsAfterWhole, PassesWhatIsLeft, FindsNoEnd, RefusesWhateverFollows, RefusesOpenEnd, EndsWithRecord}
-use Rattle.morsel_grammar.proofs.StateLemmas.{last_place-none_later}
+use Rattle.morsel_grammar.specs.Cuts.{IsFirstPlace, text_from, BeginsNoWholeRecord, AreWholeAtEnds, EndsAfterWhole, CutsAfterWhole, PassesWhatIsLeft, FindsNoEnd, RefusesWhateverFollows, RefusesWithoutDelay, RefusesOpenEnd, EndsWithRecord, BeginsAfterWhole, text_begins}
+use Rattle.morsel_grammar.proofs.StateLemmas.{last_place-within, last_place-none_later}
 use Rattle.morsel_grammar.proofs.RunLemmas.{cut_after-append}
 use Rattle.morsel_grammar.proofs.AlikeLemmas.{after_line}
 use Rattle.morsel_grammar.proofs.FirstEndLemmas.{start}
 use Rattle.morsel_grammar.proofs.WholeCutLemmas.{HasWhole, start_whole, whole_start, no_end_no_record, no_record_no_end, at_last_end, IsUnderWay, under_way, refused_left, open_left, ended_left}
-use Rattle.morsel_grammar.proofs.MarkCutLemmas.{IsPassed}
+use Rattle.morsel_grammar.proofs.MarkCutLemmas.{IsPassed, passed_text}
 use Rattle.morsel_grammar.proofs.OpeningCutLemmas.{passed}
+use Rattle.morsel_grammar.proofs.RefusalLemmas.{hopeless_left}
 
 -- bytes at whose end the text may be cut
 pub whole_at_ends : (o : Options) → AreOptions o → AreWholeAtEnds o
 whole_at_ends o fit = λ place bytes is ends.
     let all = passed o place bytes fit is in
     let P : List ℕ → Type 0 = λ x. HasWhole o x in
-    subst P (sym all.text) (start_whole o (drop all.mark bytes) fit (all.show.at_end ends))
+    subst P (sym (passed_text o place bytes all)) (start_whole o (drop all.mark bytes) fit (all.show.at_end ends))
 
 some_line : (line : List ℕ) (b : ℕ) (rest : List ℕ) → line ++ b ∷ rest ≢ []
 some_line [] b rest = λ is. cc
@@ -38,7 +39,7 @@ pub ends_after_whole : (o : Options) → AreOptions o → EndsAfterWhole o
 ends_after_whole o fit = λ place bytes r records is whole.
     let all = passed o place bytes fit is in
     let P : List ℕ → Type 0 = λ x. AreWholeRecords o x (r ∷ records) in
-    let here : AreWholeRecords o (drop all.mark bytes) (r ∷ records) = subst P all.text whole in
+    let here : AreWholeRecords o (drop all.mark bytes) (r ∷ records) = subst P (passed_text o place bytes all) whole in
     let some : drop all.mark bytes ≢ [] = some_whole o (drop all.mark bytes) r records here in
     let starts : cut_after o (start o) (drop all.mark bytes) ≡ start o = whole_start o (drop all.mark bytes) (r ∷ records) fit here in
     after_line o (first_state o place) bytes (drop_nothing all.mark bytes some) (all.show.at_end_again some (ap (λ (x : CutState). x.place) starts))
@@ -47,8 +48,8 @@ pub finds_no_end : (o : Options) → AreOptions o → FindsNoEnd o
 finds_no_end o fit = λ place bytes is.
     let all = passed o place bytes fit is in
     let P : List ℕ → Type 0 = λ x. BeginsNoWholeRecord o x in (
-      λ none. subst P (sym all.text) (no_end_no_record o (drop all.mark bytes) fit (all.no_end none)),
-      λ never. all.no_end_again (no_record_no_end o (drop all.mark bytes) fit (subst P all.text never)),
+      λ none. subst P (sym (passed_text o place bytes all)) (no_end_no_record o (drop all.mark bytes) fit (all.no_end none)),
+      λ never. all.no_end_again (no_record_no_end o (drop all.mark bytes) fit (subst P (passed_text o place bytes all) never)),
     )
 
 -- the record that is under way
@@ -66,6 +67,16 @@ refuses_whatever_follows o fit = λ place bytes more is refused.
     let P : List ℕ → Type 0 = λ x. BeginsNoRecord o (x ++ more) in
     let Q : CutState → Type 0 = λ x. RefusesRecord x in
     subst P (left_over o place bytes all) (refused_left o left more fit way.no_end (subst Q (sym way.after) (all.show.refuses_record refused)))
+
+pub refuses_without_delay : (o : Options) → AreOptions o → RefusesWithoutDelay o
+refuses_without_delay o fit = λ place bytes is never.
+    let all = passed o place bytes fit is in
+    let text : List ℕ = drop all.mark bytes in
+    let left : List ℕ = drop (last_end o (start o) text) text in
+    let way : IsUnderWay o text left = under_way o text in
+    let P : List ℕ → Type 0 = λ x. (more : List ℕ) → BeginsNoRecord o (x ++ more) in
+    let Q : CutState → Type 0 = λ x. RefusesRecord x in
+    all.show.refuses_record_again (subst Q way.after (hopeless_left o left fit way.no_end (subst P (sym (left_over o place bytes all)) never)))
 
 pub refuses_open_end : (o : Options) → AreOptions o → RefusesOpenEnd o
 refuses_open_end o fit = λ place bytes is refuses.
@@ -118,4 +129,19 @@ passes_what_is_left o fit = λ place bytes is some.
     let again : cut_after o s (take n bytes) ≡ start o = first_after_end o s bytes n some refl (at_last_end o s bytes some) in (
       ap (λ (x : CutState). last_end o x (drop n bytes)) (sym again) ∙ last_place-none_later (cut_step o) (λ (s : CutState). is_after_eol s.place) s bytes,
       ap (λ (x : CutState). cut_after o x (drop n bytes)) (sym again) ∙ sym (cut_after-append o s (take n bytes) (drop n bytes)) ∙ ap (cut_after o s) (take-append-drop n bytes),
+    )
+
+-- what is before the record that is under way
+pub begins_after_whole : (o : Options) → AreOptions o → BeginsAfterWhole o
+begins_after_whole o fit = λ place bytes is.
+    let all = passed o place bytes fit is in
+    let text : List ℕ = drop all.mark bytes in
+    let n : ℕ = last_end o (start o) text in
+    let whole = (cuts_after_whole o fit AfterEol text tt).0 in
+    let size : length (take n text) ≡ n = length-take-le n text (last_place-within (cut_step o) (λ (s : CutState). is_after_eol s.place) (start o) text) in (
+      take n text,
+      whole.0,
+      whole.1,
+      passed_text o place bytes all ∙ sym (take-append-drop n text) ∙ ap (λ (x : List ℕ). take n text ++ x) (left_over o place bytes all),
+      all.begin ∙ ap (λ (m : ℕ). m + n) (sym all.mark_is) ∙ ap (λ (m : ℕ). text_begins place bytes + m) (sym size),
     )

@@ -29,5 +29,6 @@ pub mod FirstEndLemmas
 pub mod WholeCutLemmas
 pub mod MarkCutLemmas
 pub mod OpeningCutLemmas
+pub mod RefusalLemmas
 pub mod CutLemmas
 pub mod BegunLemmas

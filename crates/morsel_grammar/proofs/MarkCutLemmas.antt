@@ -4,7 +4,7 @@ use Rattle.std.specs.Prelude.{Bool, true, false, ◌&&◌, ◌==◌, if◌then�
 use Rattle.morsel_grammar.specs.Options.{Options}
 use Rattle.morsel_grammar.specs.Split.{is_quote}
 use Rattle.morsel_grammar.specs.Machine.{CutPlace, CutState, AtOpening, InMarkOne, InMarkTwo, AfterMark, AfterEol, AfterSeparator, InPlain, InQuotes, AfterQuote, AfterReturn, InComment, BrokenQuote, place_or_later, plain_step, first_step, closed_step, place_step, is_after_eol, begins_record, matched_step, is_whole_prefix, first_state, cut_step, cut_after, last_end, last_begin, RefusesRecord, RefusesEnd}
-use Rattle.morsel_grammar.specs.Cuts.{text_from}
+use Rattle.morsel_grammar.specs.Cuts.{text_from, text_begins}
 use Rattle.morsel_grammar.proofs.RunLemmas.{lone}
 use Rattle.morsel_grammar.proofs.FirstEndLemmas.{start}
 
@@ -39,7 +39,7 @@ closed_in o b =
     either_in (b == o.separator) AfterSeparator (if b == o.eol then AfterEol else returned) tt
     (either_in (b == o.eol) AfterEol returned tt (either_in (b == 13 && o.eol == 10) AfterReturn BrokenQuote tt tt))
 
-place_in : (o : Options) (place : CutPlace) (b : ℕ) → IsPastMark place → IsInRecord (place_step o place b)
+pub place_in : (o : Options) (place : CutPlace) (b : ℕ) → IsPastMark place → IsInRecord (place_step o place b)
 place_in o AtOpening b past = absurd past
 place_in o InMarkOne b past = absurd past
 place_in o InMarkTwo b past = absurd past
@@ -65,14 +65,14 @@ step_in o s b past =
     let place : CutPlace = place_step o s.place b in
     state_in o matched place (begins_record place) (is_whole_prefix o.comment matched) (place_in o s.place b past)
 
-in_record_past : (place : CutPlace) → IsInRecord place → IsPastMark place
+pub in_record_past : (place : CutPlace) → IsInRecord place → IsPastMark place
 in_record_past AtOpening is = is
 in_record_past InMarkOne is = is
 in_record_past InMarkTwo is = is
 in_record_past AfterMark is = tt
 in_record_past place is = tt
 
-in_record_begins : (place : CutPlace) → IsInRecord place → begins_record place ≡ is_after_eol place
+pub in_record_begins : (place : CutPlace) → IsInRecord place → begins_record place ≡ is_after_eol place
 in_record_begins AfterMark is = absurd is
 in_record_begins AtOpening is = refl
 in_record_begins InMarkOne is = refl
@@ -131,6 +131,7 @@ pub record ShowSame (s t : CutState) (text : List ℕ) : Type 0 where
   pub at_end : s.place ≡ AfterEol → t.place ≡ AfterEol
   pub at_end_again : text ≢ [] → t.place ≡ AfterEol → s.place ≡ AfterEol
   pub refuses_record : RefusesRecord s → RefusesRecord t
+  pub refuses_record_again : RefusesRecord t → RefusesRecord s
   pub refuses_end : RefusesEnd s → RefusesEnd t
   pub refuses_end_again : RefusesEnd t → RefusesEnd s
 
@@ -139,6 +140,7 @@ show_equal s t text same = record {
   at_end = λ is. ap (λ (x : CutState). x.place) (sym same) ∙ is;
   at_end_again = λ some is. ap (λ (x : CutState). x.place) same ∙ is;
   refuses_record = λ is. let P : CutState → Type 0 = λ x. RefusesRecord x in subst P same is;
+  refuses_record_again = λ is. let P : CutState → Type 0 = λ x. RefusesRecord x in subst P (sym same) is;
   refuses_end = λ is. let P : CutState → Type 0 = λ x. RefusesEnd x in subst P same is;
   refuses_end_again = λ is. let P : CutState → Type 0 = λ x. RefusesEnd x in subst P (sym same) is;
 }
@@ -152,7 +154,7 @@ MayEnd InQuotes = ⊥
 MayEnd BrokenQuote = ⊥
 MayEnd place = Unit {0}
 
-may_end : (s : CutState) → MayEnd s.place → RefusesEnd s → ⊥
+pub may_end : (s : CutState) → MayEnd s.place → RefusesEnd s → ⊥
 may_end s may (inl is) = let P : CutPlace → Type 0 = λ x. MayEnd x in subst P is may
 may_end s may (inr is) = let P : CutPlace → Type 0 = λ x. MayEnd x in subst P is may
 
@@ -162,6 +164,7 @@ show_neither s t text s_may t_may s_ends t_ends = record {
   at_end = λ is. absurd (s_ends is);
   at_end_again = λ some is. absurd (t_ends some is);
   refuses_record = λ is. absurd (may_end s s_may (inr is.1));
+  refuses_record_again = λ is. absurd (may_end t t_may (inr is.1));
   refuses_end = λ is. absurd (may_end s s_may is);
   refuses_end_again = λ is. absurd (may_end t t_may is);
 }
@@ -175,31 +178,38 @@ show_places s t text place other s_is t_is may other_may ends other_ends =
 -- bytes that begin at a place, beside the text of their records after the start of another
 pub record IsPassed (o : Options) (place : CutPlace) (bytes : List ℕ) : Type 0 where
   pub mark : ℕ
-  pub text : text_from place bytes ≡ drop mark bytes
+  pub mark_is : text_begins place bytes ≡ mark
   pub begin : last_begin o (first_state o place) bytes ≡ mark + last_end o (start o) (drop mark bytes)
   pub no_end : last_end o (first_state o place) bytes ≡ 0 → last_end o (start o) (drop mark bytes) ≡ 0
   pub no_end_again : last_end o (start o) (drop mark bytes) ≡ 0 → last_end o (first_state o place) bytes ≡ 0
   pub show : ShowSame (cut_after o (first_state o place) bytes) (cut_after o (start o) (drop mark bytes)) (drop mark bytes)
 
+pub text_from-begins : (place : CutPlace) (bytes : List ℕ) → text_from place bytes ≡ drop (text_begins place bytes) bytes
+text_from-begins AtOpening bytes = refl
+text_from-begins place bytes = refl
+
+pub passed_text : (o : Options) (place : CutPlace) (bytes : List ℕ) → (all : IsPassed o place bytes) → text_from place bytes ≡ drop all.mark bytes
+passed_text o place bytes all = text_from-begins place bytes ∙ ap (λ (n : ℕ). drop n bytes) all.mark_is
+
 nothing_added : (a b : ℕ) → a ≡ b → a ≡ 0 + b
 nothing_added a b same = omega arith
 
-pub passed_same : (o : Options) (place : CutPlace) (bytes : List ℕ) → text_from place bytes ≡ bytes → IsSameFrom o (first_state o place) (start o) bytes → IsPassed o place bytes
+pub passed_same : (o : Options) (place : CutPlace) (bytes : List ℕ) → text_begins place bytes ≡ 0 → IsSameFrom o (first_state o place) (start o) bytes → IsPassed o place bytes
 passed_same o place bytes is same = record {
   mark = 0;
-  text = is;
+  mark_is = is;
   begin = nothing_added (last_begin o (first_state o place) bytes) (last_end o (start o) bytes) same.begin;
   no_end = λ none. sym same.end ∙ none;
   no_end_again = λ none. same.end ∙ none;
   show = show_equal (cut_after o (first_state o place) bytes) (cut_after o (start o) bytes) bytes same.after;
 }
 
-pub passed_shown : (o : Options) (place : CutPlace) (bytes : List ℕ) → text_from place bytes ≡ bytes → last_begin o (first_state o place) bytes ≡ 0
+pub passed_shown : (o : Options) (place : CutPlace) (bytes : List ℕ) → text_begins place bytes ≡ 0 → last_begin o (first_state o place) bytes ≡ 0
     → last_end o (first_state o place) bytes ≡ 0 → last_end o (start o) bytes ≡ 0
     → ShowSame (cut_after o (first_state o place) bytes) (cut_after o (start o) bytes) bytes → IsPassed o place bytes
 passed_shown o place bytes is begin end start_end show = record {
   mark = 0;
-  text = is;
+  mark_is = is;
   begin = nothing_added (last_begin o (first_state o place) bytes) (last_end o (start o) bytes) (begin ∙ sym start_end);
   no_end = λ none. start_end;
   no_end_again = λ none. end;
@@ -224,7 +234,7 @@ mark_begin o bytes = begin_is_end o (first_state o AfterMark) bytes tt ∙ mark_
 pub passed_mark : (o : Options) (bytes : List ℕ) → IsPassed o AfterMark bytes
 passed_mark o bytes = record {
   mark = 0;
-  text = refl;
+  mark_is = refl;
   begin = nothing_added (last_begin o (first_state o AfterMark) bytes) (last_end o (start o) bytes) (mark_begin o bytes);
   no_end = λ none. sym (mark_end o bytes) ∙ none;
   no_end_again = λ none. mark_end o bytes ∙ none;

@@ -1,9 +1,9 @@
 -- The machine that finds cuts over a whole file, with its byte order mark or without.
 use Rattle.std.proofs.Common.{◌≡◌, ℕ, zero, suc, ◌+◌, ◌<◌, ◌≤◌, ap, sym, refl, ◌∙◌, arith}
-use Rattle.std.specs.Prelude.{Bool, true, false, ◌&&◌, ◌==◌, if◌then◌else◌, Option, Some, None, List, [], ◌∷◌, drop}
+use Rattle.std.specs.Prelude.{Bool, true, false, ◌&&◌, ◌==◌, if◌then◌else◌, Option, Some, None, List, [], ◌∷◌}
 use Rattle.morsel_grammar.specs.Options.{Options, AreOptions, IsQuoteFor, IsCommentFor}
 use Rattle.morsel_grammar.specs.Split.{is_quote}
-use Rattle.morsel_grammar.specs.Rows.{unmarked}
+use Rattle.morsel_grammar.specs.Rows.{mark_len}
 use Rattle.morsel_grammar.specs.Machine.{CutPlace, CutState, AtOpening, InMarkOne, InMarkTwo, AfterMark, AfterEol, InPlain, place_or_later, plain_step, first_step, place_step, is_after_eol, begins_record, matched_none, matched_step, first_state, state_at, cut_step, cut_after, last_end, last_begin}
 use Rattle.morsel_grammar.specs.Cuts.{IsFirstPlace}
 use Rattle.morsel_grammar.proofs.ByteLemmas.{same_byte, other_byte}
@@ -72,20 +72,20 @@ other_lone o place b same = ap (state_at o (matched_step o.comment None b)) same
 mark_test : (a b c : ℕ) (r s t : Bool) → (a == 239) ≡ r → (b == 187) ≡ s → (c == 191) ≡ t → (a == 239 && (b == 187 && c == 191)) ≡ (r && (s && t))
 mark_test a b c r s t a_is b_is c_is = rw (a_is, b_is, c_is) refl
 
-unmarked_all : (a b c : ℕ) (bytes : List ℕ) (t : Bool) → (a == 239 && (b == 187 && c == 191)) ≡ t → unmarked (a ∷ b ∷ c ∷ bytes) ≡ drop (if t then 3 else 0) (a ∷ b ∷ c ∷ bytes)
-unmarked_all a b c bytes t is = ap (λ (t : Bool). drop (if t then 3 else 0) (a ∷ b ∷ c ∷ bytes)) is
+mark_len_all : (a b c : ℕ) (bytes : List ℕ) (t : Bool) → (a == 239 && (b == 187 && c == 191)) ≡ t → mark_len (a ∷ b ∷ c ∷ bytes) ≡ (if t then 3 else 0)
+mark_len_all a b c bytes t is = ap (λ (t : Bool). if t then 3 else 0) is
 
-no_mark_first : (a : ℕ) (bs : List ℕ) → (a == 239) ≡ false → unmarked (a ∷ bs) ≡ a ∷ bs
+no_mark_first : (a : ℕ) (bs : List ℕ) → (a == 239) ≡ false → mark_len (a ∷ bs) ≡ 0
 no_mark_first a [] other = refl
 no_mark_first a (b ∷ []) other = refl
-no_mark_first a (b ∷ c ∷ bs) other = unmarked_all a b c bs false (mark_test a b c false (b == 187) (c == 191) other refl refl)
+no_mark_first a (b ∷ c ∷ bs) other = mark_len_all a b c bs false (mark_test a b c false (b == 187) (c == 191) other refl refl)
 
-no_mark_second : (a b : ℕ) (bs : List ℕ) → (a == 239) ≡ true → (b == 187) ≡ false → unmarked (a ∷ b ∷ bs) ≡ a ∷ b ∷ bs
+no_mark_second : (a b : ℕ) (bs : List ℕ) → (a == 239) ≡ true → (b == 187) ≡ false → mark_len (a ∷ b ∷ bs) ≡ 0
 no_mark_second a b [] is other = refl
-no_mark_second a b (c ∷ bs) is other = unmarked_all a b c bs false (mark_test a b c true false (c == 191) is other refl)
+no_mark_second a b (c ∷ bs) is other = mark_len_all a b c bs false (mark_test a b c true false (c == 191) is other refl)
 
-no_mark_third : (a b c : ℕ) (bs : List ℕ) → (a == 239) ≡ true → (b == 187) ≡ true → (c == 191) ≡ false → unmarked (a ∷ b ∷ c ∷ bs) ≡ a ∷ b ∷ c ∷ bs
-no_mark_third a b c bs is also other = unmarked_all a b c bs false (mark_test a b c true true false is also other)
+no_mark_third : (a b c : ℕ) (bs : List ℕ) → (a == 239) ≡ true → (b == 187) ≡ true → (c == 191) ≡ false → mark_len (a ∷ b ∷ c ∷ bs) ≡ 0
+no_mark_third a b c bs is also other = mark_len_all a b c bs false (mark_test a b c true true false is also other)
 
 -- the mark, and what follows it
 end_step : (o : Options) (s t : CutState) (b : ℕ) (bs : List ℕ) → cut_step o s b ≡ t → last_end o s (b ∷ bs) ≡ place_or_later (is_after_eol t.place) (last_end o t bs)
@@ -123,7 +123,7 @@ passed_whole o a b c bs fit one two three =
     ∙ after_step o (lone InMarkTwo) marked c bs (open_three o c three) in
     record {
       mark = 3;
-      text = unmarked_all a b c bs true (mark_test a b c true true true one two three);
+      mark_is = mark_len_all a b c bs true (mark_test a b c true true true one two three);
       begin = begin_step o opening (lone InMarkOne) a (b ∷ c ∷ bs) (open_one o a fit one)
           ∙ ap (place_or_later false) (begin_step o (lone InMarkOne) (lone InMarkTwo) b (c ∷ bs) (open_two o b two))
           ∙ ap (λ (n : ℕ). place_or_later false (place_or_later false n)) (begin_step o (lone InMarkTwo) marked c bs (open_three o c three))

@@ -71,7 +71,7 @@ pub record IsLeft (o : Options) (prefix : List ℕ) (k : ℕ) (left : List ℕ) 
   pub no_eol : IsWithout o.eol left
   pub ascii : AreAscii left
 
-left_next : (o : Options) (prefix : List ℕ) (k c : ℕ) (left : List ℕ) → IsLeft o prefix k (c ∷ left) → IsLeft o prefix (k + 1) left
+pub left_next : (o : Options) (prefix : List ℕ) (k c : ℕ) (left : List ℕ) → IsLeft o prefix k (c ∷ left) → IsLeft o prefix (k + 1) left
 left_next o prefix k c left is =
     record { asked = is.asked; is = (drop_next prefix k c left is.is).0; no_eol = is.no_eol.1; ascii = is.ascii.1 }
 
@@ -82,13 +82,13 @@ matched_step-left o prefix k c b left t is same =
     ∙ ap (λ (x : List ℕ). if begins b x then Some (k + 1) else None) is.is
     ∙ ap (λ (t : Bool). if t then Some (k + 1) else None) same
 
-place_goes : (o : Options) (prefix : List ℕ) (k c : ℕ) (left : List ℕ) (place : CutPlace) → IsLeft o prefix k (c ∷ left) → begins_record (place_step o place c) ≡ false
+pub place_goes : (o : Options) (prefix : List ℕ) (k c : ℕ) (left : List ℕ) (place : CutPlace) → IsLeft o prefix k (c ∷ left) → begins_record (place_step o place c) ≡ false
 place_goes o prefix k c left place is =
     let small : c < 128 = is.ascii.0 in
     record_goes o place c (other_byte c o.eol is.no_eol.0) (other_byte c 191 (λ e. let large : c ≡ 191 = e in absurd (omega arith)))
 
 -- a further byte of the prefix, which is not its last
-step_within : (o : Options) (prefix : List ℕ) (k c d : ℕ) (left : List ℕ) (place : CutPlace) → IsLeft o prefix k (c ∷ d ∷ left)
+pub step_within : (o : Options) (prefix : List ℕ) (k c d : ℕ) (left : List ℕ) (place : CutPlace) → IsLeft o prefix k (c ∷ d ∷ left)
     → cut_step o (matching k place) c ≡ matching (k + 1) (place_step o place c)
 step_within o prefix k c d left place is =
     let size : length prefix ≡ k + suc (suc (length left)) = (drop_next prefix k c (d ∷ left) is.is).1 in
@@ -98,7 +98,7 @@ step_within o prefix k c d left place is =
     ∙ rw (place_goes o prefix k c (d ∷ left) place is, not_whole) refl
 
 -- the last byte of the prefix
-step_last : (o : Options) (prefix : List ℕ) (k c : ℕ) (place : CutPlace) → IsLeft o prefix k (c ∷ []) → cut_step o (matching k place) c ≡ lone InComment
+pub step_last : (o : Options) (prefix : List ℕ) (k c : ℕ) (place : CutPlace) → IsLeft o prefix k (c ∷ []) → cut_step o (matching k place) c ≡ lone InComment
 step_last o prefix k c place is =
     let size : length prefix ≡ k + 1 = (drop_next prefix k c [] is.is).1 in
     let all : (k + 1 == length prefix) ≡ true = eq-eqb (k + 1) (length prefix) (sym size) in
@@ -107,7 +107,7 @@ step_last o prefix k c place is =
     ∙ rw (place_goes o prefix k c [] place is, whole) refl
 
 -- a byte that differs from the prefix
-step_differs : (o : Options) (prefix : List ℕ) (k c b : ℕ) (left : List ℕ) (place : CutPlace) → IsLeft o prefix k (c ∷ left) → (c == b) ≡ false
+pub step_differs : (o : Options) (prefix : List ℕ) (k c b : ℕ) (left : List ℕ) (place : CutPlace) → IsLeft o prefix k (c ∷ left) → (c == b) ≡ false
     → cut_step o (matching k place) b ≡ cut_step o (lone place) b
 step_differs o prefix k c b left place is differs =
     ap (λ (m : Option ℕ). state_at o m (place_step o place b)) (matched_step-left o prefix k c b left false is differs) ∙ sym (step_lost o place b)

@@ -3,7 +3,7 @@ use Rattle.std.specs.Prelude.{◌≡◌, ◌≢◌, ◌⊎◌, ◌↔◌, ℕ, �
 use Rattle.morsel_grammar.specs.Options.{Options}
 use Rattle.morsel_grammar.specs.Grammar.{CsvRecord, IsRecord}
 use Rattle.morsel_grammar.specs.Split.{record_at}
-use Rattle.morsel_grammar.specs.Rows.{unmarked}
+use Rattle.morsel_grammar.specs.Rows.{mark_len, unmarked}
 use Rattle.morsel_grammar.specs.GrammarRows.{AreWholeRecords, BeginsNoRecord}
 use Rattle.morsel_grammar.specs.Machine.{CutPlace, CutState, AtOpening, AfterMark, AfterEol, state_after, last_place, joined_place, first_state, cut_after, last_end, last_begin, begun_after, RefusesRecord, RefusesEnd}
 
@@ -41,6 +41,11 @@ IsFirstPlace place = ⊥
 abbrev pub text_from : CutPlace → List ℕ → List ℕ
 text_from AtOpening bytes = unmarked bytes
 text_from place bytes = bytes
+
+-- how many bytes there are before it
+abbrev pub text_begins : CutPlace → List ℕ → ℕ
+text_begins AtOpening bytes = mark_len bytes
+text_begins place bytes = 0
 
 -- the record is what there is up to the first place where the text may be cut; or there is none, and it ends with the text
 abbrev pub EndsAtFirst : Options → CutState → List ℕ → List ℕ → Type 0
@@ -101,6 +106,11 @@ abbrev pub RefusesWhateverFollows : Options → Type 0
 RefusesWhateverFollows o = (place : CutPlace) (bytes more : List ℕ) → IsFirstPlace place → RefusesRecord (cut_after o (first_state o place) bytes)
     → BeginsNoRecord o (drop (last_begin o (first_state o place) bytes) bytes ++ more)
 
+-- where no record begins at the first byte of the one that is under way, whatever follows, it is refused
+abbrev pub RefusesWithoutDelay : Options → Type 0
+RefusesWithoutDelay o = (place : CutPlace) (bytes : List ℕ) → IsFirstPlace place
+    → ((more : List ℕ) → BeginsNoRecord o (drop (last_begin o (first_state o place) bytes) bytes ++ more)) → RefusesRecord (cut_after o (first_state o place) bytes)
+
 -- where the text may not end, no record begins at the first byte of the one that is under way
 abbrev pub RefusesOpenEnd : Options → Type 0
 RefusesOpenEnd o = (place : CutPlace) (bytes : List ℕ) → IsFirstPlace place → RefusesEnd (cut_after o (first_state o place) bytes)
@@ -128,3 +138,9 @@ CountsBegun o = (s : CutState) (fed : ℕ) (bytes : List ℕ) → begun_after o 
 -- after the mark, a record begins only where another ends
 abbrev pub BeginsAtEnds : Options → Type 0
 BeginsAtEnds o = (place : CutPlace) (bytes : List ℕ) → IsFirstPlace place → place ≢ AtOpening → last_begin o (first_state o place) bytes ≡ last_end o (first_state o place) bytes
+
+-- before the record that is under way there are whole records, and before them the mark
+abbrev pub BeginsAfterWhole : Options → Type 0
+BeginsAfterWhole o = (place : CutPlace) (bytes : List ℕ) → IsFirstPlace place → (let n = last_begin o (first_state o place) bytes in
+    (front : List ℕ) × (records : List CsvRecord) × AreWholeRecords o front records
+    × (text_from place bytes ≡ front ++ drop n bytes) × (n ≡ text_begins place bytes + length front))

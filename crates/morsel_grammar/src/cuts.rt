@@ -2,7 +2,7 @@
 ghost use Rattle.std.specs.Prelude.{ℕ};
 ghost use Rattle.morsel_grammar.specs.Options.{Options, AreOptions};
 ghost use Rattle.morsel_grammar.specs.Machine.{CutState};
-ghost use Rattle.morsel_grammar.specs.Cuts.{PassesParts, JoinsPlaces, StaysWithin, HoldsAtLast, HoldsNotLater, FollowsReading, ReadsToFirstEnd, ReadsNothingOpen, AreWholeAtEnds, EndsAfterWhole, CutsAfterWhole, PassesWhatIsLeft, FindsNoEnd, RefusesWhateverFollows, RefusesOpenEnd, EndsWithRecord, RefusesForGood, CarriesBegun, CountsBegun, BeginsAtEnds};
+ghost use Rattle.morsel_grammar.specs.Cuts.{PassesParts, JoinsPlaces, StaysWithin, HoldsAtLast, HoldsNotLater, FollowsReading, ReadsToFirstEnd, ReadsNothingOpen, AreWholeAtEnds, EndsAfterWhole, CutsAfterWhole, PassesWhatIsLeft, FindsNoEnd, RefusesWhateverFollows, RefusesWithoutDelay, RefusesOpenEnd, EndsWithRecord, BeginsAfterWhole, RefusesForGood, CarriesBegun, CountsBegun, BeginsAtEnds};
 
 /// A text in two parts is passed one part after the other, by any machine.
 #[tactic(auto, using(crate::proofs::StateLemmas::passes_parts))]
@@ -84,6 +84,12 @@ pub fn what_is_refused_is_no_record()
     ensures { (o : Options) → AreOptions o → RefusesWhateverFollows o }
 {}
 
+/// Where nothing that follows can make the record under way one, the machine refuses it.
+#[tactic(auto, using(crate::proofs::CutLemmas::refuses_without_delay))]
+pub fn what_can_be_no_record_is_refused()
+    ensures { (o : Options) → AreOptions o → RefusesWithoutDelay o }
+{}
+
 /// Where a text may not end, the record under way is none.
 #[tactic(auto, using(crate::proofs::CutLemmas::refuses_open_end))]
 pub fn an_open_end_is_no_record()
@@ -94,6 +100,11 @@ pub fn an_open_end_is_no_record()
 #[tactic(auto, using(crate::proofs::CutLemmas::ends_with_record))]
 pub fn what_is_left_at_the_end_is_one_record()
     ensures { (o : Options) → AreOptions o → EndsWithRecord o }
+{}
+
+/// Before the record that is under way there are whole records, and before them the mark.
+pub fn a_record_under_way_begins_after_whole_records()
+    ensures { (o : Options) → AreOptions o → BeginsAfterWhole o }
 {}
 
 /// A refused record is refused for good.

@@ -6,13 +6,14 @@ mod laws;
 mod options;
 
 pub use cuts::{
-    a_record_is_read_to_the_first_end, a_refused_record_stays_refused,
-    a_text_is_cut_after_whole_records, a_text_is_passed_part_by_part,
-    after_the_last_place_there_is_none, after_whole_records_a_text_may_be_cut,
-    an_open_end_is_no_record, no_end_is_no_whole_record, nothing_is_read_where_a_text_may_not_end,
-    records_begin_where_others_end, the_last_place_is_found_part_by_part,
-    the_last_place_is_within_the_text, the_machine_follows_what_is_read,
-    the_test_holds_at_the_last_place, up_to_the_last_end_there_are_whole_records,
+    a_record_is_read_to_the_first_end, a_record_under_way_begins_after_whole_records,
+    a_refused_record_stays_refused, a_text_is_cut_after_whole_records,
+    a_text_is_passed_part_by_part, after_the_last_place_there_is_none,
+    after_whole_records_a_text_may_be_cut, an_open_end_is_no_record, no_end_is_no_whole_record,
+    nothing_is_read_where_a_text_may_not_end, records_begin_where_others_end,
+    the_last_place_is_found_part_by_part, the_last_place_is_within_the_text,
+    the_machine_follows_what_is_read, the_test_holds_at_the_last_place,
+    up_to_the_last_end_there_are_whole_records, what_can_be_no_record_is_refused,
     what_is_left_at_the_end_is_one_record, what_is_left_is_passed_alone,
     what_is_refused_is_no_record, where_a_record_began_counts_from_the_first,
     where_a_record_began_is_found_part_by_part,
