@@ -9,53 +9,23 @@ use Rattle.morsel_grammar.specs.Options.{Options, AreOptions}
 use Rattle.morsel_grammar.specs.Grammar.{CsvRecord, Records}
 use Rattle.morsel_grammar.specs.GrammarRows.{AreWholeRecords}
 use Rattle.morsel_grammar.specs.Split.{is_quote, comment_body, record_at}
-use Rattle.morsel_grammar.specs.Machine.{CutPlace, CutState, AfterEol, InComment, AfterSeparator, InPlain, state_after, place_or_later, matched_none, is_whole_prefix, place_step, plain_step, first_state, cut_step, cut_after, is_after_eol, begins_record}
+use Rattle.morsel_grammar.specs.Machine.{CutPlace, CutState, AfterEol, AfterSeparator, InPlain, place_or_later, place_step, plain_step, first_state, cut_after, is_after_eol}
 use Rattle.morsel_grammar.specs.Cuts.{EndsAtFirst, FollowsFound}
 use Rattle.morsel_grammar.proofs.ByteLemmas.{byte_itself, either_first, either_second}
 use Rattle.morsel_grammar.proofs.RecordLemmas.{record_at-written}
 use Rattle.morsel_grammar.proofs.RecordRunLemmas.{record-follows}
-use Rattle.morsel_grammar.proofs.RunLemmas.{lone, step_lost}
 use Rattle.morsel_grammar.proofs.WholeCutLemmas.{start_whole}
 use Rattle.morsel_grammar.proofs.WholeRecordLemmas.{records_behind, records_joined}
 use Rattle.morsel_cut.specs.Places.{IsOutside}
-use Rattle.morsel_cut.specs.FirstEnds.{first_place, first_end, record_size, is_blank}
+use Rattle.morsel_cut.specs.FirstEnds.{first_place, record_size, is_blank}
 use Rattle.morsel_cut.specs.RowCounts.{is_row, row_count, TakesRows}
 use Rattle.morsel_cut.specs.PlainLines.{BeginsLine, IsWithoutBlanks, ArePlainLines}
 use Rattle.morsel_cut.specs.Runs.{up_to_last}
 use Rattle.morsel_cut.proofs.RunLemmas.{AreUnquoted, outside_step, plain_outside, outside_after, ends_at_eol}
-use Rattle.morsel_cut.proofs.SizeLemmas.{has_first, rest_at_size, record_size-le}
+use Rattle.morsel_cut.proofs.PassLemmas.{quiet_start, quiet_after}
+use Rattle.morsel_cut.proofs.SizeLemmas.{has_first, quiet_size, rest_at_size, record_size-le}
 use Rattle.morsel_cut.proofs.RowLemmas.{HasCounted}
 use Rattle.morsel_cut.proofs.BlankLemmas.{row_at, row_by, blank_no, separator_no_eol}
-
--- without comments a state is its place
-quiet_start : (o : Options) (place : CutPlace) → o.comment ≡ None → first_state o place ≡ lone place
-quiet_start o place none = ap (λ (c : Option (List ℕ)). let s : CutState = record { matched = matched_none c; place = place } in s) none
-
-same_either : (t : Bool) (s : CutState) → (if t then s else s) ≡ s
-same_either true s = refl
-same_either false s = refl
-
-quiet_step : (o : Options) (place : CutPlace) (b : ℕ) → o.comment ≡ None → cut_step o (lone place) b ≡ lone (place_step o place b)
-quiet_step o place b none =
-    let next = place_step o place b in
-    step_lost o place b
-    ∙ ap (λ (c : Option (List ℕ)). let begun : CutState = record { matched = matched_none c; place = next } in
-    if begins_record next then begun else (if is_whole_prefix c None then lone InComment else lone next)) none
-    ∙ same_either (begins_record next) (lone next)
-
-quiet_after : (o : Options) (place : CutPlace) (bytes : List ℕ) → o.comment ≡ None → state_after (cut_step o) (lone place) bytes ≡ lone (state_after (place_step o) place bytes)
-quiet_after o place [] none = refl
-quiet_after o place (b ∷ bs) none = ap (λ (s : CutState). state_after (cut_step o) s bs) (quiet_step o place b none) ∙ quiet_after o (place_step o place b) bs none
-
-quiet_first : (o : Options) (place : CutPlace) (bytes : List ℕ) → o.comment ≡ None → first_end o (lone place) bytes ≡ first_place (place_step o) is_after_eol place bytes
-quiet_first o place [] none = refl
-quiet_first o place (b ∷ bs) none =
-    let next = place_step o place b in
-    ap (λ (s : CutState). if is_after_eol s.place then 1 else suc (first_end o s bs)) (quiet_step o place b none)
-    ∙ ap (λ (n : ℕ). if is_after_eol next then 1 else suc n) (quiet_first o next bs none)
-
-quiet_size : (o : Options) (text : List ℕ) → o.comment ≡ None → record_size o text ≡ first_place (place_step o) is_after_eol AfterEol text
-quiet_size o text none = ap (λ (s : CutState). first_end o s text) (quiet_start o AfterEol none) ∙ quiet_first o AfterEol text none
 
 eol_step : (o : Options) (b : ℕ) → AreOptions o → (b == o.eol) ≡ true → plain_step o b ≡ AfterEol
 eol_step o b fit is = by (b == o.separator) refl
