@@ -11,6 +11,9 @@ use crate::pass::{len_up_to_last, unquoted_len};
 use crate::record::{is_row, record_size};
 use morsel_grammar::CsvOptions;
 
+/// How many bytes are looked at for lines that are counted in one way: where one of them may be blank, these are counted one by one.
+const FRONT: usize = 4096;
+
 /// How many rows of so many columns the records of `bytes` are, which follow the header.
 ///
 /// Comments are none, and an empty record is one of one column alone. A record with too many or too few fields counts as one.
@@ -54,8 +57,19 @@ fn plain_lines_len(text: &[u8], options: &CsvOptions) -> usize
     let None = options.comment() else {
         return 0;
     };
-    let len = unquoted_len(text, options.quote());
-    len_up_to_last(options.eol(), &text[..len])
+    let front = front_of(text);
+    let len = unquoted_len(front, options.quote());
+    len_up_to_last(options.eol(), &front[..len])
+}
+
+/// The first bytes of a text, of which all lines are counted in one way.
+fn front_of(text: &[u8]) -> &[u8]
+    ensures { result.now ≡ take FRONT text.now }
+{
+    if text.len() <= FRONT {
+        return text;
+    }
+    &text[..FRONT]
 }
 
 /// How many rows lines without quotes are.

@@ -182,10 +182,10 @@ fn lines_with(rt: &impl Abort, alloc: Global, count: usize, at: usize, other: &[
     text
 }
 
-/// A line of this text among 100 others gives so many rows of one column and of two.
+/// A line of this text among 1,000 others gives so many rows of one column and of two.
 fn counts(rt: &impl Abort, alloc: Global, at: usize, other: &[u8], one: usize, two: usize) {
     let options = CsvOptions::standard(alloc).expect(rt, "memory");
-    let text = lines_with(rt, alloc, 100, at, other);
+    let text = lines_with(rt, alloc, 1000, at, other);
     let got = (
         rows_of(text.as_slice(), 1, &options),
         rows_of(text.as_slice(), 2, &options),
@@ -197,11 +197,12 @@ fn counts(rt: &impl Abort, alloc: Global, at: usize, other: &[u8], one: usize, t
 
 #[test]
 fn many_lines_are_counted(rt: HostRuntime) {
-    for at in 0..100 {
-        counts(&rt, rt.alloc(), at, b"", 100, 100);
-        counts(&rt, rt.alloc(), at, b"\n", 101, 100);
-        counts(&rt, rt.alloc(), at, b"\r\n", 101, 100);
-        counts(&rt, rt.alloc(), at, b"\r,\n", 101, 101);
-        counts(&rt, rt.alloc(), at, b"\"\n\n\"\n", 101, 101);
+    for step in 0..100 {
+        let at = step * 7;
+        counts(&rt, rt.alloc(), at, b"", 1000, 1000);
+        counts(&rt, rt.alloc(), at, b"\n", 1001, 1000);
+        counts(&rt, rt.alloc(), at, b"\r\n", 1001, 1000);
+        counts(&rt, rt.alloc(), at, b"\r,\n", 1001, 1001);
+        counts(&rt, rt.alloc(), at, b"\"\n\n\"\n", 1001, 1001);
     }
 }
