@@ -122,7 +122,7 @@ ended_one o f rest fields after is =
     sym (ap (λ (p : List CsvField × List ℕ). is_empty p.0) pair)
 
 -- what a blank begins with
-blank_no : (eol b : ℕ) (bs : List ℕ) → (b == eol) ≡ false → (b == 13) ≡ false → is_blank eol (b ∷ bs) ≡ false
+pub blank_no : (eol b : ℕ) (bs : List ℕ) → (b == eol) ≡ false → (b == 13) ≡ false → is_blank eol (b ∷ bs) ≡ false
 blank_no eol b bs no_eol no_return = rw (no_eol, no_return) refl
 
 blank_one : (eol b : ℕ) (bs : List ℕ) (t : Bool) → (b == eol) ≡ false → ends_line eol bs ≡ t → is_blank eol (b ∷ bs) ≡ (b == 13 && (eol == 10 && t))
@@ -140,7 +140,7 @@ not_so : (t : Bool) → (t ≡ true → ⊥) → t ≡ false
 not_so true never = absurd (never refl)
 not_so false never = refl
 
-separator_no_eol : (o : Options) (b : ℕ) → AreOptions o → (b == o.separator) ≡ true → (b == o.eol) ≡ false
+pub separator_no_eol : (o : Options) (b : ℕ) → AreOptions o → (b == o.separator) ≡ true → (b == o.eol) ≡ false
 separator_no_eol o b fit is = other_byte b o.eol (λ same. fit.apart (sym (same_byte b o.separator is) ∙ same))
 
 separator_no_return : (o : Options) (b : ℕ) → AreOptions o → (b == o.separator) ≡ true → (b == 13) ≡ false

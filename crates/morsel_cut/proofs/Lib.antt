@@ -10,3 +10,5 @@ pub mod PieceLemmas
 pub mod PieceWholeLemmas
 pub mod PieceReadLemmas
 mod PieceFacts
+pub mod LineLemmas
+pub mod MarkLemmas

@@ -3,13 +3,14 @@ use Rattle.std.proofs.Common.{◌≡◌, ℕ, ◌+◌, ◌<◌, ◌≤◌, ◌�
 use Rattle.std.proofs.lemmas.List.{length-take-le, take_more}
 use Rattle.std.specs.Prelude.{Option, None, if◌then◌else◌}
 use Rattle.morsel_grammar.specs.Options.{Options}
-use Rattle.morsel_grammar.specs.Machine.{CutPlace, CutState, state_after, last_place, place_or_later, joined_place, place_step, cut_step, cut_after, is_after_eol, begins_record}
+use Rattle.morsel_grammar.specs.Machine.{CutPlace, CutState, InComment, no_byte_matched, is_whole_prefix, first_state, state_after, last_place, place_or_later, joined_place, place_step, cut_step, cut_after, is_after_eol, begins_record}
 use Rattle.morsel_cut.specs.Places.{cut_place, cut_state, options_with, sign_options}
 use Rattle.morsel_cut.specs.Runs.{RunsTo, Passes}
 use Rattle.morsel_cut.specs.declared.step.Signs.{Signs}
 use Rattle.morsel_cut.specs.declared.pass.Run.{Run}
 use Rattle.morsel_cut.specs.declared.prefix.Standing.{Standing}
 use Rattle.morsel_cut.specs.declared.prefix.Passed.{Passed}
+use Rattle.morsel_grammar.proofs.RunLemmas.{lone, step_lost}
 use Rattle.morsel_grammar.proofs.StateLemmas.{state_after-append, last_place-append, last_place-within}
 
 -- the last place of a text with one byte more
@@ -48,44 +49,43 @@ passed_end-le o s bytes passed passes = omega (arith, passes.end_is, last_place-
 pub passed_begin-le : (o : Options) (s : CutState) (bytes : List ℕ) (passed : Passed) → Passes o s bytes passed → passed.begin ≤ length bytes
 passed_begin-le o s bytes passed passes = omega (arith, passes.begin_is, last_place-within (cut_step o) (λ (x : CutState). begins_record x.place) s bytes)
 
--- without comments the machine has no more than its place
-abbrev pub bare : CutPlace → CutState
-bare place = record { matched = None; place = place }
+-- without comments a state is its place
+pub quiet_start : (o : Options) (place : CutPlace) → o.comment ≡ None → first_state o place ≡ lone place
+quiet_start o place none = ap (λ (c : Option (List ℕ)). let s : CutState = record { matched = no_byte_matched c; place = place } in s) none
 
 same_either : (t : Bool) (s : CutState) → (if t then s else s) ≡ s
 same_either true s = refl
 same_either false s = refl
 
-pub bare_step : (signs : Signs) (place : CutPlace) (b : ℕ) → cut_step (options_with signs None) (bare place) b ≡ bare (place_step (sign_options signs) place b)
-bare_step signs place b =
-    let next = place_step (sign_options signs) place b in
-    same_either (begins_record next) (bare next)
+pub quiet_step : (o : Options) (place : CutPlace) (b : ℕ) → o.comment ≡ None → cut_step o (lone place) b ≡ lone (place_step o place b)
+quiet_step o place b none =
+    let next = place_step o place b in
+    step_lost o place b
+    ∙ ap (λ (c : Option (List ℕ)). let begun : CutState = record { matched = no_byte_matched c; place = next } in
+    if begins_record next then begun else (if is_whole_prefix c None then lone InComment else lone next)) none
+    ∙ same_either (begins_record next) (lone next)
 
-bare_after : (signs : Signs) (place : CutPlace) (bytes : List ℕ)
-    → state_after (cut_step (options_with signs None)) (bare place) bytes ≡ bare (state_after (place_step (sign_options signs)) place bytes)
-bare_after signs place [] = refl
-bare_after signs place (b ∷ bs) =
-    ap (λ (s : CutState). state_after (cut_step (options_with signs None)) s bs) (bare_step signs place b)
-    ∙ bare_after signs (place_step (sign_options signs) place b) bs
+pub quiet_after : (o : Options) (place : CutPlace) (bytes : List ℕ) → o.comment ≡ None → state_after (cut_step o) (lone place) bytes ≡ lone (state_after (place_step o) place bytes)
+quiet_after o place [] none = refl
+quiet_after o place (b ∷ bs) none = ap (λ (s : CutState). state_after (cut_step o) s bs) (quiet_step o place b none) ∙ quiet_after o (place_step o place b) bs none
 
-bare_last : (signs : Signs) (test : CutPlace → Bool) (place : CutPlace) (bytes : List ℕ)
-    → last_place (cut_step (options_with signs None)) (λ (s : CutState). test s.place) (bare place) bytes ≡ last_place (place_step (sign_options signs)) test place bytes
-bare_last signs test place [] = refl
-bare_last signs test place (b ∷ bs) =
-    let next = place_step (sign_options signs) place b in
-    let step = cut_step (options_with signs None) in
-    ap (λ (s : CutState). place_or_later (test s.place) (last_place step (λ (x : CutState). test x.place) s bs)) (bare_step signs place b)
-    ∙ ap (place_or_later (test next)) (bare_last signs test next bs)
+quiet_last : (o : Options) (test : CutPlace → Bool) (place : CutPlace) (bytes : List ℕ) → o.comment ≡ None
+    → last_place (cut_step o) (λ (s : CutState). test s.place) (lone place) bytes ≡ last_place (place_step o) test place bytes
+quiet_last o test place [] none = refl
+quiet_last o test place (b ∷ bs) none =
+    let next = place_step o place b in
+    ap (λ (s : CutState). place_or_later (test s.place) (last_place (cut_step o) (λ (x : CutState). test x.place) s bs)) (quiet_step o place b none)
+    ∙ ap (place_or_later (test next)) (quiet_last o test next bs none)
 
 -- so a run says all
 pub passes_bare : (signs : Signs) (from : Standing) (bytes : List ℕ) (run : Run) → from.matched ≡ None
     → RunsTo (sign_options signs) (cut_place from.place) bytes run
     → Passes (options_with signs None) (cut_state from) bytes (record { standing = record { matched = None; place = run.place }; end = run.end; begin = run.begin })
 passes_bare signs from bytes run none runs =
-    let start : cut_state from ≡ bare (cut_place from.place) = ap (λ (m : Option ℕ). let s : CutState = record { matched = m; place = cut_place from.place } in s) none in
+    let start : cut_state from ≡ lone (cut_place from.place) = ap (λ (m : Option ℕ). let s : CutState = record { matched = m; place = cut_place from.place } in s) none in
     let P : CutState → Type 0 = λ s. Passes (options_with signs None) s bytes (record { standing = record { matched = None; place = run.place }; end = run.end; begin = run.begin }) in
     subst P (sym start) (record {
-      state_is = ap bare runs.place_is ∙ sym (bare_after signs (cut_place from.place) bytes);
-      end_is = runs.end_is ∙ sym (bare_last signs is_after_eol (cut_place from.place) bytes);
-      begin_is = runs.begin_is ∙ sym (bare_last signs begins_record (cut_place from.place) bytes);
+      state_is = ap lone runs.place_is ∙ sym (quiet_after (options_with signs None) (cut_place from.place) bytes refl);
+      end_is = runs.end_is ∙ sym (quiet_last (options_with signs None) is_after_eol (cut_place from.place) bytes refl);
+      begin_is = runs.begin_is ∙ sym (quiet_last (options_with signs None) begins_record (cut_place from.place) bytes refl);
     })

@@ -21,14 +21,14 @@ AreUnquoted quote bytes = (k : ℕ) → k < length bytes → is_quote quote (get
 unquoted_behind : (quote : Option ℕ) (b : ℕ) (bs : List ℕ) → AreUnquoted quote (b ∷ bs) → AreUnquoted quote bs
 unquoted_behind quote b bs unquoted = λ k below. unquoted (suc k) (omega arith)
 
-outside_step : (o : Options) (place : CutPlace) (b : ℕ) → IsOutside place → is_quote o.quote b ≡ false → place_step o place b ≡ plain_step o b
+pub outside_step : (o : Options) (place : CutPlace) (b : ℕ) → IsOutside place → is_quote o.quote b ≡ false → place_step o place b ≡ plain_step o b
 outside_step o AfterMark b outside other = rw other refl
 outside_step o AfterEol b outside other = rw other refl
 outside_step o AfterSeparator b outside other = rw other refl
 outside_step o InPlain b outside other = refl
 outside_step o place b outside other = absurd outside
 
-plain_outside : (o : Options) (b : ℕ) → IsOutside (plain_step o b)
+pub plain_outside : (o : Options) (b : ℕ) → IsOutside (plain_step o b)
 plain_outside o b = by (b == o.separator) (b == o.eol)
   where
     by : (s e : Bool) → IsOutside (if s then AfterSeparator else (if e then AfterEol else InPlain))
@@ -59,7 +59,7 @@ outside_last o test place (b ∷ bs) tests outside unquoted =
 same_byte : (a b : ℕ) → (a == b) ≡ true → a ≡ b
 same_byte a b is = (Decides-eqb a b).0 is
 
-ends_at_eol : (o : Options) → o.separator ≢ o.eol → (b : ℕ) → is_after_eol (plain_step o b) ≡ (b == o.eol)
+pub ends_at_eol : (o : Options) → o.separator ≢ o.eol → (b : ℕ) → is_after_eol (plain_step o b) ≡ (b == o.eol)
 ends_at_eol o apart b = by (b == o.separator) (b == o.eol) refl refl
   where
     by : (s e : Bool) → (b == o.separator) ≡ s → (b == o.eol) ≡ e → is_after_eol (if s then AfterSeparator else (if e then AfterEol else InPlain)) ≡ e

@@ -10,13 +10,14 @@ use Rattle.morsel_grammar.specs.Cuts.{EndsAtFirst, FollowsFound}
 use Rattle.morsel_grammar.proofs.ByteLemmas.{true_not_false}
 use Rattle.morsel_grammar.proofs.RecordLemmas.{record_at-written}
 use Rattle.morsel_grammar.proofs.RecordRunLemmas.{record-follows}
+use Rattle.morsel_grammar.proofs.RunLemmas.{lone}
 use Rattle.morsel_cut.specs.Places.{cut_place, IsOutside, options_with, sign_options}
 use Rattle.morsel_cut.specs.declared.step.ByteAt.{ByteAt}
 use Rattle.morsel_cut.specs.declared.step.ByteAt.TheVariants as places
 use Rattle.morsel_cut.specs.FirstEnds.{first_place, first_end, record_size}
 use Rattle.morsel_cut.specs.declared.step.Signs.{Signs}
 use Rattle.morsel_cut.proofs.RunLemmas.{AreUnquoted, outside_after, outside_end, quotes_after, quotes_last, unquoted_front, up_to_last-none}
-use Rattle.morsel_cut.proofs.PassLemmas.{bare, bare_step}
+use Rattle.morsel_cut.proofs.PassLemmas.{quiet_start, quiet_step}
 
 pub first_place-le : {S : Type 0} → (step : S → ℕ → S) (test : S → Bool) (s : S) (bytes : List ℕ) → first_place step test s bytes ≤ length bytes
 first_place-le step test s [] = omega arith
@@ -151,16 +152,18 @@ quotes_size o from text len is within unquoted =
     subst P (sym is) (quotes_first o (take len text) (unquoted_front o.quote text len unquoted) ∙ length-take-le len text within)
 
 -- without comments the place says all
-pub bare_first : (signs : Signs) (place : CutPlace) (bytes : List ℕ)
-    → first_end (options_with signs None) (bare place) bytes ≡ first_place (place_step (sign_options signs)) is_after_eol place bytes
-bare_first signs place [] = refl
-bare_first signs place (b ∷ bs) =
-    let next = place_step (sign_options signs) place b in
-    ap (λ (s : CutState). if is_after_eol s.place then 1 else suc (first_end (options_with signs None) s bs)) (bare_step signs place b)
-    ∙ ap (λ (n : ℕ). if is_after_eol next then 1 else suc n) (bare_first signs next bs)
+pub quiet_first : (o : Options) (place : CutPlace) (bytes : List ℕ) → o.comment ≡ None → first_end o (lone place) bytes ≡ first_place (place_step o) is_after_eol place bytes
+quiet_first o place [] none = refl
+quiet_first o place (b ∷ bs) none =
+    let next = place_step o place b in
+    ap (λ (s : CutState). if is_after_eol s.place then 1 else suc (first_end o s bs)) (quiet_step o place b none)
+    ∙ ap (λ (n : ℕ). if is_after_eol next then 1 else suc n) (quiet_first o next bs none)
+
+pub quiet_size : (o : Options) (text : List ℕ) → o.comment ≡ None → record_size o text ≡ first_place (place_step o) is_after_eol AfterEol text
+quiet_size o text none = ap (λ (s : CutState). first_end o s text) (quiet_start o AfterEol none) ∙ quiet_first o AfterEol text none
 
 pub bare_size : (signs : Signs) (text : List ℕ) → record_size (options_with signs None) text ≡ first_place (place_step (sign_options signs)) is_after_eol AfterEol text
-bare_size signs text = bare_first signs AfterEol text
+bare_size signs text = quiet_size (options_with signs None) text refl
 
 pub record_size-le : (o : Options) (text : List ℕ) → record_size o text ≤ length text
 record_size-le o text = first_place-le (cut_step o) (λ (s : CutState). is_after_eol s.place) (first_state o AfterEol) text

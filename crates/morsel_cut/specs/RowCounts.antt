@@ -27,6 +27,10 @@ CountsRows o = (kinds : List ColType) (records : List CsvRecord) (rows : List (L
 abbrev pub AddsRows : Type 0
 AddsRows = (columns : ℕ) (front back : List CsvRecord) → row_count columns (front ++ back) ≡ row_count columns front + row_count columns back
 
+-- the text begins with records of so many bytes that are so many rows
+abbrev pub TakesRows : Options → ℕ → List ℕ → List CsvRecord → ℕ → ℕ → Type 0
+TakesRows o columns text records len rows = (left : List CsvRecord) × Records o (drop len text) left × (rows + row_count columns left ≡ row_count columns records)
+
 -- the records before the header, and the header
 abbrev pub up_to_header : List CsvRecord → List CsvRecord
 up_to_header [] = []

@@ -4,6 +4,7 @@
 mod cutter;
 mod header;
 mod laws;
+mod lines;
 mod pass;
 mod pieces;
 mod prefix;

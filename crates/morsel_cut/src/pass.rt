@@ -61,7 +61,7 @@ pub fn unquoted_len(text: &[u8], quote: Option<u8>) -> usize
 
 /// How many bytes there are up to the last one that is this byte, or 0.
 #[inline(always)]
-fn len_up_to_last(byte: u8, text: &[u8]) -> usize
+pub fn len_up_to_last(byte: u8, text: &[u8]) -> usize
     ensures { result ≡ up_to_last byte text.now }
 {
     let Some(at) = memrchr(byte, text) else {

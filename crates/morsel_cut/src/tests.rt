@@ -169,3 +169,40 @@ fn a_header_may_be_still_to_come(rt: HostRuntime) {
         }
     );
 }
+
+/// Lines of two fields each, and after so many of them a line of this text.
+fn lines_with(rt: &impl Abort, alloc: Global, count: usize, at: usize, other: &[u8]) -> Vec<u8> {
+    let mut text = Vec::new(alloc);
+    for line in 0..count {
+        if line == at {
+            text.extend_from_slice(other).expect(rt, "memory");
+        }
+        text.extend_from_slice(b"ab,c\r\n").expect(rt, "memory");
+    }
+    text
+}
+
+/// A line of this text among 1,000 others gives so many rows of one column and of two.
+fn counts(rt: &impl Abort, alloc: Global, at: usize, other: &[u8], one: usize, two: usize) {
+    let options = CsvOptions::standard(alloc).expect(rt, "memory");
+    let text = lines_with(rt, alloc, 1000, at, other);
+    let got = (
+        rows_of(text.as_slice(), 1, &options),
+        rows_of(text.as_slice(), 2, &options),
+    );
+    drop(text);
+    drop(options);
+    assert_eq!(rt; got, (one, two), "at {at}");
+}
+
+#[test]
+fn many_lines_are_counted(rt: HostRuntime) {
+    for step in 0..100 {
+        let at = step * 7;
+        counts(&rt, rt.alloc(), at, b"", 1000, 1000);
+        counts(&rt, rt.alloc(), at, b"\n", 1001, 1000);
+        counts(&rt, rt.alloc(), at, b"\r\n", 1001, 1000);
+        counts(&rt, rt.alloc(), at, b"\r,\n", 1001, 1001);
+        counts(&rt, rt.alloc(), at, b"\"\n\n\"\n", 1001, 1001);
+    }
+}

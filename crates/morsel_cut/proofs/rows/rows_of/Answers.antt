@@ -1,6 +1,7 @@
 use Rattle.std.proofs.Common.{◌≡◌, ◌-◌, ◌∙◌, length, take, drop, ap, arith}
 use Rattle.std.proofs.lemmas.List.{take_rest, length-drop}
-use Rattle.morsel_cut.proofs.RowLemmas.{counted_none, counts_on, counted_all}
+use Rattle.morsel_cut.proofs.LineLemmas.{counts_more}
+use Rattle.morsel_cut.proofs.RowLemmas.{counted_none, counted_all}
 use Rattle.morsel_cut.proofs.rows.rows_of.Goals as goal
 
 pub loop-at-init : goal.loop-at-init
@@ -17,11 +18,10 @@ loop-at-preserved c =
     let size : length (take (length bytes - at) (drop at bytes)) ≡ length bytes - at = ap length (take_rest bytes at) ∙ length-drop at bytes in
     record {
       within = omega (arith, size);
-      few = omega (arith, size, c.record_size-at.ensures.some (omega (arith, size)));
+      few = omega (arith, size);
       counted = λ records are.
-          counts_on c.args.options.now c.args.columns bytes _ at c.record_size-at.result c.loop-at.rows c.one_if-rows.result
-          c.is_row.result records c.record_size-at.ensures.fit c.loop-at-test.true (take_rest bytes at)
-          (c.loop-at.invariant.counted records are) c.record_size-at.ensures.value c.is_row.ensures c.one_if-rows.ensures.value;
+          counts_more c.args.options.now c.args.columns bytes _ at c.front_rows-len.result.0 c.loop-at.rows c.front_rows-len.result.1 records
+          (take_rest bytes at) (c.loop-at.invariant.counted records are) c.front_rows-len.ensures.rows;
     }
 
 pub returns : goal.returns
