@@ -23,7 +23,7 @@ pub struct PlainBoard<T: Message> {
 }
 
 impl<T: Message> Board for PlainBoard<T> {
-    ghost id = { λ board. board.roll.seat.table_id };
+    ghost id = { λ board. record { lane_table = board.roll.seat.table_id; group_table = board.roll.seat.table_id } };
 }
 
 impl<T: Message> PlainBoard<T> {
