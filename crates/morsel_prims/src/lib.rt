@@ -9,6 +9,7 @@ mod lane;
 mod lanes;
 mod plain_board;
 mod plain_item;
+mod plain_queues;
 mod poll;
 mod roll;
 mod row_view;

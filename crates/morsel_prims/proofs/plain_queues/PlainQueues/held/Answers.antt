@@ -1,7 +1,7 @@
 use Rattle.std.proofs.Common.{rules, sym, subst, arith}
 use Rattle.morsel_prims.proofs.MarkLemmas.{lane_within, found, held_within}
 use Rattle.morsel_prims.specs.Marks.{ArePlainLanes}
-use Rattle.morsel_prims.proofs.plain_board.PlainBoard.held.Goals as goal
+use Rattle.morsel_prims.proofs.plain_queues.PlainQueues.held.Goals as goal
 
 pub index-lane-requires : goal.index-lane-requires
 index-lane-requires g c = let small = lane_within _ _ _ _ _ c.args.self.now.kept c.look.ensures.list c.requires.place in search rules

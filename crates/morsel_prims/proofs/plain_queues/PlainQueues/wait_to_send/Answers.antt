@@ -1,8 +1,8 @@
 use Rattle.std.proofs.Common.{rules, ap, sym, refl, ◌∙◌, subst, ◌≡◌, set, Some}
 use Rattle.morsel_prims.specs.Marks.{ArePlainLanes, send_waits_of}
 use Rattle.circular_buffer.proofs.Places.{slice_get-set_same}
-use Rattle.morsel_prims.proofs.MarkLemmas.{lane_within, found, lane_changes, lane_waits, same_lane}
-use Rattle.morsel_prims.proofs.plain_board.PlainBoard.wait_to_send.Goals as goal
+use Rattle.morsel_prims.proofs.MarkLemmas.{lane_within, found, lane_changes, lane_waits, only_lane, same_lane}
+use Rattle.morsel_prims.proofs.plain_queues.PlainQueues.wait_to_send.Goals as goal
 
 pub index_mut-requires : goal.index_mut-requires
 index_mut-requires g c = let small = lane_within _ _ _ _ _ c.args.self.now.kept c.look.ensures.list c.requires.place in search rules
@@ -23,4 +23,7 @@ pub returns-clause-lane : goal.returns-clause-lane
 returns-clause-lane g c lane is =
     let small = lane_within _ _ _ _ _ c.args.self.now.kept c.look.ensures.list c.requires.place in let there = found _ _ _ small c.index_mut.ensures.value in
     let same : c.index_mut.result.now ≡ lane = same_lane _ _ (sym there ∙ is) in
-    (_, slice_get-set_same c.args.self.now.lanes.items c.args.index _ small, ap (λ l. l.shut) same, ap (λ l. l.room) same, ap (λ l. l.queue) same)
+    (_, slice_get-set_same c.args.self.now.lanes.items c.args.index _ small, ap (λ l. l.shut) same, ap (λ l. l.room) same, ap (λ l. l.queue) same, ap (λ l. l.recv_waits) same)
+
+pub returns-clause-others : goal.returns-clause-others
+returns-clause-others g c = only_lane c.args.self.now.lanes.items c.args.index _
