@@ -12,6 +12,7 @@ use Rattle.morsel_prims.specs.declared.plain_item.Mark.{Mark}
 use Rattle.morsel_prims.specs.declared.plain_item.Mark.TheVariants.{Job, Value, End, Shut}
 use Rattle.morsel_prims.specs.declared.plain_item.PlainLane.{PlainLane}
 use Rattle.morsel_prims.specs.Marks.{is_unclosed, is_shut, lane_job, lane_values, lane_end, before_shut, is_closed_last, with_job, AreFor, IsPlainLane, ArePlainLanes, OnlyLane, are_sendable, lane_room, sent_row, taken_row}
+use Rattle.morsel_prims.specs.Polled.{LaneHistory}
 
 pub found : {A : Type 0} (xs : List A) (i : ℕ) (x : A) → i < length xs → x ≡ get_or xs i x → slice_get xs i ≡ Some x
 found xs i x small is = let y = slice_get-some xs i small in y.1 ∙ ap Some (sym (is ∙ get_or_from_slice_get xs i y.0 x y.1))
@@ -131,7 +132,7 @@ module _ {A J : Type 0} where
   room-before (End v ∷ xs) p room e = absurd cc
   room-before (Shut ∷ xs) p room e = absurd cc
 
-  values-append : (xs ys : List (Mark (A × J) J)) → lane_values (xs ++ ys) ≡ lane_values xs ++ lane_values ys
+  pub values-append : (xs ys : List (Mark (A × J) J)) → lane_values (xs ++ ys) ≡ lane_values xs ++ lane_values ys
   values-append [] ys = refl
   values-append (Job j r ∷ xs) ys = values-append xs ys
   values-append (Value p ∷ xs) ys = ap (λ z. p.0 ∷ z) (values-append xs ys)
@@ -431,3 +432,20 @@ module _ {A J : Type 0} where
       → is_unclosed old ≡ true → lane_room old ≡ Some room → length was.queue.items ≤ room
   held_within rows lanes place i old was room kept at is there still of_room =
       let k = at_sent rows lanes place i old was kept at is there in let most = k.closes still in let same = k.room room of_room in omega arith
+
+  -- what was taken is the beginning of what was sent
+  pub history_of_rows : (rows : List (List (Mark (A × J) J))) (lanes : List (PlainLane (A × J) J)) (p q i : ℕ) (sent taken : List (Mark (A × J) J)) (room : ℕ) → ArePlainLanes rows lanes → get_elem? rows p ≡ some sent → p ≡ 2 * i → get_elem? rows q ≡ some taken → q ≡ 2 * i + 1
+      → is_unclosed sent ≡ true → is_shut taken ≡ false → lane_room sent ≡ Some room → LaneHistory (lane_values sent) (lane_values taken) room
+  history_of_rows rows lanes p q i sent taken room kept at is at_q is_q still opened of_room =
+      let lane = slice_get-some lanes i (lane_within rows lanes p i sent kept at is) in let here = row_there rows q taken at_q in
+      let other : taken_row rows i ≡ taken = ap (λ n. slice_index_or rows n []) (sym is_q) ∙ here.1 in
+      let k = subst (λ z. IsPlainLane sent z lane.0) other (at_sent rows lanes p i sent lane.0 kept at is lane.1) in
+      let whole : sent ≡ taken ++ lane.0.queue.items = k.queue ∙ ap (λ z. z ++ lane.0.queue.items) (before_unshut taken opened) in
+      let same = k.room room of_room in let most = k.fits in
+      (lane_values lane.0.queue.items, ap lane_values whole ∙ values-append taken lane.0.queue.items, omega arith)
+
+  -- where the receiver has taken the sender's end, it has taken what was sent
+  pub both_ended : (rows : List (List (Mark (A × J) J))) (lanes : List (PlainLane (A × J) J)) (p q i : ℕ) (sent taken : List (Mark (A × J) J)) (w : Bool) → ArePlainLanes rows lanes → get_elem? rows p ≡ some sent → p ≡ 2 * i → get_elem? rows q ≡ some taken → q ≡ 2 * i + 1 → is_shut taken ≡ false → lane_end taken ≡ Some w → sent ≡ taken
+  both_ended rows lanes p q i sent taken w kept at is at_q is_q opened ended =
+      let here = row_there rows p sent at in let mine : sent_row rows i ≡ sent = ap (λ n. slice_index_or rows n []) (sym is) ∙ here.1 in
+      sym mine ∙ all_was_ended rows lanes q i taken w kept at_q is_q opened ended

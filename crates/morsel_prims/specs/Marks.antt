@@ -1,6 +1,7 @@
 -- What is in a lane's two lists, and how the lists and the queue of a lane agree.
 use Rattle.std.specs.Prelude.{◌≡◌, ◌≢◌, ℕ, ◌+◌, ◌*◌, ◌≤◌, Bool, true, false, List, [], ◌∷◌, ◌++◌, length, slice_index_or, slice_get, Option, None, Some}
 use Rattle.morsel_meaning.specs.declared.task.TaskNo.{TaskNo}
+use Rattle.std.specs.declared.snapshot.Snapshot.{Snapshot}
 use Rattle.morsel_prims.specs.declared.plain_item.Mark.{Mark}
 use Rattle.morsel_prims.specs.declared.plain_item.Mark.TheVariants.{Job, Value, End, Shut}
 use Rattle.morsel_prims.specs.declared.plain_item.PlainLane.{PlainLane}
@@ -132,6 +133,10 @@ WaitsToSend old new = (lane : PlainLane _ _) → old ≡ Some lane → (now : Pl
 -- lane i is as before but for what waits, and its sender is registered as before
 abbrev pub WaitsToTake : {V J : Type 0} → Option (PlainLane V J) → Option (PlainLane V J) → Type 0
 WaitsToTake old new = (lane : PlainLane _ _) → old ≡ Some lane → (now : PlainLane _ _) × (new ≡ Some now) × (now.shut ≡ lane.shut) × (now.room ≡ lane.room) × (now.queue ≡ lane.queue) × (now.send_waits ≡ lane.send_waits)
+
+-- what an end of a new lane has written: what the lane is for, and its room
+abbrev pub IsNewRow : {A J : Type 0} → J → ℕ → List (Mark (A × J) J) → Type 0
+IsNewRow job room marks = (told : Snapshot _) × (told.value ≡ job) × (marks ≡ Job told room ∷ [])
 
 -- the lane is open, and has at most its room
 abbrev pub HasRoom : {V J : Type 0} → Option (PlainLane V J) → Type 0

@@ -1,17 +1,23 @@
 //! The queues of the lanes of one thread.
-ghost use Rattle.std.specs.Prelude.{◌≡◌, ℕ, ◌*◌, ◌≤◌, true, false, [], ◌∷◌, ◌++◌, length, slice_get, Some, IfOk, OnOk, OnErr, IfErr, IfSome, IsNone, ◌+◌};
+ghost use Rattle.std.specs.Prelude.{◌≡◌, ℕ, ◌*◌, ◌≤◌, true, false, [], ◌∷◌, ◌++◌, length, slice_get, Some, IfOk, OnOk, OnErr, IfErr, IfSome, IsNone, ◌+◌, if◌then◌else◌};
 ghost use Rattle.morsel_meaning.specs.declared.fault.Fault.TheVariants.{OutOfMemory};
-ghost use Rattle.morsel_prims.specs.Marks.{ArePlainLanes, AreFor, HasRoom, IsEmptyLane, IsFullLane, IsShutLane, OnlyLane, WaitsToSend, WaitsToTake, are_sendable, is_shut, is_unclosed, lane_end, lane_job, lane_room, recv_waits_of, send_waits_of, sent_row, taken_row};
-ghost use Rattle.morsel_prims.specs.Polled.{refused_value, IfFull, IfClosed};
+ghost use Rattle.morsel_prims.specs.Marks.{ArePlainLanes, AreFor, HasRoom, IsEmptyLane, IsFullLane, IsNewRow, IsShutLane, OnlyLane, WaitsToSend, WaitsToTake, are_sendable, is_shut, is_unclosed, lane_end, lane_job, lane_room, lane_values, recv_waits_of, send_waits_of, sent_row};
+ghost use Rattle.morsel_prims.specs.Polled.{LaneHistory, refused_value, IfFull, IfClosed};
+ghost use Rattle.morsel_prims.specs.declared.lane.RecvError.{RecvError};
 ghost use Rattle.morsel_prims.specs.Rows.{place_of_row, list_of_row};
 ghost use Rattle.morsel_prims.specs.declared.plain_item.Mark.TheVariants.{Value, End, Shut};
 ghost use Rattle.morsel_prims.specs.declared.plain_item.PlainLane.{PlainLane};
 
-use crate::lane::{Message, SendError};
+use crate::lane::{Message, RecvError, SendError};
 use crate::plain_item::{Mark, PlainLane, Suited};
 use crate::roll::{Roll, RollRow};
+use circular_buffer::HeapCircularBuffer;
 use morsel_meaning::{Fault, TaskNo};
 use std::alloc::Global;
+use std::snapshot::Snapshot;
+
+/// What an end wrote.
+pub type QueueRow<T> = RollRow<Mark<Suited<T>, <T as Message>::Job>>;
 
 /// The queues of all lanes of one thread.
 #[derive(Drop)]
@@ -34,11 +40,45 @@ impl<T: Message> PlainQueues<T> {
         })
     }
 
+    /// One more lane: which it is, and the rows of its two ends.
+    pub fn add(
+        &mut self,
+        alloc: Global,
+        room: u32,
+        job: &T::Job,
+    ) -> Result<(usize, QueueRow<T>, QueueRow<T>), Fault>
+        requires room { room ≤ 65536 }
+        ensures same_table { self.new.roll.seat.table_id ≡ self.old.roll.seat.table_id }
+        ensures table { IfOk result (λ made. (made.1.badge.table_id ≡ self.old.roll.seat.table_id) × (made.2.badge.table_id ≡ self.old.roll.seat.table_id)) }
+        ensures place { IfOk result (λ made. (place_of_row made.1.badge.views ≡ 2 * made.0) × (place_of_row made.2.badge.views ≡ 2 * made.0 + 1)) }
+        ensures rows { IfOk result (λ made. IsNewRow job.now room (list_of_row made.1.badge.views) × IsNewRow job.now room (list_of_row made.2.badge.views)) }
+        ensures others { IfOk result (λ made. OnlyLane made.0 self.old.lanes.items self.new.lanes.items) }
+        ensures out_of_memory { IfErr result (λ fault. fault ≡ OutOfMemory) }
+        ensures err { OnErr result ((self.new.lanes.items ≡ self.old.lanes.items) × (self.new.roll.seat.me.0.rows ≡ self.old.roll.seat.me.0.rows)) }
+    {
+        // What wants memory comes first.
+        let queue = HeapCircularBuffer::with_capacity(alloc, room as usize + 1)?;
+        self.lanes.reserve(1)?;
+        let PlainQueues { roll, lanes } = self;
+        let index = lanes.len();
+        let mark = Mark::Job(Snapshot::of(job), room);
+        let sent = roll.begin(&mark);
+        let taken = roll.begin(&mark);
+        lanes.push_reserved(PlainLane {
+            queue,
+            room,
+            shut: false,
+            send_waits: None,
+            recv_waits: None,
+        });
+        Ok((index, sent, taken))
+    }
+
     /// The lane takes the value, if it has room. The task that waits for it is handed out.
     pub fn send(
         &mut self,
         index: usize,
-        mine: &mut RollRow<Mark<Suited<T>, T::Job>>,
+        mine: &mut QueueRow<T>,
         value: Suited<T>,
     ) -> Result<Option<TaskNo>, SendError<Suited<T>>>
         requires table { mine.old.badge.table_id ≡ self.old.roll.seat.table_id }
@@ -74,12 +114,7 @@ impl<T: Message> PlainQueues<T> {
     }
 
     /// The sender closes the lane. The task that waits for it is handed out.
-    pub fn close(
-        &mut self,
-        index: usize,
-        mine: &mut RollRow<Mark<Suited<T>, T::Job>>,
-        whole: bool,
-    ) -> Option<TaskNo>
+    pub fn close(&mut self, index: usize, mine: &mut QueueRow<T>, whole: bool) -> Option<TaskNo>
         requires table { mine.old.badge.table_id ≡ self.old.roll.seat.table_id }
         requires place { place_of_row mine.old.badge.views ≡ 2 * index }
         requires unclosed { is_unclosed (list_of_row mine.old.badge.views) ≡ true }
@@ -102,7 +137,7 @@ impl<T: Message> PlainQueues<T> {
     pub fn take(
         &mut self,
         index: usize,
-        mine: &mut RollRow<Mark<Suited<T>, T::Job>>,
+        mine: &mut QueueRow<T>,
     ) -> Option<(Mark<Suited<T>, T::Job>, Option<TaskNo>)>
         requires table { mine.old.badge.table_id ≡ self.old.roll.seat.table_id }
         requires place { place_of_row mine.old.badge.views ≡ 2 * index + 1 }
@@ -130,11 +165,7 @@ impl<T: Message> PlainQueues<T> {
     }
 
     /// The receiver closes the lane. The task that waits for room is handed out.
-    pub fn shut(
-        &mut self,
-        index: usize,
-        mine: &mut RollRow<Mark<Suited<T>, T::Job>>,
-    ) -> Option<TaskNo>
+    pub fn shut(&mut self, index: usize, mine: &mut QueueRow<T>) -> Option<TaskNo>
         requires table { mine.old.badge.table_id ≡ self.old.roll.seat.table_id }
         requires place { place_of_row mine.old.badge.views ≡ 2 * index + 1 }
         ensures table { (self.new.roll.seat.table_id ≡ self.old.roll.seat.table_id) × (mine.new.badge.table_id ≡ mine.old.badge.table_id) × (place_of_row mine.new.badge.views ≡ place_of_row mine.old.badge.views) }
@@ -151,12 +182,7 @@ impl<T: Message> PlainQueues<T> {
     }
 
     /// The task waits until the lane has room.
-    pub fn wait_to_send(
-        &mut self,
-        index: usize,
-        mine: &mut RollRow<Mark<Suited<T>, T::Job>>,
-        task: TaskNo,
-    )
+    pub fn wait_to_send(&mut self, index: usize, mine: &mut QueueRow<T>, task: TaskNo)
         requires table { mine.old.badge.table_id ≡ self.old.roll.seat.table_id }
         requires place { place_of_row mine.old.badge.views ≡ 2 * index }
         ensures table { (self.new.roll.seat.table_id ≡ self.old.roll.seat.table_id) × (mine.new.badge.table_id ≡ mine.old.badge.table_id) × (mine.new.badge.views ≡ mine.old.badge.views) }
@@ -171,12 +197,7 @@ impl<T: Message> PlainQueues<T> {
     }
 
     /// The task waits until there is something in the lane.
-    pub fn wait_to_take(
-        &mut self,
-        index: usize,
-        mine: &mut RollRow<Mark<Suited<T>, T::Job>>,
-        task: TaskNo,
-    )
+    pub fn wait_to_take(&mut self, index: usize, mine: &mut QueueRow<T>, task: TaskNo)
         requires table { mine.old.badge.table_id ≡ self.old.roll.seat.table_id }
         requires place { place_of_row mine.old.badge.views ≡ 2 * index + 1 }
         ensures table { (self.new.roll.seat.table_id ≡ self.old.roll.seat.table_id) × (mine.new.badge.table_id ≡ mine.old.badge.table_id) × (mine.new.badge.views ≡ mine.old.badge.views) }
@@ -191,12 +212,7 @@ impl<T: Message> PlainQueues<T> {
     }
 
     /// How many values the lane holds; at most its room.
-    pub fn held(
-        &mut self,
-        index: usize,
-        mine: &mut RollRow<Mark<Suited<T>, T::Job>>,
-        room: u32,
-    ) -> u32
+    pub fn held(&mut self, index: usize, mine: &mut QueueRow<T>, room: u32) -> u32
         requires table { mine.old.badge.table_id ≡ self.old.roll.seat.table_id }
         requires place { place_of_row mine.old.badge.views ≡ 2 * index }
         requires unclosed { is_unclosed (list_of_row mine.old.badge.views) ≡ true }
@@ -217,23 +233,50 @@ impl<T: Message> PlainQueues<T> {
         held as u32
     }
 
-    /// Changes nothing, and tells that a receiver that has taken the sender's end has taken all.
-    pub fn look_ended(
-        &mut self,
-        index: usize,
-        mine: &mut RollRow<Mark<Suited<T>, T::Job>>,
-        whole: bool,
-    )
+    /// How the lane ended, for a receiver that has taken the sender's end. Changes nothing, and tells that it has taken all.
+    pub fn told_end(&mut self, index: usize, mine: &mut QueueRow<T>, whole: bool) -> RecvError
         requires table { mine.old.badge.table_id ≡ self.old.roll.seat.table_id }
         requires place { place_of_row mine.old.badge.views ≡ 2 * index + 1 }
         requires unshut { is_shut (list_of_row mine.old.badge.views) ≡ false }
         requires ended { lane_end (list_of_row mine.old.badge.views) ≡ Some whole }
         ensures table { (self.new.roll.seat.table_id ≡ self.old.roll.seat.table_id) × (mine.new.badge.table_id ≡ mine.old.badge.table_id) × (mine.new.badge.views ≡ mine.old.badge.views) }
         ensures all { sent_row self.new.roll.seat.me.0.rows index ≡ list_of_row mine.new.badge.views }
+        ensures answer { result ≡ (if whole then RecvError.Whole else RecvError.Cut) }
         ensures lanes { self.new.lanes.items ≡ self.old.lanes.items }
         ensures rows { self.new.roll.seat.me.0.rows ≡ self.old.roll.seat.me.0.rows }
     {
-        let _ = whole;
         self.roll.look(mine);
+        if whole {
+            RecvError::Whole
+        } else {
+            RecvError::Cut
+        }
+    }
+
+    /// Changes nothing, and tells that what was taken is the beginning of what was sent.
+    pub fn look_history(&mut self, index: usize, sent: &mut QueueRow<T>, taken: &mut QueueRow<T>)
+        requires table { (sent.old.badge.table_id ≡ self.old.roll.seat.table_id) × (taken.old.badge.table_id ≡ self.old.roll.seat.table_id) }
+        requires place { (place_of_row sent.old.badge.views ≡ 2 * index) × (place_of_row taken.old.badge.views ≡ 2 * index + 1) }
+        requires unclosed { is_unclosed (list_of_row sent.old.badge.views) ≡ true }
+        requires unshut { is_shut (list_of_row taken.old.badge.views) ≡ false }
+        ensures table { (self.new.roll.seat.table_id ≡ self.old.roll.seat.table_id) × (sent.new.badge.table_id ≡ sent.old.badge.table_id) × (taken.new.badge.table_id ≡ taken.old.badge.table_id) }
+        ensures same_rows { (sent.new.badge.views ≡ sent.old.badge.views) × (taken.new.badge.views ≡ taken.old.badge.views) }
+        ensures history { (room : ℕ) → lane_room (list_of_row sent.old.badge.views) ≡ Some room → LaneHistory (lane_values (list_of_row sent.old.badge.views)) (lane_values (list_of_row taken.old.badge.views)) room }
+    {
+        self.roll.look(sent);
+        self.roll.look(taken);
+    }
+
+    /// Changes nothing, and tells that what was sent is what was taken, where the receiver has taken the sender's end.
+    pub fn look_both(&mut self, index: usize, sent: &mut QueueRow<T>, taken: &mut QueueRow<T>)
+        requires table { (sent.old.badge.table_id ≡ self.old.roll.seat.table_id) × (taken.old.badge.table_id ≡ self.old.roll.seat.table_id) }
+        requires place { (place_of_row sent.old.badge.views ≡ 2 * index) × (place_of_row taken.old.badge.views ≡ 2 * index + 1) }
+        requires unshut { is_shut (list_of_row taken.old.badge.views) ≡ false }
+        requires ended { lane_end (list_of_row taken.old.badge.views) ≡ Some true }
+        ensures table { self.new.roll.seat.table_id ≡ self.old.roll.seat.table_id }
+        ensures same { list_of_row sent.old.badge.views ≡ list_of_row taken.old.badge.views }
+    {
+        self.roll.look(sent);
+        self.roll.look(taken);
     }
 }

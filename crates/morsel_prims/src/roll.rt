@@ -133,4 +133,16 @@ impl<T> Roll<T> {
         let seat = table.shared.split_seat::<Back>(&mut self.seat);
         row.badge = seat.into_badge();
     }
+
+    /// One more list, which begins with this.
+    pub fn begin(&mut self, x: &T) -> RollRow<T>
+        ensures table { (self.new.seat.table_id ≡ self.old.seat.table_id) × (result.badge.table_id ≡ self.old.seat.table_id) }
+        ensures rows { self.new.seat.me.0.rows ≡ self.old.seat.me.0.rows ++ (x.now ∷ []) ∷ [] }
+        ensures place { place_of_row result.badge.views ≡ length self.old.seat.me.0.rows }
+        ensures list { list_of_row result.badge.views ≡ x.now ∷ [] }
+    {
+        let mut row = self.add();
+        self.write(&mut row, x);
+        row
+    }
 }
