@@ -4,7 +4,7 @@ use mathlib.Core.Logic.{dite}
 use mathlib.Core.Option.{some, some-injective, some-ne-none}
 use native.Mathlib.Decide.{ℕ_discrete}
 use lib.ListN.{get_elem?}
-use Rattle.atomic_table.proofs.Lists.{at_set, at_snoc, at_last}
+use Rattle.atomic_table.proofs.Lists.{at_set, at_snoc}
 use Rattle.circular_buffer.proofs.Places.{slice_get-set_same, slice_get-set_other, slice_get-last, slice_get-push}
 use Rattle.morsel_prims.specs.declared.plain_counts.GroupMark.{GroupMark}
 use Rattle.morsel_prims.specs.declared.plain_counts.GroupMark.TheVariants.{Group, Token, Released}

@@ -1,10 +1,9 @@
-use Rattle.std.proofs.Common.{rules, ap, sym, refl, ◌∙◌, subst, ◌≡◌, set, arith, length, [], ◌∷◌, ◌++◌, Some, None, ◌+◌, ◌-◌}
-use Rattle.circular_buffer.proofs.Places.{slice_get-set_same, slice_get-last}
+use Rattle.std.proofs.Common.{rules, ap, sym, ◌∙◌, subst, ◌≡◌, set, [], ◌∷◌, ◌++◌, Some, ◌+◌}
+use Rattle.circular_buffer.proofs.Places.{slice_get-set_same}
 use Rattle.morsel_prims.proofs.MarkLemmas.{found}
-use Rattle.morsel_prims.proofs.CountLemmas.{group_added, token_added, token_released, counts_token, group_waits, waits-last, waits-more, only_group, only_last}
-use Rattle.morsel_prims.specs.Counts.{AreCounted, group_of, group_waits_of}
-use Rattle.morsel_prims.specs.Rows.{place_of_row, list_of_row}
-use Rattle.morsel_prims.specs.declared.plain_counts.GroupMark.TheVariants.{Group, Token, Released}
+use Rattle.morsel_prims.proofs.CountLemmas.{token_added, only_group}
+use Rattle.morsel_prims.specs.Counts.{AreCounted}
+use Rattle.morsel_prims.specs.declared.plain_counts.GroupMark.TheVariants.{Token}
 use Rattle.morsel_prims.proofs.plain_counts.PlainCounts.count_one.Goals as goal
 
 pub invariant_of-self-2 : goal.invariant_of-self-2

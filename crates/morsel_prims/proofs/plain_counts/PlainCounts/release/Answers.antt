@@ -1,12 +1,12 @@
-use Rattle.std.proofs.Common.{rules, ap, sym, refl, ◌∙◌, subst, ◌≡◌, set, arith, length, [], ◌∷◌, ◌++◌, Some, None, ◌+◌, ◌-◌}
+use Rattle.std.proofs.Common.{rules, ap, sym, ◌∙◌, subst, ◌≡◌, set, arith, [], ◌∷◌, ◌++◌, ◌-◌}
 use mathlib.Core.Option.{some}
 use lib.ListN.{get_elem?}
-use Rattle.circular_buffer.proofs.Places.{slice_get-set_same, slice_get-last}
+use Rattle.circular_buffer.proofs.Places.{slice_get-set_same}
 use Rattle.morsel_prims.proofs.MarkLemmas.{found}
-use Rattle.morsel_prims.proofs.CountLemmas.{group_added, token_added, token_released, counts_token, group_waits, waits-last, waits-more, only_group, only_last}
+use Rattle.morsel_prims.proofs.CountLemmas.{token_released, counts_token, waits-last, waits-more, only_group}
 use Rattle.morsel_prims.specs.Counts.{AreCounted, group_of, group_waits_of}
-use Rattle.morsel_prims.specs.Rows.{place_of_row, list_of_row}
-use Rattle.morsel_prims.specs.declared.plain_counts.GroupMark.TheVariants.{Group, Token, Released}
+use Rattle.morsel_prims.specs.Rows.{place_of_row}
+use Rattle.morsel_prims.specs.declared.plain_counts.GroupMark.TheVariants.{Token, Released}
 use Rattle.morsel_prims.proofs.plain_counts.PlainCounts.release.Goals as goal
 
 pub index_mut-group-requires : goal.index_mut-group-requires

@@ -1,8 +1,7 @@
-use Rattle.std.proofs.Common.{rules, ap, sym, ◌∙◌, subst, ◌≡◌}
-use mathlib.Core.Option.{some}
+use Rattle.std.proofs.Common.{ap, sym, ◌∙◌, subst}
 use lib.ListN.{get_elem?}
 use Rattle.morsel_prims.specs.Marks.{ArePlainLanes}
-use Rattle.morsel_prims.specs.Rows.{place_of_row, list_of_row}
+use Rattle.morsel_prims.specs.Rows.{place_of_row}
 use Rattle.morsel_prims.proofs.MarkLemmas.{history_of_rows}
 use Rattle.morsel_prims.proofs.plain_queues.PlainQueues.look_history.Goals as goal
 

@@ -1,5 +1,5 @@
-use Rattle.std.proofs.Common.{rules, ap, sym, refl, ◌∙◌, ◌≡◌, subst, true, false, Some, None, [], ◌∷◌, ◌++◌}
-use Rattle.morsel_prims.specs.Marks.{AreFor, are_sendable, is_shut, is_unclosed, lane_end, lane_job, lane_values}
+use Rattle.std.proofs.Common.{rules, ap, sym, refl, ◌∙◌, ◌≡◌, subst, None, [], ◌∷◌, ◌++◌}
+use Rattle.morsel_prims.specs.Marks.{AreFor, is_shut, is_unclosed, lane_end, lane_job, lane_values}
 use Rattle.morsel_prims.specs.Rows.{list_of_row}
 use Rattle.morsel_prims.specs.declared.plain_item.Mark.TheVariants.{Value, End}
 use Rattle.morsel_prims.proofs.EndLemmas.{end-last, end-value, job-append, unclosed_unended, unshut-taken, value_for, values-end, values-value}

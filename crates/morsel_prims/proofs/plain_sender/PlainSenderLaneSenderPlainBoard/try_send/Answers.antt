@@ -1,5 +1,5 @@
-use Rattle.std.proofs.Common.{rules, ap, ◌∙◌, ◌≡◌, true, Some, [], ◌∷◌, ◌++◌}
-use Rattle.morsel_prims.specs.Marks.{is_unclosed, lane_job, lane_room, lane_values}
+use Rattle.std.proofs.Common.{rules, ◌≡◌, true, Some}
+use Rattle.morsel_prims.specs.Marks.{is_unclosed, lane_job, lane_room}
 use Rattle.morsel_prims.specs.Rows.{list_of_row}
 use Rattle.morsel_prims.proofs.MarkLemmas.{unclosed-value}
 use Rattle.morsel_prims.proofs.EndLemmas.{by_answer, job-append, room-append, values-value}

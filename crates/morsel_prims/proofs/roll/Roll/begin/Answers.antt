@@ -1,4 +1,4 @@
-use Rattle.std.proofs.Common.{rules, ap, sym, ◌∙◌, ◌≡◌, length, set, List, [], ◌∷◌, ◌++◌}
+use Rattle.std.proofs.Common.{ap, ◌∙◌, ◌≡◌, length, set, [], ◌∷◌, ◌++◌}
 use Rattle.morsel_prims.specs.Rows.{place_of_row, list_of_row}
 use Rattle.morsel_prims.proofs.RollLemmas.{set-last}
 use Rattle.morsel_prims.proofs.roll.Roll.begin.Goals as goal

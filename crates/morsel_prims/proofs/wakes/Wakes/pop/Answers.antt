@@ -1,5 +1,5 @@
-use Rattle.std.proofs.Common.{rules, subst, false, ◌≡◌, ◌<◌}
-use Rattle.morsel_prims.specs.Woken.{IsListed, has_number}
+use Rattle.std.proofs.Common.{rules, subst}
+use Rattle.morsel_prims.specs.Woken.{IsListed}
 use Rattle.morsel_prims.proofs.WokenLemmas.{listed_pop, listed_within, once-front}
 use Rattle.morsel_prims.proofs.wakes.Wakes.pop.Goals as goal
 
