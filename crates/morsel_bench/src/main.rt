@@ -3,6 +3,7 @@
 #![tactic(auto)]
 
 mod expr;
+mod lane;
 mod table;
 mod timing;
 
@@ -31,7 +32,8 @@ fn main(rt: HostRuntime) -> io::Result<()> {
         timed: asked.is_some(),
         runs: if asked.is_some() { 7 } else { 1 },
     };
-    match expr::run(&rt, timing, asked.unwrap_or(FEW_ROWS)) {
+    let rows = asked.unwrap_or(FEW_ROWS);
+    match expr::run(&rt, timing, rows).and_then(|_| lane::run(&rt, timing, rows)) {
         Ok(()) => Ok(()),
         Err(Fault::OutOfMemory) => Err(io::Error::from(ErrorKind::OutOfMemory)),
         Err(_) => Err(io::Error::from(ErrorKind::Other)),

@@ -13,6 +13,8 @@ use Rattle.morsel_prims.specs.declared.plain_item.Mark.TheVariants.{Job, Value, 
 use Rattle.morsel_prims.specs.declared.plain_item.PlainLane.{PlainLane}
 use Rattle.morsel_prims.specs.Marks.{is_unclosed, is_shut, lane_job, lane_values, lane_end, before_shut, is_closed_last, with_job, AreFor, IsPlainLane, ArePlainLanes, OnlyLane, are_sendable, lane_room, sent_row, taken_row}
 use Rattle.morsel_prims.specs.Polled.{LaneHistory}
+use Rattle.morsel_prims.specs.Rows.{IsNext}
+use Rattle.atomic_table.proofs.Lists.{at_index}
 
 pub found : {A : Type 0} (xs : List A) (i : ℕ) (x : A) → i < length xs → x ≡ get_or xs i x → slice_get xs i ≡ Some x
 found xs i x small is = let y = slice_get-some xs i small in y.1 ∙ ap Some (sym (is ∙ get_or_from_slice_get xs i y.0 x y.1))
@@ -399,6 +401,24 @@ module _ {A J : Type 0} where
       let k = at_taken rows lanes place i old was kept at is there in
       let whole : sent_row rows i ≡ old ++ x ∷ rest = k.queue ∙ (ap (λ z. z ++ was.queue.items) (before_unshut old opened) ∙ ap (λ z. old ++ z) first) in
       let all = k.jobs job (ap lane_job whole ∙ job_of-append old (x ∷ rest) job for_job) in for_middle job old x rest (subst (AreFor job) whole all)
+
+  -- what comes first in a queue comes next in what was sent
+  pub next_of_lane : (rows : List (List (Mark (A × J) J))) (lanes : List (PlainLane (A × J) J)) (place i : ℕ) (old : List (Mark (A × J) J)) (x : Mark (A × J) J) (rest : List (Mark (A × J) J)) (was : PlainLane (A × J) J) → ArePlainLanes rows lanes → get_elem? rows place ≡ some old → place ≡ 2 * i + 1 → slice_get lanes i ≡ Some was
+      → is_shut old ≡ false → was.queue.items ≡ x ∷ rest → IsNext rows (place - 1) (length old) x
+  next_of_lane rows lanes place i old x rest was kept at is there opened first =
+      let k = at_taken rows lanes place i old was kept at is there in
+      let whole : sent_row rows i ≡ old ++ x ∷ rest = k.queue ∙ (ap (λ z. z ++ was.queue.items) (before_unshut old opened) ∙ ap (λ z. old ++ z) first) in
+      let here = row_there rows place old at in let before : place - 1 ≡ 2 * i = omega arith in
+      (sent_row rows i, at_index rows (place - 1) (sent_row rows i) (omega arith) (ap (λ n. slice_index_or rows n []) (sym before) ∙ same_row rows (place - 1) (omega arith) (sent_row rows i)), ap (λ z. get_elem? z (length old)) whole ∙ next-append old x rest)
+    where
+      same_row : (rs : List (List (Mark (A × J) J))) (n : ℕ) → n < length rs → (d : List (Mark (A × J) J)) → get_or rs n [] ≡ get_or rs n d
+      same_row [] n small d = absurd (omega arith)
+      same_row (r ∷ rs) zero small d = refl
+      same_row (r ∷ rs) (suc n) small d = same_row rs n (omega arith) d
+
+      next-append : (xs : List (Mark (A × J) J)) (y : Mark (A × J) J) (ys : List (Mark (A × J) J)) → get_elem? (xs ++ y ∷ ys) (length xs) ≡ some y
+      next-append [] y ys = refl
+      next-append (z ∷ xs) y ys = next-append xs y ys
 
   -- where the queue has nothing, what was sent is what was taken
   pub all_was_taken : (rows : List (List (Mark (A × J) J))) (lanes : List (PlainLane (A × J) J)) (place i : ℕ) (old : List (Mark (A × J) J)) (was : PlainLane (A × J) J) → ArePlainLanes rows lanes → get_elem? rows place ≡ some old → place ≡ 2 * i + 1 → slice_get lanes i ≡ Some was

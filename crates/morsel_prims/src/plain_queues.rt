@@ -160,7 +160,7 @@ impl<T: Message> PlainQueues<T> {
         let Some(mark) = lane.queue.pop_front() else {
             return None;
         };
-        roll.write(mine, &mark);
+        roll.copy(mine, &mark);
         Some((mark, lane.send_waits.take()))
     }
 
