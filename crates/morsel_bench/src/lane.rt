@@ -15,9 +15,9 @@ const ROOM: u32 = 64;
 
 /// What goes through.
 #[derive(Clone, Copy, Debug, Drop)]
-struct Item(u64);
+struct Carried(u64);
 
-impl Message for Item {
+impl Message for Carried {
     ghost use Rattle.std.specs.Prelude.{⊤};
 
     type Job = ();
@@ -27,7 +27,7 @@ impl Message for Item {
 
 /// A lane with its two ends.
 #[derive(Drop)]
-struct Passage<L: Tokens + Lanes<Item>> {
+struct Passage<L: Tokens + Lanes<Carried>> {
     cx: Cx<L::Board>,
     sender: L::Sender,
     receiver: L::Receiver,
@@ -35,7 +35,7 @@ struct Passage<L: Tokens + Lanes<Item>> {
     ghost receiver_home: { L.Receiver.home receiver ≡ (L.Board.id cx.board).lane_table },
 }
 
-impl<L: Tokens + Lanes<Item>> Passage<L> {
+impl<L: Tokens + Lanes<Carried>> Passage<L> {
     /// A lane on this board.
     fn new(alloc: Global, board: L::Board) -> Result<Passage<L>, Fault> {
         let mut cx = Cx {
@@ -53,7 +53,7 @@ impl<L: Tokens + Lanes<Item>> Passage<L> {
 
     /// Sends a value. Whether it was taken in.
     fn send(&mut self, value: u64) -> bool {
-        self.sender.try_send(&mut self.cx, Item(value)).is_ok()
+        self.sender.try_send(&mut self.cx, Carried(value)).is_ok()
     }
 
     /// Takes a value, if there is one. Whether there was.
@@ -69,7 +69,7 @@ pub fn run<R: Clock + Print + AllocGlobal>(
     values: usize,
 ) -> Result<(), Fault> {
     let board = PlainBoard::new(rt.alloc())?;
-    let mut passage: Passage<PlainLanes<Item>> = Passage::new(rt.alloc(), board)?;
+    let mut passage: Passage<PlainLanes<Carried>> = Passage::new(rt.alloc(), board)?;
     let one = time_one(rt, timing, values, &mut passage)?;
     tell(rt, timing, "one value through a lane, values", one, values)?;
     let many = time_many(rt, timing, values, &mut passage)?;
@@ -77,7 +77,7 @@ pub fn run<R: Clock + Print + AllocGlobal>(
 }
 
 /// Each value is sent and then taken.
-fn time_one<R: Clock, L: Tokens + Lanes<Item>>(
+fn time_one<R: Clock, L: Tokens + Lanes<Carried>>(
     rt: &R,
     timing: Timing,
     values: usize,
@@ -93,7 +93,7 @@ fn time_one<R: Clock, L: Tokens + Lanes<Item>>(
 }
 
 /// Sends each value and takes it. How many came through.
-fn pass_each<L: Tokens + Lanes<Item>>(values: usize, passage: &mut Passage<L>) -> usize {
+fn pass_each<L: Tokens + Lanes<Carried>>(values: usize, passage: &mut Passage<L>) -> usize {
     let mut passed = 0usize;
     for value in 0..values {
         if passage.send(value as u64) && passage.take() {
@@ -104,7 +104,7 @@ fn pass_each<L: Tokens + Lanes<Item>>(values: usize, passage: &mut Passage<L>) -
 }
 
 /// Values are sent until the lane is full, and then taken.
-fn time_many<R: Clock, L: Tokens + Lanes<Item>>(
+fn time_many<R: Clock, L: Tokens + Lanes<Carried>>(
     rt: &R,
     timing: Timing,
     values: usize,
@@ -123,7 +123,7 @@ fn time_many<R: Clock, L: Tokens + Lanes<Item>>(
 }
 
 /// Fills the lane and empties it. How many values came through.
-fn pass_many<L: Tokens + Lanes<Item>>(passage: &mut Passage<L>) -> usize {
+fn pass_many<L: Tokens + Lanes<Carried>>(passage: &mut Passage<L>) -> usize {
     let mut passed = 0usize;
     for value in 0..ROOM {
         let _ = passage.send(u64::from(value));

@@ -3,7 +3,7 @@ use Rattle.std.proofs.Common.{◌≡◌, ℕ, Bool, true, false, List, [], ◌�
 use Rattle.std.proofs.lemmas.List.{append-nil}
 use Rattle.morsel_prims.specs.declared.plain_item.Mark.{Mark}
 use Rattle.morsel_prims.specs.declared.plain_item.Mark.TheVariants.{Job, Value, End, Shut}
-use Rattle.morsel_prims.specs.Marks.{AreFor, are_sendable, is_end, is_shut, is_unclosed, lane_end, lane_job, lane_room, lane_values}
+use Rattle.morsel_prims.specs.Marks.{AreFor, are_sendable, is_closed_as, is_shut, is_unclosed, lane_end, lane_job, lane_room, lane_values}
 use Rattle.morsel_prims.proofs.MarkLemmas.{values-append}
 
 -- what holds of both lists holds of the one that there is
@@ -81,7 +81,7 @@ module _ {A J : Type 0} where
   value_for job p e = ap (job_or job) (sym e)
 
 -- where the sender has closed so, the receiver has seen it
-pub whole_seen : (e : Option Bool) → is_end e true ≡ true → e ≡ Some true
+pub whole_seen : (e : Option Bool) → is_closed_as e true ≡ true → e ≡ Some true
 whole_seen None e = absurd cc
 whole_seen (Some true) e = refl
 whole_seen (Some false) e = absurd cc

@@ -88,11 +88,11 @@ lane_end (End w ∷ marks) = Some w
 lane_end (Shut ∷ marks) = None
 
 -- whether the sender has closed so
-abbrev pub is_end : Option Bool → Bool → Bool
-is_end None whole = false
-is_end (Some true) whole = whole
-is_end (Some false) true = false
-is_end (Some false) false = true
+abbrev pub is_closed_as : Option Bool → Bool → Bool
+is_closed_as None whole = false
+is_closed_as (Some true) whole = whole
+is_closed_as (Some false) true = false
+is_closed_as (Some false) false = true
 
 -- each value is for this job
 abbrev pub AreFor : {A J : Type 0} → J → List (Mark (A × J) J) → Type 0

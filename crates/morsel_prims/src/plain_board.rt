@@ -13,8 +13,8 @@ use std::marker::Model;
 /// All lanes and groups of one thread.
 #[derive(Drop)]
 pub struct PlainBoard<T: Message> {
-    pub queues: PlainQueues<T>,
-    pub counts: PlainCounts,
+    pub(crate) queues: PlainQueues<T>,
+    pub(crate) counts: PlainCounts,
 }
 
 impl<T: Message> Model for PlainBoard<T> {

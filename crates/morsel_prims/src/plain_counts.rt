@@ -10,7 +10,7 @@ use morsel_meaning::{Fault, TaskNo};
 use std::alloc::Global;
 
 /// What a group or a token wrote: of which group it is, and that it was released.
-#[derive(Clone, Copy, Debug, Drop, PartialEq, Eq)]
+#[derive(Clone, Copy, Drop)]
 pub enum GroupMark {
     /// The group with this index.
     Group(usize),

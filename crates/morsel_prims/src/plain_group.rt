@@ -18,18 +18,18 @@ use std::alloc::Global;
 /// A group of tokens of one thread.
 #[derive(Drop)]
 pub struct PlainGroup {
-    pub row: RollRow<GroupMark>,
-    pub index: usize,
-    pub parts: u64,
+    pub(crate) row: RollRow<GroupMark>,
+    pub(crate) index: usize,
+    pub(crate) parts: u64,
     ghost of_group: { group_of (list_of_row row.badge.views) ≡ Some index },
 }
 
 /// A token of one thread, which its group counts.
 #[derive(Drop)]
 pub struct PlainToken {
-    pub row: RollRow<GroupMark>,
-    pub index: usize,
-    pub parts: u64,
+    pub(crate) row: RollRow<GroupMark>,
+    pub(crate) index: usize,
+    pub(crate) parts: u64,
     ghost counted: { list_of_row row.badge.views ≡ Token index ∷ [] },
 }
 
@@ -71,6 +71,7 @@ impl<T: Message> Tokens for PlainLanes<T> {
     ghost found_waiting_token = { λ board token tasks. tasks ≡ held_list (waits_if_last (slice_get board.groups token.index)) };
 
     fn group(alloc: Global, board: &mut PlainBoard<T>) -> Result<PlainGroup, Fault> {
+        // The list of groups has the board's allocator.
         let _ = alloc;
         let (index, row) = board.counts.add()?;
         Ok(PlainGroup {

@@ -14,11 +14,11 @@ use std::snapshot::Snapshot;
 /// The receiving end of a lane of one thread.
 #[derive(Drop)]
 pub struct PlainReceiver<T: Message> {
-    pub row: QueueRow<T>,
-    pub index: usize,
-    pub job: Snapshot<T::Job>,
+    pub(crate) row: QueueRow<T>,
+    pub(crate) index: usize,
+    pub(crate) job: Snapshot<T::Job>,
     /// How the lane ended, as whole or as cut, once the sender's end was taken.
-    pub ended: Option<bool>,
+    pub(crate) ended: Option<bool>,
     ghost placed: { place_of_row row.badge.views ≡ 2 * index + 1 },
     ghost unshut: { is_shut (list_of_row row.badge.views) ≡ false },
     ghost of_job: { lane_job (list_of_row row.badge.views) ≡ Some job.value },
@@ -28,8 +28,8 @@ pub struct PlainReceiver<T: Message> {
 /// Tells what was taken from a lane of one thread, and that it is all.
 #[derive(Drop)]
 pub struct PlainTaken<T: Message> {
-    pub row: QueueRow<T>,
-    pub index: usize,
+    pub(crate) row: QueueRow<T>,
+    pub(crate) index: usize,
     ghost placed: { place_of_row row.badge.views ≡ 2 * index + 1 },
     ghost unshut: { is_shut (list_of_row row.badge.views) ≡ false },
     ghost whole: { lane_end (list_of_row row.badge.views) ≡ Some true },
@@ -37,7 +37,7 @@ pub struct PlainTaken<T: Message> {
 
 impl<T: Message> LaneReceiver<T, PlainBoard<T>> for PlainReceiver<T> {
     ghost use Rattle.std.specs.Prelude.{slice_get};
-    ghost use Rattle.morsel_prims.specs.Marks.{IsEmptyLane, IsShutLane, is_end, is_unclosed, lane_values, recv_waits_of, send_waits_of, sent_row};
+    ghost use Rattle.morsel_prims.specs.Marks.{IsEmptyLane, IsShutLane, is_closed_as, is_unclosed, lane_values, recv_waits_of, send_waits_of, sent_row};
     ghost use Rattle.morsel_prims.specs.Polled.{held_list};
 
     type Receipt = PlainTaken<T>;
@@ -50,9 +50,9 @@ impl<T: Message> LaneReceiver<T, PlainBoard<T>> for PlainReceiver<T> {
 
     ghost taken = { λ end. lane_values (list_of_row end.row.badge.views) };
 
-    ghost is_whole = { λ end. is_end (lane_end (list_of_row end.row.badge.views)) true };
+    ghost is_whole = { λ end. is_closed_as (lane_end (list_of_row end.row.badge.views)) true };
 
-    ghost is_cut = { λ end. is_end (lane_end (list_of_row end.row.badge.views)) false };
+    ghost is_cut = { λ end. is_closed_as (lane_end (list_of_row end.row.badge.views)) false };
 
     ghost registered = { λ board old new task. recv_waits_of (slice_get board.lanes new.index) ≡ Some task };
 

@@ -14,10 +14,10 @@ use std::snapshot::Snapshot;
 /// The sending end of a lane of one thread.
 #[derive(Drop)]
 pub struct PlainSender<T: Message> {
-    pub row: QueueRow<T>,
-    pub index: usize,
-    pub room: u32,
-    pub job: Snapshot<T::Job>,
+    pub(crate) row: QueueRow<T>,
+    pub(crate) index: usize,
+    pub(crate) room: u32,
+    pub(crate) job: Snapshot<T::Job>,
     ghost placed: { place_of_row row.badge.views ≡ 2 * index },
     ghost unclosed: { is_unclosed (list_of_row row.badge.views) ≡ true },
     ghost of_job: { lane_job (list_of_row row.badge.views) ≡ Some job.value },
@@ -27,8 +27,8 @@ pub struct PlainSender<T: Message> {
 /// Tells what was sent through a lane of one thread, and that it is all.
 #[derive(Drop)]
 pub struct PlainSent<T: Message> {
-    pub row: QueueRow<T>,
-    pub index: usize,
+    pub(crate) row: QueueRow<T>,
+    pub(crate) index: usize,
     ghost placed: { place_of_row row.badge.views ≡ 2 * index },
     ghost ended: { lane_end (list_of_row row.badge.views) ≡ Some true },
 }

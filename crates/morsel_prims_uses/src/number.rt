@@ -1,5 +1,6 @@
 //! What the lanes of these uses carry.
 ghost use Rattle.std.specs.Prelude.{◌≡◌, ◌<◌, [], ◌∷◌, ◌++◌, OnOk};
+
 use morsel_prims::{Board, Cx, LaneSender, Message, SendError};
 
 /// A number below a bound, which is the lane's job.

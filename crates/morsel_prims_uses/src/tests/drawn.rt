@@ -1,13 +1,12 @@
 //! Lists of calls, drawn at random, on a lane of one thread and on a plain queue.
-use super::{PlainLine, line_of};
-use crate::line::{Closed, RECEIVING, SENDING, Shut};
+use super::line_of;
+use crate::tests::line::{Closed, Line, RECEIVING, SENDING, Shut};
 use crate::number::Number;
-use morsel_meaning::TaskNo;
-use morsel_prims::{Ended, PlainLanes, Poll, RecvError, SendError};
+use morsel_meaning::{Fault, TaskNo};
+use morsel_prims::{Ended, Lanes, Poll, RecvError, SendError, Tokens};
 use rand_core::{Rng, SeedableRng};
 use rand_xoshiro::Xoshiro256PlusPlus;
 use std::alloc::Global;
-use std::process::Abort;
 use std::test::Fail;
 
 /// A lane in plain words.
@@ -23,7 +22,7 @@ struct Plain {
 }
 
 impl Plain {
-    fn new(alloc: Global, room: usize) -> Result<Plain, Fail> {
+    fn new(alloc: Global, room: usize) -> Result<Plain, Fault> {
         Ok(Plain {
             numbers: Vec::with_capacity(alloc, 8)?,
             room,
@@ -96,109 +95,133 @@ impl Plain {
     }
 }
 
-/// A call on both while both ends are open.
-fn call(rt: &impl Abort, line: &mut PlainLine, plain: &mut Plain, drawn: u32) {
+/// What a call answered.
+#[derive(Clone, Copy, PartialEq, Eq)]
+enum Said {
+    Sent(Result<(), SendError<Number>>),
+    SentPolled(Poll<Result<(), Number>>),
+    Taken(Result<Number, RecvError>),
+    TakenPolled(Poll<Result<Number, Ended>>),
+    Held(usize),
+}
+
+/// A call while both ends are open.
+fn on_line<L: Tokens + Lanes<Number>>(line: &mut Line<L>, drawn: u32) -> Said {
     let number = u64::from(drawn / 8 % 512);
     match drawn % 8 {
-        0 | 1 => assert_eq!(rt; line.try_send(number), plain.try_send(number)),
-        2 | 3 => assert_eq!(rt; line.poll_send(number), plain.poll_send(number)),
-        4 => assert_eq!(rt; line.try_recv(), plain.try_recv()),
-        5 | 6 => assert_eq!(rt; line.poll_recv(), plain.poll_recv()),
-        _ => assert_eq!(rt; line.len_bound() as usize, plain.numbers.len()),
+        0 | 1 => Said::Sent(line.try_send(number)),
+        2 | 3 => Said::SentPolled(line.poll_send(number)),
+        4 => Said::Taken(line.try_recv()),
+        5 | 6 => Said::TakenPolled(line.poll_recv()),
+        _ => Said::Held(line.len_bound() as usize),
     }
-    assert_eq!(rt; line.woken(), plain.woken.take());
-    assert_eq!(rt; line.woken(), None);
 }
 
-/// A call on both after the sender has closed.
-fn call_closed(
-    rt: &impl Abort,
-    closed: &mut Closed<PlainLanes<Number>>,
-    plain: &mut Plain,
-    drawn: u32,
-) {
-    if drawn % 2 == 0 {
-        assert_eq!(rt; closed.try_recv(), plain.try_recv());
-    } else {
-        assert_eq!(rt; closed.poll_recv(), plain.poll_recv());
+/// The same call on a plain queue.
+fn on_plain(plain: &mut Plain, drawn: u32) -> Said {
+    let number = u64::from(drawn / 8 % 512);
+    match drawn % 8 {
+        0 | 1 => Said::Sent(plain.try_send(number)),
+        2 | 3 => Said::SentPolled(plain.poll_send(number)),
+        4 => Said::Taken(plain.try_recv()),
+        5 | 6 => Said::TakenPolled(plain.poll_recv()),
+        _ => Said::Held(plain.numbers.len()),
     }
-    assert_eq!(rt; closed.woken(), plain.woken.take());
-    assert_eq!(rt; closed.woken(), None);
 }
 
-/// A call on both after the receiver has closed.
-fn call_shut(
-    rt: &impl Abort,
-    shut: &mut Shut<PlainLanes<Number>>,
-    plain: &mut Plain,
-    drawn: u32,
-) {
-    let number = u64::from(drawn / 2 % 512);
-    if drawn % 2 == 0 {
-        assert_eq!(rt; shut.try_send(number), plain.try_send(number));
-    } else {
-        assert_eq!(rt; shut.poll_send(number), plain.poll_send(number));
-    }
-    assert_eq!(rt; shut.woken(), plain.woken.take());
-    assert_eq!(rt; shut.woken(), None);
-}
-
-/// What is left to take is taken from both.
-fn drain(
-    rt: &impl Abort,
-    mut closed: Closed<PlainLanes<Number>>,
+/// Whether so many calls answer as those on a plain queue, and make the same tasks ready.
+fn agree_open<L: Tokens + Lanes<Number>>(
+    line: &mut Line<L>,
     plain: &mut Plain,
     rng: &mut Xoshiro256PlusPlus,
-) {
-    assert_eq!(rt; closed.woken(), plain.woken.take());
-    for _ in 0..8 {
-        call_closed(rt, &mut closed, plain, rng.next_u32());
-    }
-}
-
-/// What is sent comes back from both.
-fn refuse(
-    rt: &impl Abort,
-    mut shut: Shut<PlainLanes<Number>>,
-    plain: &mut Plain,
-    rng: &mut Xoshiro256PlusPlus,
-) {
-    assert_eq!(rt; shut.woken(), plain.woken.take());
-    for _ in 0..4 {
-        call_shut(rt, &mut shut, plain, rng.next_u32());
-    }
-}
-
-/// A list of calls that this seed draws, on a lane of this room and on a plain queue.
-fn list(rt: &impl Abort, alloc: Global, seed: u64, room: u32) -> Result<(), Fail> {
-    let mut rng = Xoshiro256PlusPlus::seed_from_u64(seed);
-    let mut line = line_of(alloc, room)?;
-    let mut plain = Plain::new(alloc, room as usize)?;
+) -> bool {
+    let mut all = true;
     for _ in 0..32 {
-        call(rt, &mut line, &mut plain, rng.next_u32());
+        let drawn = rng.next_u32();
+        let same = on_line(line, drawn) == on_plain(plain, drawn);
+        let woken = line.woken() == plain.woken.take() && line.woken() == None;
+        all = all && same && woken;
+    }
+    all
+}
+
+/// The same after the sender has closed.
+fn agree_closed<L: Tokens + Lanes<Number>>(
+    mut closed: Closed<L>,
+    plain: &mut Plain,
+    rng: &mut Xoshiro256PlusPlus,
+) -> bool {
+    let mut all = closed.woken() == plain.woken.take();
+    for _ in 0..8 {
+        let same = if rng.next_u32() % 2 == 0 {
+            closed.try_recv() == plain.try_recv()
+        } else {
+            closed.poll_recv() == plain.poll_recv()
+        };
+        let woken = closed.woken() == plain.woken.take() && closed.woken() == None;
+        all = all && same && woken;
+    }
+    all
+}
+
+/// The same after the receiver has closed.
+fn agree_shut<L: Tokens + Lanes<Number>>(
+    mut shut: Shut<L>,
+    plain: &mut Plain,
+    rng: &mut Xoshiro256PlusPlus,
+) -> bool {
+    let mut all = shut.woken() == plain.woken.take();
+    for _ in 0..4 {
+        let drawn = rng.next_u32();
+        let number = u64::from(drawn / 2 % 512);
+        let same = if drawn % 2 == 0 {
+            shut.try_send(number) == plain.try_send(number)
+        } else {
+            shut.poll_send(number) == plain.poll_send(number)
+        };
+        let woken = shut.woken() == plain.woken.take() && shut.woken() == None;
+        all = all && same && woken;
+    }
+    all
+}
+
+/// Whether a list of calls answers as on a plain queue, to the end that it draws.
+fn agree_all<L: Tokens + Lanes<Number>>(
+    mut line: Line<L>,
+    plain: &mut Plain,
+    rng: &mut Xoshiro256PlusPlus,
+) -> bool {
+    if !agree_open(&mut line, plain, rng) {
+        return false;
     }
     match rng.next_u32() % 3 {
         0 => {
             plain.close(Ended::Whole);
-            drain(rt, line.finish(), &mut plain, &mut rng);
+            agree_closed(line.finish(), plain, rng)
         }
         1 => {
             plain.close(Ended::Cut);
-            drain(rt, line.cut(), &mut plain, &mut rng);
+            agree_closed(line.cut(), plain, rng)
         }
         _ => {
             plain.shut();
-            refuse(rt, line.shut(), &mut plain, &mut rng);
+            agree_shut(line.shut(), plain, rng)
         }
     }
-    Ok(())
+}
+
+/// Whether the list of calls that this seed draws answers on a lane of this room as on a plain queue.
+fn agrees(alloc: Global, seed: u64, room: u32) -> Result<bool, Fault> {
+    let mut rng = Xoshiro256PlusPlus::seed_from_u64(seed);
+    let mut plain = Plain::new(alloc, room as usize)?;
+    Ok(agree_all(line_of(alloc, room)?, &mut plain, &mut rng))
 }
 
 #[test]
 fn a_lane_answers_as_a_plain_queue(rt: HostRuntime) -> Result<(), Fail> {
     for seed in 0..1000 {
         for room in [1, 2, 4] {
-            list(&rt, rt.alloc(), seed, room)?;
+            assert!(rt; agrees(rt.alloc(), seed, room)?, "seed {seed}, room {room}");
         }
     }
     Ok(())

@@ -1,5 +1,4 @@
-use Rattle.std.proofs.Common.{rules, refl, sym, ap, ◌∙◌, ◌≡◌, ◌-◌, length, set, [], ◌∷◌, ◌++◌}
-use mathlib.Core.Option.{some}
+use Rattle.std.proofs.Common.{rules, sym, ap, ◌∙◌, ◌-◌, length, set, [], ◌∷◌, ◌++◌}
 use lib.ListN.{get_elem?}
 use Rattle.morsel_prims.specs.Rows.{guest_view, holder_view, place_of_row, list_of_row}
 use Rattle.morsel_prims.proofs.RowSteps.{lends, copies, cuts}
