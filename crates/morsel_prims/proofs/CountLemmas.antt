@@ -147,6 +147,14 @@ waits-last g one = ap (λ b. if b then g.waits else None) (Rattle.std.proofs.Com
 pub waits-more : (g : GroupCount) → g.count ≢ 1 → waits_if_last (Some g) ≡ None
 waits-more g more = ap (λ b. if b then g.waits else None) (Rattle.std.proofs.Common.ne_eqb g.count 1 more)
 
+-- nobody waits where the last token was released
+pub left-last : (g : GroupCount) → g.count ≡ 1 → None ≡ (if g.count == 1 then None else g.waits)
+left-last g one = sym (ap (λ b. if b then None else g.waits) (Rattle.std.proofs.Common.eq-eqb g.count 1 one))
+
+-- who waits still does where a token is left
+pub left-more : (g : GroupCount) → g.count ≢ 1 → g.waits ≡ (if g.count == 1 then None else g.waits)
+left-more g more = sym (ap (λ b. if b then None else g.waits) (Rattle.std.proofs.Common.ne_eqb g.count 1 more))
+
 -- at most group i has changed
 pub only_group : (groups : List GroupCount) (i : ℕ) (g : GroupCount) → OnlyGroup i groups (set groups i g)
 only_group groups i g j apart = slice_get-set_other groups i j g apart

@@ -40,9 +40,9 @@ OnlyGroup i old new = (j : ℕ) → j ≢ i → slice_get new j ≡ slice_get ol
 abbrev pub CountsMore : Option GroupCount → Option GroupCount → Type 0
 CountsMore old new = (group : GroupCount) × (old ≡ Some group) × (new ≡ Some (record { count = group.count + 1; waits = group.waits }))
 
--- the count is one less
+-- the count is one less, and who waits is the same until none is left, and then nobody
 abbrev pub CountsLess : Option GroupCount → Option GroupCount → Type 0
-CountsLess old new = (group now : GroupCount) × (old ≡ Some group) × (new ≡ Some now) × (group.count ≡ now.count + 1)
+CountsLess old new = (group now : GroupCount) × (old ≡ Some group) × (new ≡ Some now) × (group.count ≡ now.count + 1) × (now.waits ≡ (if group.count == 1 then None else group.waits))
 
 -- no token is left
 abbrev pub HasNone : Option GroupCount → Type 0
@@ -54,7 +54,7 @@ HasSome group = (it : GroupCount) × (group ≡ Some it) × (0 < it.count)
 
 -- the count is the same
 abbrev pub CountsSame : Option GroupCount → Option GroupCount → Type 0
-CountsSame old new = (group : GroupCount) → old ≡ Some group → (now : GroupCount) × (new ≡ Some now) × (now.count ≡ group.count)
+CountsSame old new = (group now : GroupCount) × (old ≡ Some group) × (new ≡ Some now) × (now.count ≡ group.count)
 
 -- the task that waits until no token is left
 abbrev pub group_waits_of : Option GroupCount → Option TaskNo

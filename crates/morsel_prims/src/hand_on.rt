@@ -27,7 +27,7 @@ pub struct HandOn<T, S, R> {
 }
 
 impl<T: Message, S, R> HandOn<T, S, R> {
-    ghost use Rattle.std.specs.Prelude.{◌≡◌, ℕ, ◌++◌, true, [], IfSome, ◌⊎◌, Some};
+    ghost use Rattle.std.specs.Prelude.{◌≡◌, ℕ, ◌++◌, true, [], ◌∷◌, IfSome, ◌⊎◌, Some};
     ghost use Rattle.morsel_prims.specs.Polled.{held_list, IfReady, OnPending};
     ghost use Rattle.morsel_prims.specs.Woken.{KeepsWakes};
     ghost use Rattle.morsel_prims.specs.declared.hand_on.Handed.{Handed};
@@ -47,6 +47,7 @@ impl<T: Message, S, R> HandOn<T, S, R> {
         ensures suits { IfSome self.new.held (T.suits (R.job self.new.from)) }
         // What was taken is what was sent, and then what is held.
         ensures nothing_lost { R.taken self.old.from ≡ S.sent self.old.to ++ held_list self.old.held → R.taken self.new.from ≡ S.sent self.new.to ++ held_list self.new.held }
+        ensures moved { IfReady result (λ handed. handed ≡ Handed.Moved → (value : T) × (S.sent self.new.to ≡ S.sent self.old.to ++ value ∷ [])) }
         ensures ended { IfReady result (λ handed. handed ≡ Handed.Ended Ended.Whole → (R.is_whole self.new.from ≡ true) × (held_list self.new.held ≡ [])) }
         ensures cut { IfReady result (λ handed. handed ≡ Handed.Ended Ended.Cut → R.is_cut self.new.from ≡ true) }
         ensures closed { IfReady result (λ handed. handed ≡ Handed.Closed → S.found_closed cx.new.board self.old.to self.new.to) }

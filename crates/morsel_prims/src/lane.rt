@@ -143,6 +143,7 @@ pub trait LaneSender<T: Message, B: Board> {
         ensures woken { OnOk result (AreFoundWoken (found_waiting cx.old.board self.old self.new) cx.new.wakes) }
         ensures back { IfErr result (λ refused. refused_value refused ≡ value) }
         ensures err { OnErr result (sent self.new ≡ sent self.old) }
+        ensures unchanged { OnErr result (cx.new.board ≡ cx.old.board) }
         ensures full { IfErr result (λ refused. IfFull refused (found_full cx.new.board self.old self.new)) }
         ensures closed { IfErr result (λ refused. IfClosed refused (found_closed cx.new.board self.old self.new)) };
 
@@ -154,6 +155,7 @@ pub trait LaneSender<T: Message, B: Board> {
         ensures same_task { cx.new.me ≡ cx.old.me }
         ensures wakes { KeepsWakes cx.old.wakes cx.new.wakes }
         ensures sent { sent self.new ≡ sent self.old }
+        ensures unchanged { cx.new.board ≡ cx.old.board }
         ensures at_least { (held : ℕ) × found_held cx.new.board self.old self.new held × (held ≤ result) }
         ensures at_most { result ≤ room self.old };
 
@@ -278,6 +280,7 @@ pub trait LaneReceiver<T: Message, B: Board> {
         ensures err { OnErr result (taken self.new ≡ taken self.old) }
         ensures refused { IfErr result (λ refusal. ByRefusal refusal (found_empty cx.new.board self.old self.new) ((is_whole self.new ≡ true) × found_ended cx.new.board self.new true) ((is_cut self.new ≡ true) × found_ended cx.new.board self.new false)) }
         ensures empty { IfErr result (λ refusal. refusal ≡ RecvError.Empty → (is_whole self.new ≡ false) × (is_cut self.new ≡ false)) }
+        ensures unchanged { IfErr result (λ refusal. refusal ≡ RecvError.Empty → cx.new.board ≡ cx.old.board) }
         // The answers that stay.
         ensures whole { is_whole self.old ≡ true → result ≡ Err RecvError.Whole }
         ensures cut { is_cut self.old ≡ true → result ≡ Err RecvError.Cut };

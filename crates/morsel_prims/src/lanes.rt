@@ -44,6 +44,12 @@ pub trait Tokens {
     /// A step of a call found that each token was released: by the board after it, and by the group before and after.
     ghost found_none: { Self.Board → Self.Group → Self.Group → Type 0 };
 
+    /// No step of a call changed the count: by the board before and after it, and by the group before and after.
+    ghost kept_count: { Self.Board → Self.Board → Self.Group → Self.Group → Type 0 };
+
+    /// No group had the identity of this one: by the board before it was made.
+    ghost is_new: { Self.Board → Self.Group → Type 0 };
+
     /// A step of a call added one to the count: by the board before and after it, and by the group before and after.
     ghost counted_one: { Self.Board → Self.Board → Self.Group → Self.Group → Type 0 };
 
@@ -69,6 +75,7 @@ pub trait Tokens {
     fn group(alloc: Global, board: &mut Self::Board) -> Result<Self::Group, Fault>
         ensures home { IfOk result (λ group. group_home group ≡ (Self.Board.id board.new).group_table) }
         ensures parts { IfOk result (λ group. parts group ≡ 2 ^ 62) }
+        ensures new { IfOk result (is_new board.old) }
         ensures none { IfOk result (λ group. found_none board.new group group) }
         ensures out_of_memory { IfErr result (λ fault. fault ≡ OutOfMemory) }
         ensures err { OnErr result (board.new ≡ board.old) }
@@ -119,6 +126,8 @@ pub trait Tokens {
         ensures same_group { (group_home group.new ≡ group_home group.old) × (group_id group.new ≡ group_id group.old) }
         ensures ready { IfReady result (λ _. parts group.new ≡ 2 ^ 62) }
         ensures none { IfReady result (λ _. found_none cx.new.board group.old group.new) }
+        ensures unchanged { IfReady result (λ _. cx.new.board ≡ cx.old.board) }
+        ensures same_count { kept_count cx.old.board cx.new.board group.old group.new }
         ensures same_parts { OnPending result (parts group.new ≡ parts group.old) }
         ensures tokens { OnPending result (found_tokens cx.new.board group.old group.new) }
         ensures registered { OnPending result (group_registered cx.new.board group.old group.new cx.old.me) }
@@ -174,6 +183,7 @@ pub trait Lanes<T: Message>: Tokens {
         ensures same_receiver { (Self.Receiver.home receiver.new ≡ Self.Receiver.home receiver.old) × (Self.Receiver.lane receiver.new ≡ Self.Receiver.lane receiver.old) × (Self.Receiver.job receiver.new ≡ Self.Receiver.job receiver.old) }
         ensures same_lists { (Self.Sender.sent sender.new ≡ Self.Sender.sent sender.old) × (Self.Receiver.taken receiver.new ≡ Self.Receiver.taken receiver.old) }
         ensures same_end { (Self.Receiver.is_whole receiver.new ≡ Self.Receiver.is_whole receiver.old) × (Self.Receiver.is_cut receiver.new ≡ Self.Receiver.is_cut receiver.old) }
+        ensures unchanged { board.new ≡ board.old }
         ensures same_board { Self.Board.id board.new ≡ Self.Board.id board.old };
 
     /// What was sent through a lane is what was taken from it.
@@ -185,5 +195,6 @@ pub trait Lanes<T: Message>: Tokens {
         requires home { (Self.Sender.receipt_home sent ≡ (Self.Board.id board.old).lane_table) × (Self.Receiver.receipt_home taken ≡ (Self.Board.id board.old).lane_table) }
         requires lane { Self.Sender.receipt_lane sent ≡ Self.Receiver.receipt_lane taken }
         ensures same { Self.Sender.all_sent sent ≡ Self.Receiver.all_taken taken }
+        ensures unchanged { board.new ≡ board.old }
         ensures same_board { Self.Board.id board.new ≡ Self.Board.id board.old };
 }

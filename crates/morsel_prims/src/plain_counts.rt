@@ -30,8 +30,8 @@ pub struct GroupCount {
 /// The counts of all groups of one thread.
 #[derive(Drop)]
 pub struct PlainCounts {
-    pub roll: Roll<GroupMark>,
-    pub groups: Vec<GroupCount>,
+    pub(crate) roll: Roll<GroupMark>,
+    pub(crate) groups: Vec<GroupCount>,
     ghost kept: { AreCounted roll.seat.me.0.rows groups.items },
 }
 
@@ -54,6 +54,7 @@ impl PlainCounts {
         ensures table { IfOk result (λ made. made.1.badge.table_id ≡ self.old.roll.seat.table_id) }
         ensures row { IfOk result (λ made. list_of_row made.1.badge.views ≡ Group made.0 ∷ []) }
         ensures none { IfOk result (λ made. HasNone (slice_get self.new.groups.items made.0)) }
+        ensures last { IfOk result (λ made. made.0 ≡ length self.old.groups.items) }
         ensures others { IfOk result (λ made. OnlyGroup made.0 self.old.groups.items self.new.groups.items) }
         ensures out_of_memory { IfErr result (λ fault. fault ≡ OutOfMemory) }
         ensures err { OnErr result ((self.new.groups.items ≡ self.old.groups.items) × (self.new.roll.seat.me.0.rows ≡ self.old.roll.seat.me.0.rows)) }
@@ -126,6 +127,8 @@ impl PlainCounts {
         ensures none { result ≡ true → HasNone (slice_get self.new.groups.items index) }
         ensures tokens { result ≡ false → HasSome (slice_get self.new.groups.items index) }
         ensures same_count { CountsSame (slice_get self.old.groups.items index) (slice_get self.new.groups.items index) }
+        ensures same_groups { result ≡ true → self.new.groups.items ≡ self.old.groups.items }
+        ensures rows { self.new.roll.seat.me.0.rows ≡ self.old.roll.seat.me.0.rows }
         ensures waits { result ≡ false → group_waits_of (slice_get self.new.groups.items index) ≡ Some task }
         ensures others { OnlyGroup index self.old.groups.items self.new.groups.items }
     {

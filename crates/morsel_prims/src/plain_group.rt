@@ -34,8 +34,8 @@ pub struct PlainToken {
 }
 
 impl<T: Message> Tokens for PlainLanes<T> {
-    ghost use Rattle.std.specs.Prelude.{slice_get};
-    ghost use Rattle.morsel_prims.specs.Counts.{CountsLess, CountsMore, HasNone, HasSome, group_waits_of, waits_if_last};
+    ghost use Rattle.std.specs.Prelude.{length, slice_get};
+    ghost use Rattle.morsel_prims.specs.Counts.{CountsLess, CountsMore, CountsSame, HasNone, HasSome, group_waits_of, waits_if_last};
     ghost use Rattle.morsel_prims.specs.Polled.{held_list};
 
     type Board = PlainBoard<T>;
@@ -55,6 +55,10 @@ impl<T: Message> Tokens for PlainLanes<T> {
     ghost found_tokens = { λ board old new. HasSome (slice_get board.groups new.index) };
 
     ghost found_none = { λ board old new. HasNone (slice_get board.groups new.index) };
+
+    ghost kept_count = { λ before after old new. CountsSame (slice_get before.groups old.index) (slice_get after.groups old.index) };
+
+    ghost is_new = { λ board group. group.index ≡ length board.groups };
 
     ghost counted_one = { λ before after old new. CountsMore (slice_get before.groups old.index) (slice_get after.groups old.index) };
 

@@ -22,8 +22,8 @@ pub type QueueRow<T> = RollRow<Mark<Suited<T>, <T as Message>::Job>>;
 /// The queues of all lanes of one thread.
 #[derive(Drop)]
 pub struct PlainQueues<T: Message> {
-    pub roll: Roll<Mark<Suited<T>, T::Job>>,
-    pub lanes: Vec<PlainLane<Suited<T>, T::Job>>,
+    pub(crate) roll: Roll<Mark<Suited<T>, T::Job>>,
+    pub(crate) lanes: Vec<PlainLane<Suited<T>, T::Job>>,
     ghost kept: { ArePlainLanes roll.seat.me.0.rows lanes.items },
 }
 
@@ -52,6 +52,7 @@ impl<T: Message> PlainQueues<T> {
         ensures table { IfOk result (λ made. (made.1.badge.table_id ≡ self.old.roll.seat.table_id) × (made.2.badge.table_id ≡ self.old.roll.seat.table_id)) }
         ensures place { IfOk result (λ made. (place_of_row made.1.badge.views ≡ 2 * made.0) × (place_of_row made.2.badge.views ≡ 2 * made.0 + 1)) }
         ensures rows { IfOk result (λ made. IsNewRow job.now room (list_of_row made.1.badge.views) × IsNewRow job.now room (list_of_row made.2.badge.views)) }
+        ensures last { IfOk result (λ made. made.0 ≡ length self.old.lanes.items) }
         ensures others { IfOk result (λ made. OnlyLane made.0 self.old.lanes.items self.new.lanes.items) }
         ensures out_of_memory { IfErr result (λ fault. fault ≡ OutOfMemory) }
         ensures err { OnErr result ((self.new.lanes.items ≡ self.old.lanes.items) × (self.new.roll.seat.me.0.rows ≡ self.old.roll.seat.me.0.rows)) }
@@ -93,6 +94,7 @@ impl<T: Message> PlainQueues<T> {
         ensures others { OnlyLane index self.old.lanes.items self.new.lanes.items }
         ensures err { OnErr result (list_of_row mine.new.badge.views ≡ list_of_row mine.old.badge.views) }
         ensures same_lanes { OnErr result (self.new.lanes.items ≡ self.old.lanes.items) }
+        ensures same_rows { OnErr result (self.new.roll.seat.me.0.rows ≡ self.old.roll.seat.me.0.rows) }
         ensures back { IfErr result (λ refused. refused_value refused ≡ value) }
         ensures full { IfErr result (λ refused. IfFull refused (IsFullLane (slice_get self.new.lanes.items index))) }
         ensures closed { IfErr result (λ refused. IfClosed refused (IsShutLane (slice_get self.new.lanes.items index))) }
@@ -151,6 +153,7 @@ impl<T: Message> PlainQueues<T> {
         ensures others { OnlyLane index self.old.lanes.items self.new.lanes.items }
         ensures none { IsNone result → list_of_row mine.new.badge.views ≡ list_of_row mine.old.badge.views }
         ensures same_lanes { IsNone result → self.new.lanes.items ≡ self.old.lanes.items }
+        ensures same_rows { IsNone result → self.new.roll.seat.me.0.rows ≡ self.old.roll.seat.me.0.rows }
         ensures empty { IsNone result → IsEmptyLane (slice_get self.new.lanes.items index) }
         ensures all { IsNone result → sent_row self.new.roll.seat.me.0.rows index ≡ list_of_row mine.new.badge.views }
     {
@@ -261,6 +264,8 @@ impl<T: Message> PlainQueues<T> {
         requires unshut { is_shut (list_of_row taken.old.badge.views) ≡ false }
         ensures table { (self.new.roll.seat.table_id ≡ self.old.roll.seat.table_id) × (sent.new.badge.table_id ≡ sent.old.badge.table_id) × (taken.new.badge.table_id ≡ taken.old.badge.table_id) }
         ensures same_rows { (sent.new.badge.views ≡ sent.old.badge.views) × (taken.new.badge.views ≡ taken.old.badge.views) }
+        ensures lanes { self.new.lanes.items ≡ self.old.lanes.items }
+        ensures rows { self.new.roll.seat.me.0.rows ≡ self.old.roll.seat.me.0.rows }
         ensures history { (room : ℕ) → lane_room (list_of_row sent.old.badge.views) ≡ Some room → LaneHistory (lane_values (list_of_row sent.old.badge.views)) (lane_values (list_of_row taken.old.badge.views)) room }
     {
         self.roll.look(sent);
@@ -275,6 +280,8 @@ impl<T: Message> PlainQueues<T> {
         requires ended { lane_end (list_of_row taken.old.badge.views) ≡ Some true }
         ensures table { self.new.roll.seat.table_id ≡ self.old.roll.seat.table_id }
         ensures same { list_of_row sent.old.badge.views ≡ list_of_row taken.old.badge.views }
+        ensures lanes { self.new.lanes.items ≡ self.old.lanes.items }
+        ensures rows { self.new.roll.seat.me.0.rows ≡ self.old.roll.seat.me.0.rows }
     {
         self.roll.look(sent);
         self.roll.look(taken);

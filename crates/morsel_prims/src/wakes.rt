@@ -1,5 +1,5 @@
 //! The tasks that a call made ready.
-ghost use Rattle.std.specs.Prelude.{◌≡◌, ◌<◌, false, ◌++◌, [], ◌∷◌, IfOk, IfErr, IfSome, IsNone, ◌↔◌};
+ghost use Rattle.std.specs.Prelude.{◌≡◌, ◌<◌, ◌≤◌, false, ◌++◌, [], ◌∷◌, IfOk, IfErr, IfSome, IsNone, ◌↔◌};
 ghost use Rattle.morsel_meaning.specs.declared.fault.Fault.TheVariants.{OutOfMemory};
 ghost use Rattle.morsel_prims.specs.Woken.{IsWoken, KeepsWakes, has_number, with_woken};
 
@@ -67,7 +67,10 @@ impl Wakes {
     }
 
     /// Puts the task last where there is one that is not there. A number that is not below the bound is left out.
-    pub fn wake(&mut self, task: Option<TaskNo>)
+    pub(crate) fn wake(&mut self, task: Option<TaskNo>)
+        ensures none { IsNone task → self.new ≡ self.old }
+        ensures put { IfSome task (λ some. some.0 < self.old.bound → self.new ≡ with_woken self.old some.0) }
+        ensures beyond { IfSome task (λ some. self.old.bound ≤ some.0 → self.new ≡ self.old) }
         ensures woken { IsWoken task self.new }
         ensures wakes { KeepsWakes self.old self.new }
     {

@@ -1,9 +1,9 @@
-use Rattle.std.proofs.Common.{rules, ap, sym, ◌∙◌, subst, ◌≡◌, set, arith, [], ◌∷◌, ◌++◌, ◌-◌}
+use Rattle.std.proofs.Common.{rules, ap, sym, ◌∙◌, subst, ◌≡◌, set, arith, [], ◌∷◌, ◌++◌, ◌-◌, None}
 use mathlib.Core.Option.{some}
 use lib.ListN.{get_elem?}
 use Rattle.circular_buffer.proofs.Places.{slice_get-set_same}
 use Rattle.morsel_prims.proofs.MarkLemmas.{found}
-use Rattle.morsel_prims.proofs.CountLemmas.{token_released, counts_token, waits-last, waits-more, only_group}
+use Rattle.morsel_prims.proofs.CountLemmas.{token_released, counts_token, waits-last, waits-more, left-last, left-more, only_group}
 use Rattle.morsel_prims.specs.Counts.{AreCounted, group_of, group_waits_of}
 use Rattle.morsel_prims.specs.Rows.{place_of_row}
 use Rattle.morsel_prims.specs.declared.plain_counts.GroupMark.TheVariants.{Token, Released}
@@ -28,7 +28,8 @@ invariant_of-self c =
 pub returns-then-group-gt0-clause-counted : goal.returns-then-group-gt0-clause-counted
 returns-then-group-gt0-clause-counted c =
     let small = c.args.self.now.kept.within _ _ _ c.write.ensures.same (ap group_of c.requires.token) in let there = found _ _ _ small c.index_mut-group.ensures.value in let at : get_elem? c.args.self.now.roll.seat.me.0.rows (place_of_row c.args.mine.now.badge.views) ≡ some (Token c.args.index ∷ []) = c.write.ensures.same ∙ ap some c.requires.token in
-    let some_left = counts_token _ _ _ _ _ c.args.self.now.kept at there in (c.index_mut-group.result.now, _, there, slice_get-set_same c.args.self.now.groups.items c.args.index _ small, omega arith)
+    let some_left = counts_token _ _ _ _ _ c.args.self.now.kept at there in let more = c.if-group-gt0.true in
+    (c.index_mut-group.result.now, _, there, slice_get-set_same c.args.self.now.groups.items c.args.index _ small, omega arith, left-more c.index_mut-group.result.now (λ one. absurd (omega arith)))
 
 pub returns-then-group-gt0-clause-woken : goal.returns-then-group-gt0-clause-woken
 returns-then-group-gt0-clause-woken c =
@@ -51,7 +52,8 @@ invariant_of-self-2 c =
 pub returns-clause-counted : goal.returns-clause-counted
 returns-clause-counted c =
     let small = c.args.self.now.kept.within _ _ _ c.write.ensures.same (ap group_of c.requires.token) in let there = found _ _ _ small c.index_mut-group.ensures.value in let at : get_elem? c.args.self.now.roll.seat.me.0.rows (place_of_row c.args.mine.now.badge.views) ≡ some (Token c.args.index ∷ []) = c.write.ensures.same ∙ ap some c.requires.token in
-    let some_left = counts_token _ _ _ _ _ c.args.self.now.kept at there in (c.index_mut-group.result.now, _, there, slice_get-set_same c.args.self.now.groups.items c.args.index _ small, omega arith)
+    let some_left = counts_token _ _ _ _ _ c.args.self.now.kept at there in let last = c.if-group-gt0.false in let nobody : c.take.new.self ≡ None = search rules in
+    (c.index_mut-group.result.now, _, there, slice_get-set_same c.args.self.now.groups.items c.args.index _ small, omega arith, nobody ∙ left-last c.index_mut-group.result.now (omega arith))
 
 pub returns-clause-woken : goal.returns-clause-woken
 returns-clause-woken c =

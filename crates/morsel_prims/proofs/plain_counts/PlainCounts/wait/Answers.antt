@@ -1,7 +1,7 @@
-use Rattle.std.proofs.Common.{ap, sym, ◌∙◌, arith}
+use Rattle.std.proofs.Common.{ap, refl, arith}
 use Rattle.circular_buffer.proofs.Places.{slice_get-set_same}
 use Rattle.morsel_prims.proofs.MarkLemmas.{found}
-use Rattle.morsel_prims.proofs.CountLemmas.{only_group, same_group}
+use Rattle.morsel_prims.proofs.CountLemmas.{only_group}
 use Rattle.morsel_prims.specs.Counts.{group_waits_of}
 use Rattle.morsel_prims.proofs.plain_counts.PlainCounts.wait.Goals as goal
 
@@ -17,6 +17,6 @@ pub returns-clause-others : goal.returns-clause-others
 returns-clause-others c = only_group c.args.self.now.groups.items c.args.index _
 
 pub returns-clause-same_count : goal.returns-clause-same_count
-returns-clause-same_count c group is =
+returns-clause-same_count c =
     let small = c.args.self.now.kept.within _ _ _ c.look.ensures.list c.requires.group in let there = found _ _ _ small c.index_mut-group.ensures.value in
-    (_, slice_get-set_same c.args.self.now.groups.items c.args.index _ small, ap (λ g. g.count) (same_group _ _ (sym there ∙ is)))
+    (c.index_mut-group.result.now, _, there, slice_get-set_same c.args.self.now.groups.items c.args.index _ small, refl)
