@@ -14,7 +14,7 @@ lane_values (Value p ∷ marks) = p.0 ∷ lane_values marks
 lane_values (End w ∷ marks) = lane_values marks
 lane_values (Shut ∷ marks) = lane_values marks
 
--- neither end has closed
+-- neither end has closed, as far as this list tells
 abbrev pub is_unclosed : {A J : Type 0} → List (Mark (A × J) J) → Bool
 is_unclosed [] = true
 is_unclosed (Job j r ∷ marks) = is_unclosed marks
@@ -79,7 +79,7 @@ is_closed_last (End w ∷ []) = true
 is_closed_last (End w ∷ mark ∷ marks) = false
 is_closed_last (Shut ∷ marks) = false
 
--- how the sender has closed, as whole or as cut
+-- how the sender has closed, as whole or as cut; none where the receiver has closed before
 abbrev pub lane_end : {A J : Type 0} → List (Mark (A × J) J) → Option Bool
 lane_end [] = None
 lane_end (Job j r ∷ marks) = lane_end marks
@@ -107,7 +107,9 @@ pub record IsPlainLane {A J : Type 0} (sent taken : List (Mark (A × J) J)) (lan
   pub room : (room : ℕ) → lane_room sent ≡ Some room → lane.room ≡ room
   pub capacity : lane.queue.capacity ≡ lane.room + 1
   pub closed_last : is_closed_last sent ≡ true
+  -- until the sender closes the queue has values alone, at most as many as there is room for
   pub closes : is_unclosed sent ≡ true → length lane.queue.items ≤ lane.room
+  -- also beside the sender's end the queue has at most so many values
   pub fits : length (lane_values lane.queue.items) ≤ lane.room
 
 -- what the sender of lane i wrote
@@ -126,11 +128,11 @@ ArePlainLanes rows lanes = (length rows ≡ 2 * length lanes) × ((i : ℕ) (lan
 abbrev pub OnlyLane : {V J : Type 0} → ℕ → List (PlainLane V J) → List (PlainLane V J) → Type 0
 OnlyLane i old new = (j : ℕ) → j ≢ i → slice_get new j ≡ slice_get old j
 
--- lane i is as before but for what waits, and its receiver is registered as before
+-- the lane is as before but for who waits to send
 abbrev pub WaitsToSend : {V J : Type 0} → Option (PlainLane V J) → Option (PlainLane V J) → Type 0
 WaitsToSend old new = (lane : PlainLane _ _) → old ≡ Some lane → (now : PlainLane _ _) × (new ≡ Some now) × (now.shut ≡ lane.shut) × (now.room ≡ lane.room) × (now.queue ≡ lane.queue) × (now.recv_waits ≡ lane.recv_waits)
 
--- lane i is as before but for what waits, and its sender is registered as before
+-- the lane is as before but for who waits to take
 abbrev pub WaitsToTake : {V J : Type 0} → Option (PlainLane V J) → Option (PlainLane V J) → Type 0
 WaitsToTake old new = (lane : PlainLane _ _) → old ≡ Some lane → (now : PlainLane _ _) × (new ≡ Some now) × (now.shut ≡ lane.shut) × (now.room ≡ lane.room) × (now.queue ≡ lane.queue) × (now.send_waits ≡ lane.send_waits)
 

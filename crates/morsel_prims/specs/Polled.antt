@@ -1,4 +1,4 @@
--- What polls and calls on the ends of lanes answer.
+-- Which board, lane or group it is, the history of a lane, and what polls and calls on the ends of lanes answer.
 use Rattle.std.specs.Prelude.{◌≡◌, ℕ, ◌≤◌, List, [], ◌∷◌, ◌++◌, length, ⊤, Option, None, Some, Result, Ok, Err}
 use Rattle.atomic_table.specs.Seated.{TableId}
 use Rattle.morsel_prims.specs.declared.poll.Poll.{Poll}

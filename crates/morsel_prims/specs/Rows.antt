@@ -74,6 +74,6 @@ abbrev pub list_of_row : {T : Type 0} → List (RowView T) → List T
 list_of_row [] = []
 list_of_row (v ∷ vs) = v.list
 
--- this is the next item of the list in row k
+-- this is item n, from 0, of the list in row k
 abbrev pub IsNext : {T : Type 0} → List (List T) → ℕ → ℕ → T → Type 0
 IsNext rows k n x = (before : List _) × (get_elem? rows k ≡ some before) × (get_elem? before n ≡ some x)

@@ -20,7 +20,9 @@ pub enum Handed {
 /// Takes values from one lane, and sends them through the next.
 #[derive(Drop)]
 pub struct HandOn<T, S, R> {
+    /// Where it takes values.
     pub from: R,
+    /// Where it sends them.
     pub to: S,
     /// What was taken, and is not sent yet.
     pub held: Option<T>,

@@ -285,7 +285,7 @@ pub trait LaneReceiver<T: Message, B: Board> {
         ensures whole { is_whole self.old ≡ true → result ≡ Err RecvError.Whole }
         ensures cut { is_cut self.old ≡ true → result ≡ Err RecvError.Cut };
 
-    /// Closes the lane, and loses what is still in it.
+    /// Closes the lane. What was sent and not taken stays untaken.
     fn cut(self, cx: &mut Cx<B>)
         requires home { home self ≡ (B.id cx.old.board).lane_table }
         ensures cut { has_cut cx.new.board self }

@@ -142,8 +142,10 @@ pub trait Lanes<T: Message>: Tokens {
     ghost use Rattle.morsel_meaning.specs.declared.fault.Fault.TheVariants.{OutOfMemory};
     ghost use Rattle.morsel_prims.specs.Polled.{LaneHistory};
 
+    /// The sending end of a lane.
     type Sender: LaneSender<T, Self::Board> + Drop;
 
+    /// The receiving end of a lane.
     type Receiver: LaneReceiver<T, Self::Board> + Drop;
 
     /// The room of a lane that is asked for so many values.

@@ -13,7 +13,9 @@ use std::marker::Model;
 /// All lanes and groups of one thread.
 #[derive(Drop)]
 pub struct PlainBoard<T: Message> {
+    /// Its lanes.
     pub(crate) queues: PlainQueues<T>,
+    /// Its groups.
     pub(crate) counts: PlainCounts,
 }
 

@@ -23,14 +23,18 @@ pub enum GroupMark {
 /// How many tokens of a group are not released, and who waits until none is left.
 #[derive(Drop)]
 pub struct GroupCount {
+    /// How many of its tokens are not released.
     pub count: u64,
+    /// Who waits until none is left.
     pub waits: Option<TaskNo>,
 }
 
 /// The counts of all groups of one thread.
 #[derive(Drop)]
 pub struct PlainCounts {
+    /// What groups and tokens wrote.
     pub(crate) roll: Roll<GroupMark>,
+    /// The count of each group.
     pub(crate) groups: Vec<GroupCount>,
     ghost kept: { AreCounted roll.seat.me.0.rows groups.items },
 }

@@ -18,8 +18,11 @@ use std::alloc::Global;
 /// A group of tokens of one thread.
 #[derive(Drop)]
 pub struct PlainGroup {
+    /// What it wrote: which group it is.
     pub(crate) row: RollRow<GroupMark>,
+    /// Which group of the board it is, from 0.
     pub(crate) index: usize,
+    /// Its parts.
     pub(crate) parts: u64,
     ghost of_group: { group_of (list_of_row row.badge.views) ≡ Some index },
 }
@@ -27,8 +30,11 @@ pub struct PlainGroup {
 /// A token of one thread, which its group counts.
 #[derive(Drop)]
 pub struct PlainToken {
+    /// What it wrote: of which group it is, and later that it was released.
     pub(crate) row: RollRow<GroupMark>,
+    /// Of which group of the board it is, from 0.
     pub(crate) index: usize,
+    /// Its parts.
     pub(crate) parts: u64,
     ghost counted: { list_of_row row.badge.views ≡ Token index ∷ [] },
 }

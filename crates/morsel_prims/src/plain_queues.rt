@@ -22,7 +22,9 @@ pub type QueueRow<T> = RollRow<Mark<Suited<T>, <T as Message>::Job>>;
 /// The queues of all lanes of one thread.
 #[derive(Drop)]
 pub struct PlainQueues<T: Message> {
+    /// What the ends wrote: rows 2i and 2i + 1 are those of lane i.
     pub(crate) roll: Roll<Mark<Suited<T>, T::Job>>,
+    /// The queue of each lane, and who waits there.
     pub(crate) lanes: Vec<PlainLane<Suited<T>, T::Job>>,
     ghost kept: { ArePlainLanes roll.seat.me.0.rows lanes.items },
 }

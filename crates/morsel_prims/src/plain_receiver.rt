@@ -14,8 +14,11 @@ use std::snapshot::Snapshot;
 /// The receiving end of a lane of one thread.
 #[derive(Drop)]
 pub struct PlainReceiver<T: Message> {
+    /// What it wrote: what the lane is for, and what it took.
     pub(crate) row: QueueRow<T>,
+    /// Which lane of the board it is, from 0.
     pub(crate) index: usize,
+    /// What the lane is for.
     pub(crate) job: Snapshot<T::Job>,
     /// How the lane ended, as whole or as cut, once the sender's end was taken.
     pub(crate) ended: Option<bool>,
@@ -28,7 +31,9 @@ pub struct PlainReceiver<T: Message> {
 /// Tells what was taken from a lane of one thread, and that it is all.
 #[derive(Drop)]
 pub struct PlainTaken<T: Message> {
+    /// What the receiver wrote.
     pub(crate) row: QueueRow<T>,
+    /// Which lane of the board it is, from 0.
     pub(crate) index: usize,
     ghost placed: { place_of_row row.badge.views ≡ 2 * index + 1 },
     ghost unshut: { is_shut (list_of_row row.badge.views) ≡ false },

@@ -14,9 +14,13 @@ use std::snapshot::Snapshot;
 /// The sending end of a lane of one thread.
 #[derive(Drop)]
 pub struct PlainSender<T: Message> {
+    /// What it wrote: what the lane is for, and the values that it sent.
     pub(crate) row: QueueRow<T>,
+    /// Which lane of the board it is, from 0.
     pub(crate) index: usize,
+    /// For how many values the lane has room.
     pub(crate) room: u32,
+    /// What the lane is for.
     pub(crate) job: Snapshot<T::Job>,
     ghost placed: { place_of_row row.badge.views ≡ 2 * index },
     ghost unclosed: { is_unclosed (list_of_row row.badge.views) ≡ true },
@@ -27,7 +31,9 @@ pub struct PlainSender<T: Message> {
 /// Tells what was sent through a lane of one thread, and that it is all.
 #[derive(Drop)]
 pub struct PlainSent<T: Message> {
+    /// What the sender wrote.
     pub(crate) row: QueueRow<T>,
+    /// Which lane of the board it is, from 0.
     pub(crate) index: usize,
     ghost placed: { place_of_row row.badge.views ≡ 2 * index },
     ghost ended: { lane_end (list_of_row row.badge.views) ≡ Some true },

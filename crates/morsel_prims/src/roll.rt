@@ -9,6 +9,7 @@ use atomic_table::{Badge, Join, Play, Seat, Split, Table, TableRule};
 use std::alloc::{AllocError, Global};
 use std::mem;
 
+/// What all seats of a roll know agrees with one list of rows.
 pub struct Ruled;
 
 impl<T> TableRule<T, RowView<T>, ()> for Ruled {
@@ -90,6 +91,7 @@ pub struct RollRow<T> {
 }
 
 impl<T> Roll<T> {
+    /// No lists.
     pub fn new(alloc: Global) -> Result<Roll<T>, AllocError>
         ensures { IfOk result (λ r. r.seat.me.0 ≡ keeper_view []) }
     {
@@ -97,6 +99,7 @@ impl<T> Roll<T> {
         Ok(Roll { table, seat })
     }
 
+    /// One more list, which is empty.
     pub fn add(&mut self) -> RollRow<T>
         ensures table { self.new.seat.table_id ≡ self.old.seat.table_id }
         ensures rows { self.new.seat.me.0.rows ≡ self.old.seat.me.0.rows ++ [] ∷ [] }
@@ -125,6 +128,7 @@ impl<T> Roll<T> {
         row.badge = seat.into_badge();
     }
 
+    /// Puts `x` last in the row's list.
     pub fn write(&mut self, row: &mut RollRow<T>, x: &T)
         requires { row.old.badge.table_id ≡ self.old.seat.table_id }
         ensures table { (self.new.seat.table_id ≡ self.old.seat.table_id) × (row.new.badge.table_id ≡ row.old.badge.table_id) × (place_of_row row.new.badge.views ≡ place_of_row row.old.badge.views) }

@@ -14,8 +14,11 @@ pub trait Board {
 /// What a poll works with: who polls, the tasks that it makes ready, and the board.
 #[derive(Drop)]
 pub struct Cx<B> {
+    /// The task that polls.
     pub me: TaskNo,
+    /// The tasks that are to be woken.
     pub wakes: Wakes,
+    /// Where the lanes and groups of one thread are kept.
     pub board: B,
 }
 
