@@ -5,6 +5,7 @@
 mod cuts;
 mod expr;
 mod facts;
+mod lane;
 mod table;
 mod timing;
 
@@ -30,6 +31,7 @@ fn rows_asked<R: Env + AllocGlobal>(rt: &R) -> io::Result<Option<usize>> {
 /// Runs all parts.
 fn run<R: Clock + Print + AllocGlobal>(rt: &R, timing: Timing, rows: usize) -> Result<(), Fault> {
     expr::run(rt, timing, rows)?;
+    lane::run(rt, timing, rows)?;
     cuts::run(rt, timing)
 }
 

@@ -1,5 +1,5 @@
 -- Each step of a roll keeps its rule.
-use Rattle.std.proofs.Common.{◌≡◌, ℕ, zero, suc, ◌+◌, ◌≢◌, ◌⊎◌, ◌<◌, Bool, true, false, eqb, List, [], ◌∷◌, ◌++◌, length, length-set, set, get_or, sym, refl, ap, ◌∙◌, subst, inl, inr, ⊎_elim, arith}
+use Rattle.std.proofs.Common.{◌≡◌, ℕ, zero, suc, ◌+◌, ◌-◌, ◌≢◌, ◌⊎◌, ◌<◌, Bool, true, false, eqb, List, [], ◌∷◌, ◌++◌, length, length-set, set, get_or, sym, refl, ap, ◌∙◌, subst, inl, inr, ⊎_elim, arith}
 use mathlib.Core.Logic.{dite}
 use mathlib.Core.Option.{none, some, some-injective, some-ne-none}
 use native.Mathlib.Decide.{ℕ_discrete}
@@ -8,7 +8,7 @@ use lib.ListN.{get_elem?}
 use Rattle.atomic_table.specs.Table.{Me, step, keeps, opening, Allows, Splits, Joins}
 use Rattle.atomic_table.proofs.Lists.{at_set, set_here, set_else, at_longer, at_last}
 use Rattle.morsel_prims.specs.declared.row_view.RowView.{RowView}
-use Rattle.morsel_prims.specs.Rows.{keeper_view, keeper_with_guest, nobody_view, AgreesWithRows, IsRolled, lent_view, alone_view, guest_view, LooksAtRow, WritesRow, AddsRow}
+use Rattle.morsel_prims.specs.Rows.{keeper_view, keeper_with_guest, nobody_view, AgreesWithRows, IsRolled, lent_view, alone_view, guest_view, LooksAtRow, WritesRow, CopiesRow, AddsRow}
 
 -- of the seats, this one now has the place
 abbrev pub moved : (ℕ → ℕ) → ℕ → ℕ → ℕ → ℕ
@@ -68,6 +68,35 @@ module _ {T : Type 0} where
               (at_set s.views id j w v e),
         ),
         (subst (λ z. get_elem? z p ≡ some me.0.list) (sym same) was, λ y is. ap (λ (z : T). let m : Me T (RowView T) = (keeper_with_guest (set me.0.rows p (me.0.list ++ z ∷ [])) p (me.0.list ++ z ∷ []), me.1) in m) (some-injective x y is)),
+      )
+    where
+      at_length : (l : List (List T)) (n : ℕ) (a : List T) → get_elem? l n ≡ some a → n < length l
+      at_length [] n a e = absurd (some-ne-none a (sym e))
+      at_length (y ∷ ys) zero a e = omega arith
+      at_length (y ∷ ys) (suc n) a e = let q = at_length ys n a e in omega arith
+
+  pub copies : (slots id : ℕ) (me : Me T (RowView T)) (i : ℕ) (before : List T) (x : T) → me.0.keeps ≡ true → me.0.has ≡ true → get_elem? me.0.rows (me.0.place - 1) ≡ some before → get_elem? before (length me.0.list) ≡ some x → Allows (IsRolled T) slots id me i (λ n. n) (CopiesRow T (step slots i 0 0 none) me)
+  copies slots id me i before x k h at_before at_x s (seat, rows, at, r) _ here _ =
+      let mine = r id me.0 here in let p : ℕ = me.0.place in let new : List T = me.0.list ++ x ∷ [] in let rows' : List (List T) = set rows p new in
+      let w : RowView T = keeper_with_guest (set me.0.rows p new) p new in let same : me.0.rows ≡ rows = (mine.0 k).1 in let was = (mine.1 h).1 in (
+        w,
+        keeps,
+        tt,
+        (
+          seat,
+          rows',
+          at,
+          λ j v e. ⊎_elim
+              (λ t. subst (AgreesWithRows seat rows' at j) t.1 ((λ _. (t.0 ∙ (mine.0 k).0, ap (λ z. set z p new) same)), λ _. ((mine.1 h).0 ∙ sym t.0, set_here rows p new (at_length rows p me.0.list was))))
+              (λ t. let old = r j v t.1 in ((λ kv. absurd (t.0 ((old.0 kv).0 ∙ sym (mine.0 k).0))), λ hv. let o = old.1 hv in (o.0, set_else rows p v.place new (λ e'. t.0 (sym o.0 ∙ (ap at e' ∙ (mine.1 h).0))) ∙ o.1)))
+              (at_set s.views id j w v e),
+        ),
+        (
+          subst (λ z. get_elem? z p ≡ some me.0.list) (sym same) was,
+          λ also y at_also at_y. let is_also : before ≡ also = some-injective before also (sym at_before ∙ at_also) in
+              let is : x ≡ y = some-injective x y (sym at_x ∙ (ap (λ z. get_elem? z (length me.0.list)) is_also ∙ at_y)) in
+              ap (λ (z : T). let m : Me T (RowView T) = (keeper_with_guest (set me.0.rows p (me.0.list ++ z ∷ [])) p (me.0.list ++ z ∷ []), me.1) in m) is,
+        ),
       )
     where
       at_length : (l : List (List T)) (n : ℕ) (a : List T) → get_elem? l n ≡ some a → n < length l

@@ -3,3 +3,5 @@ pub mod Rows
 pub mod Woken
 pub mod Polled
 pub mod Marks
+pub mod Counts
+pub mod Board

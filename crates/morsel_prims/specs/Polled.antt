@@ -1,5 +1,5 @@
--- What polls and calls on the ends of lanes answer.
-use Rattle.std.specs.Prelude.{ℕ, List, [], ◌∷◌, ⊤, Option, None, Some, Result, Ok, Err}
+-- Which board, lane or group it is, the history of a lane, and what polls and calls on the ends of lanes answer.
+use Rattle.std.specs.Prelude.{◌≡◌, ℕ, ◌≤◌, List, [], ◌∷◌, ◌++◌, length, ⊤, Option, None, Some, Result, Ok, Err}
 use Rattle.atomic_table.specs.Seated.{TableId}
 use Rattle.morsel_prims.specs.declared.poll.Poll.{Poll}
 use Rattle.morsel_prims.specs.declared.poll.Poll.TheVariants.{Ready, Pending}
@@ -9,10 +9,19 @@ use Rattle.morsel_prims.specs.declared.lane.RecvError.{RecvError}
 use Rattle.morsel_prims.specs.declared.lane.RecvError.TheVariants.{Empty, Whole, Cut}
 use Rattle.morsel_prims.specs.declared.lane.Ended.{Ended}
 
--- which lane it is: the table of its board, and its place there
+-- which board it is: the table of its lanes, and that of its groups
+pub record BoardId : Type 0 where
+  pub lane_table : TableId
+  pub group_table : TableId
+
+-- which lane or group it is: a table, and its place there; in shared memory the table is its own
 pub record LaneId : Type 0 where
   pub table : TableId
   pub place : ℕ
+
+-- what was taken is the beginning of what was sent, and the rest is at most the room
+abbrev pub LaneHistory : {T : Type 0} → List T → List T → ℕ → Type 0
+LaneHistory sent taken room = (rest : List _) × (sent ≡ taken ++ rest) × (length rest ≤ room)
 
 -- the fact holds of the value, where there is one
 abbrev pub IfReady : {A : Type 0} → Poll A → (A → Type 0) → Type 0

@@ -1,5 +1,5 @@
 -- Which lists are kept, and who holds each. The keeper knows all, and a holder knows one; at most one seat knows the list at a place.
-use Rattle.std.specs.Prelude.{◌≡◌, ℕ, Bool, true, false, List, [], ◌∷◌, ◌++◌, length, slice_set}
+use Rattle.std.specs.Prelude.{◌≡◌, ℕ, ◌-◌, Bool, true, false, List, [], ◌∷◌, ◌++◌, length, slice_set}
 use mathlib.Core.Option.{some}
 use lib.ListN.{get_elem?}
 use Rattle.atomic_table.specs.Table.{State, Me, Step}
@@ -54,6 +54,12 @@ abbrev pub WritesRow : (T : Type 0) → Step T → Me T (RowView T) → ℕ → 
 WritesRow T st m n m' = (get_elem? m.0.rows m.0.place ≡ some m.0.list)
     × ((x : T) → st.said ≡ some x → m' ≡ (keeper_with_guest (slice_set m.0.rows m.0.place (m.0.list ++ x ∷ [])) m.0.place (m.0.list ++ x ∷ []), m.1))
 
+-- copying puts the next item of the row before into the guest's list, and into the rows
+abbrev pub CopiesRow : (T : Type 0) → Step T → Me T (RowView T) → ℕ → Me T (RowView T) → Type 0
+CopiesRow T st m n m' = (get_elem? m.0.rows m.0.place ≡ some m.0.list)
+    × ((before : List T) (x : T) → get_elem? m.0.rows (m.0.place - 1) ≡ some before → get_elem? before (length m.0.list) ≡ some x
+    → m' ≡ (keeper_with_guest (slice_set m.0.rows m.0.place (m.0.list ++ x ∷ [])) m.0.place (m.0.list ++ x ∷ []), m.1))
+
 -- adding puts an empty row last, and lends it
 abbrev pub AddsRow : {T : Type 0} → Step T → Me T (RowView T) → ℕ → Me T (RowView T) → Type 0
 AddsRow st m n m' = m' ≡ (keeper_with_guest (m.0.rows ++ [] ∷ []) (length m.0.rows) [], m.1)
@@ -67,3 +73,7 @@ place_of_row (v ∷ vs) = v.place
 abbrev pub list_of_row : {T : Type 0} → List (RowView T) → List T
 list_of_row [] = []
 list_of_row (v ∷ vs) = v.list
+
+-- this is item n, from 0, of the list in row k
+abbrev pub IsNext : {T : Type 0} → List (List T) → ℕ → ℕ → T → Type 0
+IsNext rows k n x = (before : List _) × (get_elem? rows k ≡ some before) × (get_elem? before n ≡ some x)

@@ -20,14 +20,16 @@ pub enum Handed {
 /// Takes values from one lane, and sends them through the next.
 #[derive(Drop)]
 pub struct HandOn<T, S, R> {
+    /// Where it takes values.
     pub from: R,
+    /// Where it sends them.
     pub to: S,
     /// What was taken, and is not sent yet.
     pub held: Option<T>,
 }
 
 impl<T: Message, S, R> HandOn<T, S, R> {
-    ghost use Rattle.std.specs.Prelude.{◌≡◌, ℕ, ◌++◌, true, [], IfSome, ◌⊎◌, Some};
+    ghost use Rattle.std.specs.Prelude.{◌≡◌, ℕ, ◌++◌, true, [], ◌∷◌, IfSome, ◌⊎◌, Some};
     ghost use Rattle.morsel_prims.specs.Polled.{held_list, IfReady, OnPending};
     ghost use Rattle.morsel_prims.specs.Woken.{KeepsWakes};
     ghost use Rattle.morsel_prims.specs.declared.hand_on.Handed.{Handed};
@@ -38,7 +40,7 @@ impl<T: Message, S, R> HandOn<T, S, R> {
     where
         S: LaneSender<T, B>,
         R: LaneReceiver<T, B>,
-        requires home { (S.home self.old.to ≡ B.id cx.old.board) × (R.home self.old.from ≡ B.id cx.old.board) }
+        requires home { (S.home self.old.to ≡ (B.id cx.old.board).lane_table) × (R.home self.old.from ≡ (B.id cx.old.board).lane_table) }
         requires job { S.job self.old.to ≡ R.job self.old.from }
         requires suits { IfSome self.old.held (T.suits (R.job self.old.from)) }
         ensures same_home { (S.home self.new.to ≡ S.home self.old.to) × (R.home self.new.from ≡ R.home self.old.from) }
@@ -47,7 +49,12 @@ impl<T: Message, S, R> HandOn<T, S, R> {
         ensures suits { IfSome self.new.held (T.suits (R.job self.new.from)) }
         // What was taken is what was sent, and then what is held.
         ensures nothing_lost { R.taken self.old.from ≡ S.sent self.old.to ++ held_list self.old.held → R.taken self.new.from ≡ S.sent self.new.to ++ held_list self.new.held }
+        ensures moved { IfReady result (λ handed. handed ≡ Handed.Moved → (value : T) × (S.sent self.new.to ≡ S.sent self.old.to ++ value ∷ [])) }
         ensures ended { IfReady result (λ handed. handed ≡ Handed.Ended Ended.Whole → (R.is_whole self.new.from ≡ true) × (held_list self.new.held ≡ [])) }
+        ensures cut { IfReady result (λ handed. handed ≡ Handed.Ended Ended.Cut → R.is_cut self.new.from ≡ true) }
+        ensures closed { IfReady result (λ handed. handed ≡ Handed.Closed → S.found_closed cx.new.board self.old.to self.new.to) }
+        // It waits at one of its two ends.
+        ensures waits { OnPending result ((R.registered cx.new.board self.old.from self.new.from cx.old.me × R.found_empty cx.new.board self.old.from self.new.from) ⊎ (S.registered cx.new.board self.old.to self.new.to cx.old.me × S.found_full cx.new.board self.old.to self.new.to)) }
         ensures same_board { B.id cx.new.board ≡ B.id cx.old.board }
         ensures same_task { cx.new.me ≡ cx.old.me }
         ensures wakes { KeepsWakes cx.old.wakes cx.new.wakes }
@@ -78,8 +85,8 @@ pub fn settle_two<T: Message, L: Tokens + Lanes<T>>(
     second_sent: <L::Sender as LaneSender<T, L::Board>>::Receipt,
     second_taken: <L::Receiver as LaneReceiver<T, L::Board>>::Receipt,
 )
-    requires first_home { (L.Sender.receipt_home first_sent ≡ L.Board.id board.old) × (L.Receiver.receipt_home first_taken ≡ L.Board.id board.old) }
-    requires second_home { (L.Sender.receipt_home second_sent ≡ L.Board.id board.old) × (L.Receiver.receipt_home second_taken ≡ L.Board.id board.old) }
+    requires first_home { (L.Sender.receipt_home first_sent ≡ (L.Board.id board.old).lane_table) × (L.Receiver.receipt_home first_taken ≡ (L.Board.id board.old).lane_table) }
+    requires second_home { (L.Sender.receipt_home second_sent ≡ (L.Board.id board.old).lane_table) × (L.Receiver.receipt_home second_taken ≡ (L.Board.id board.old).lane_table) }
     requires first_lane { L.Sender.receipt_lane first_sent ≡ L.Receiver.receipt_lane first_taken }
     requires second_lane { L.Sender.receipt_lane second_sent ≡ L.Receiver.receipt_lane second_taken }
     requires handed_on { L.Receiver.all_taken first_taken ≡ L.Sender.all_sent second_sent }

@@ -45,16 +45,16 @@ pub trait Message: Drop {
 
 /// The sending end of a lane.
 pub trait LaneSender<T: Message, B: Board> {
-    ghost use Rattle.std.specs.Prelude.{◌≡◌, ℕ, ◌≤◌, Bool, true, false, Option, None, Some, IfSome, IsSome, List, [], ◌∷◌, ◌++◌, OnOk, OnErr, IfErr};
+    ghost use Rattle.std.specs.Prelude.{◌≡◌, ℕ, ◌≤◌, Option, None, Some, IfSome, IsSome, List, [], ◌∷◌, ◌++◌, OnOk, OnErr, IfErr};
     ghost use Rattle.atomic_table.specs.Seated.{TableId};
     ghost use Rattle.morsel_meaning.specs.declared.task.TaskNo.{TaskNo};
     ghost use Rattle.morsel_prims.specs.Polled.{LaneId, IfReady, OnPending, held_list, refused_value, IfFull, IfClosed, UnlessClosed};
-    ghost use Rattle.morsel_prims.specs.Woken.{IsWoken, KeepsWakes};
+    ghost use Rattle.morsel_prims.specs.Woken.{AreFoundWoken, KeepsWakes};
 
     /// What tells that the lane was finished, and what was sent.
     type Receipt: Drop;
 
-    /// The board on which it was made.
+    /// The table of the board on which it was made.
     ghost home: { Self → TableId };
 
     /// Which lane it is an end of.
@@ -69,16 +69,16 @@ pub trait LaneSender<T: Message, B: Board> {
     /// What was sent, the first value first.
     ghost sent: { Self → List T };
 
-    /// The task that is registered at this end.
-    ghost registered: { B → Self → Option TaskNo };
+    /// This task is registered where the end waits: by the board after a call, and by the end before and after.
+    ghost registered: { B → Self → Self → TaskNo → Type 0 };
 
-    /// The task that waited for this end at a step of a call: by the board before it, and by the end before and after.
-    ghost waiting: { B → Self → Self → Option TaskNo };
+    /// A step of a call found these tasks waiting for it: by the board before the call, and by the end before and after.
+    ghost found_waiting: { B → Self → Self → List TaskNo → Type 0 };
 
-    /// The task that waits for this end as it closes.
-    ghost waiting_last: { B → Self → Option TaskNo };
+    /// A step of a call found the receiver open and room in the lane: by the board after it, and by the end before and after.
+    ghost found_room: { B → Self → Self → Type 0 };
 
-    /// A step of a call found the receiver open and the lane full: by the board after it, and by the end before and after.
+    /// A step of a call found the receiver open and the lane full.
     ghost found_full: { B → Self → Self → Type 0 };
 
     /// A step of a call found the receiver closed.
@@ -87,10 +87,13 @@ pub trait LaneSender<T: Message, B: Board> {
     /// A step of a call found so many values in the lane.
     ghost found_held: { B → Self → Self → ℕ → Type 0 };
 
-    /// The end has closed, as whole or as cut: by the board after it.
-    ghost has_ended: { B → Self → Bool → Type 0 };
+    /// The end was cut: by the board after it.
+    ghost has_cut: { B → Self → Type 0 };
 
-    /// The board on which a receipt's lane was made.
+    /// A cut found these tasks waiting for the end: by the board before it.
+    ghost found_waiting_cut: { B → Self → List TaskNo → Type 0 };
+
+    /// The table of the board on which a receipt's lane was made.
     ghost receipt_home: { Self.Receipt → TableId };
 
     /// The lane of a receipt.
@@ -99,9 +102,15 @@ pub trait LaneSender<T: Message, B: Board> {
     /// All that was sent.
     ghost all_sent: { Self.Receipt → List T };
 
+    /// The lane of a receipt was finished: by the board after it.
+    ghost has_finished: { B → Self.Receipt → Type 0 };
+
+    /// A finish found these tasks waiting for the end: by the board before it, by the end, and by the receipt.
+    ghost found_waiting_finish: { B → Self → Self.Receipt → List TaskNo → Type 0 };
+
     /// Sends the value that `value` holds, or registers who polls where the lane is full.
     fn poll_send(&mut self, cx: &mut Cx<B>, value: &mut Option<T>) -> Poll<Result<(), T>>
-        requires home { home self.old ≡ B.id cx.old.board }
+        requires home { home self.old ≡ (B.id cx.old.board).lane_table }
         requires some { IsSome value.old }
         requires suits { IfSome value.old (T.suits (job self.old)) }
         ensures same_end { (home self.new ≡ home self.old) × (lane self.new ≡ lane self.old) × (room self.new ≡ room self.old) × (job self.new ≡ job self.old) }
@@ -111,56 +120,61 @@ pub trait LaneSender<T: Message, B: Board> {
         // What is sent, and then what is held, is what it was, unless the receiver has closed.
         ensures sent { UnlessClosed result (sent self.new ++ held_list value.new ≡ sent self.old ++ held_list value.old) }
         ensures left { IfReady result (λ answer. value.new ≡ None) }
-        ensures woken { IfReady result (λ answer. OnOk answer (IsWoken (waiting cx.old.board self.old self.new) cx.new.wakes)) }
+        ensures room { IfReady result (λ answer. OnOk answer (found_room cx.new.board self.old self.new)) }
+        ensures woken { IfReady result (λ answer. OnOk answer (AreFoundWoken (found_waiting cx.old.board self.old self.new) cx.new.wakes)) }
         ensures back { IfReady result (λ answer. IfErr answer (λ refused. value.old ≡ Some refused)) }
         ensures err { IfReady result (λ answer. OnErr answer (sent self.new ≡ sent self.old)) }
         ensures closed { IfReady result (λ answer. OnErr answer (found_closed cx.new.board self.old self.new)) }
         ensures same_value { OnPending result (value.new ≡ value.old) }
+        ensures same_sent { OnPending result (sent self.new ≡ sent self.old) }
         ensures full { OnPending result (found_full cx.new.board self.old self.new) }
-        ensures registered { OnPending result (registered cx.new.board self.new ≡ Some cx.old.me) };
+        ensures registered { OnPending result (registered cx.new.board self.old self.new cx.old.me) };
 
     /// Sends the value, or hands it back.
     fn try_send(&mut self, cx: &mut Cx<B>, value: T) -> Result<(), SendError<T>>
-        requires home { home self.old ≡ B.id cx.old.board }
+        requires home { home self.old ≡ (B.id cx.old.board).lane_table }
         requires suits { T.suits (job self.old) value }
         ensures same_end { (home self.new ≡ home self.old) × (lane self.new ≡ lane self.old) × (room self.new ≡ room self.old) × (job self.new ≡ job self.old) }
         ensures same_board { B.id cx.new.board ≡ B.id cx.old.board }
         ensures same_task { cx.new.me ≡ cx.old.me }
         ensures wakes { KeepsWakes cx.old.wakes cx.new.wakes }
         ensures ok { OnOk result (sent self.new ≡ sent self.old ++ value ∷ []) }
-        ensures woken { OnOk result (IsWoken (waiting cx.old.board self.old self.new) cx.new.wakes) }
+        ensures room { OnOk result (found_room cx.new.board self.old self.new) }
+        ensures woken { OnOk result (AreFoundWoken (found_waiting cx.old.board self.old self.new) cx.new.wakes) }
         ensures back { IfErr result (λ refused. refused_value refused ≡ value) }
         ensures err { OnErr result (sent self.new ≡ sent self.old) }
+        ensures unchanged { OnErr result (cx.new.board ≡ cx.old.board) }
         ensures full { IfErr result (λ refused. IfFull refused (found_full cx.new.board self.old self.new)) }
         ensures closed { IfErr result (λ refused. IfClosed refused (found_closed cx.new.board self.old self.new)) };
 
     /// At least as many values as the lane holds.
     fn len_bound(&mut self, cx: &mut Cx<B>) -> u32
-        requires home { home self.old ≡ B.id cx.old.board }
+        requires home { home self.old ≡ (B.id cx.old.board).lane_table }
         ensures same_end { (home self.new ≡ home self.old) × (lane self.new ≡ lane self.old) × (room self.new ≡ room self.old) × (job self.new ≡ job self.old) }
         ensures same_board { B.id cx.new.board ≡ B.id cx.old.board }
         ensures same_task { cx.new.me ≡ cx.old.me }
         ensures wakes { KeepsWakes cx.old.wakes cx.new.wakes }
         ensures sent { sent self.new ≡ sent self.old }
+        ensures unchanged { cx.new.board ≡ cx.old.board }
         ensures at_least { (held : ℕ) × found_held cx.new.board self.old self.new held × (held ≤ result) }
         ensures at_most { result ≤ room self.old };
 
     /// Closes the lane: all was sent.
     fn finish(self, cx: &mut Cx<B>) -> Self::Receipt
-        requires home { home self ≡ B.id cx.old.board }
+        requires home { home self ≡ (B.id cx.old.board).lane_table }
         ensures lane { (receipt_lane result ≡ lane self) × (receipt_home result ≡ home self) }
         ensures sent { all_sent result ≡ sent self }
-        ensures ended { has_ended cx.new.board self true }
-        ensures woken { IsWoken (waiting_last cx.old.board self) cx.new.wakes }
+        ensures finished { has_finished cx.new.board result }
+        ensures woken { AreFoundWoken (found_waiting_finish cx.old.board self result) cx.new.wakes }
         ensures same_board { B.id cx.new.board ≡ B.id cx.old.board }
         ensures same_task { cx.new.me ≡ cx.old.me }
         ensures wakes { KeepsWakes cx.old.wakes cx.new.wakes };
 
     /// Closes the lane: what was sent is not all.
     fn cut(self, cx: &mut Cx<B>)
-        requires home { home self ≡ B.id cx.old.board }
-        ensures ended { has_ended cx.new.board self false }
-        ensures woken { IsWoken (waiting_last cx.old.board self) cx.new.wakes }
+        requires home { home self ≡ (B.id cx.old.board).lane_table }
+        ensures cut { has_cut cx.new.board self }
+        ensures woken { AreFoundWoken (found_waiting_cut cx.old.board self) cx.new.wakes }
         ensures same_board { B.id cx.new.board ≡ B.id cx.old.board }
         ensures same_task { cx.new.me ≡ cx.old.me }
         ensures wakes { KeepsWakes cx.old.wakes cx.new.wakes };
@@ -168,11 +182,11 @@ pub trait LaneSender<T: Message, B: Board> {
 
 /// The receiving end of a lane.
 pub trait LaneReceiver<T: Message, B: Board> {
-    ghost use Rattle.std.specs.Prelude.{◌≡◌, ℕ, Bool, true, false, Option, Some, List, [], ◌∷◌, ◌++◌, Err, IfOk, OnOk, OnErr, IfErr};
+    ghost use Rattle.std.specs.Prelude.{◌≡◌, Bool, true, false, List, [], ◌∷◌, ◌++◌, Err, IfOk, OnOk, OnErr, IfErr};
     ghost use Rattle.atomic_table.specs.Seated.{TableId};
     ghost use Rattle.morsel_meaning.specs.declared.task.TaskNo.{TaskNo};
     ghost use Rattle.morsel_prims.specs.Polled.{LaneId, IfReady, OnPending, ByRefusal, ByEnd};
-    ghost use Rattle.morsel_prims.specs.Woken.{IsWoken, KeepsWakes};
+    ghost use Rattle.morsel_prims.specs.Woken.{AreFoundWoken, KeepsWakes};
     ghost use Rattle.morsel_prims.specs.declared.poll.Poll.TheVariants.{Ready};
     ghost use Rattle.morsel_prims.specs.declared.lane.RecvError.{RecvError};
     ghost use Rattle.morsel_prims.specs.declared.lane.Ended.{Ended};
@@ -180,7 +194,7 @@ pub trait LaneReceiver<T: Message, B: Board> {
     /// What tells that the lane ended whole, and what was taken.
     type Receipt: Drop;
 
-    /// The board on which it was made.
+    /// The table of the board on which it was made.
     ghost home: { Self → TableId };
 
     /// Which lane it is an end of.
@@ -198,22 +212,25 @@ pub trait LaneReceiver<T: Message, B: Board> {
     /// It has answered that the lane was cut.
     ghost is_cut: { Self → Bool };
 
-    /// The task that is registered at this end.
-    ghost registered: { B → Self → Option TaskNo };
+    /// This task is registered where the end waits: by the board after a call, and by the end before and after.
+    ghost registered: { B → Self → Self → TaskNo → Type 0 };
 
-    /// The task that waited for this end at a step of a call: by the board before it, and by the end before and after.
-    ghost waiting: { B → Self → Self → Option TaskNo };
-
-    /// The task that waits for this end as it closes.
-    ghost waiting_last: { B → Self → Option TaskNo };
+    /// A step of a call found these tasks waiting for it: by the board before the call, and by the end before and after.
+    ghost found_waiting: { B → Self → Self → List TaskNo → Type 0 };
 
     /// A step of a call found the lane open and empty: by the board after it, and by the end before and after.
     ghost found_empty: { B → Self → Self → Type 0 };
 
-    /// The end has closed: by the board after it.
-    ghost has_shut: { B → Self → Type 0 };
+    /// All of what was sent was taken, and the sender has finished, or else cut the lane: by the board after a call, and by the end after it.
+    ghost found_ended: { B → Self → Bool → Type 0 };
 
-    /// The board on which a receipt's lane was made.
+    /// The end has closed: by the board after it.
+    ghost has_cut: { B → Self → Type 0 };
+
+    /// A cut found these tasks waiting for the end: by the board before it.
+    ghost found_waiting_cut: { B → Self → List TaskNo → Type 0 };
+
+    /// The table of the board on which a receipt's lane was made.
     ghost receipt_home: { Self.Receipt → TableId };
 
     /// The lane of a receipt.
@@ -230,44 +247,49 @@ pub trait LaneReceiver<T: Message, B: Board> {
 
     /// Takes the next value, or registers who polls where there is none.
     fn poll_recv(&mut self, cx: &mut Cx<B>) -> Poll<Result<T, Ended>>
-        requires home { home self.old ≡ B.id cx.old.board }
+        requires home { home self.old ≡ (B.id cx.old.board).lane_table }
         ensures same_end { (home self.new ≡ home self.old) × (lane self.new ≡ lane self.old) × (job self.new ≡ job self.old) }
         ensures same_board { B.id cx.new.board ≡ B.id cx.old.board }
         ensures same_task { cx.new.me ≡ cx.old.me }
         ensures wakes { KeepsWakes cx.old.wakes cx.new.wakes }
         ensures ok { IfReady result (λ answer. IfOk answer (λ value. taken self.new ≡ taken self.old ++ value ∷ [])) }
         ensures suits { IfReady result (λ answer. IfOk answer (T.suits (job self.old))) }
-        ensures woken { IfReady result (λ answer. OnOk answer (IsWoken (waiting cx.old.board self.old self.new) cx.new.wakes)) }
+        ensures unended { IfReady result (λ answer. OnOk answer ((is_whole self.new ≡ false) × (is_cut self.new ≡ false))) }
+        ensures woken { IfReady result (λ answer. OnOk answer (AreFoundWoken (found_waiting cx.old.board self.old self.new) cx.new.wakes)) }
         ensures err { IfReady result (λ answer. OnErr answer (taken self.new ≡ taken self.old)) }
-        ensures ended { IfReady result (λ answer. IfErr answer (λ end. ByEnd end (is_whole self.new ≡ true) (is_cut self.new ≡ true))) }
+        ensures ended { IfReady result (λ answer. IfErr answer (λ end. ByEnd end ((is_whole self.new ≡ true) × found_ended cx.new.board self.new true) ((is_cut self.new ≡ true) × found_ended cx.new.board self.new false))) }
         ensures same_taken { OnPending result (taken self.new ≡ taken self.old) }
+        ensures pending { OnPending result ((is_whole self.new ≡ false) × (is_cut self.new ≡ false)) }
         ensures empty { OnPending result (found_empty cx.new.board self.old self.new) }
-        ensures registered { OnPending result (registered cx.new.board self.new ≡ Some cx.old.me) }
+        ensures registered { OnPending result (registered cx.new.board self.old self.new cx.old.me) }
         // The answers that stay.
         ensures whole { is_whole self.old ≡ true → result ≡ Ready (Err Ended.Whole) }
         ensures cut { is_cut self.old ≡ true → result ≡ Ready (Err Ended.Cut) };
 
     /// Takes the next value.
     fn try_recv(&mut self, cx: &mut Cx<B>) -> Result<T, RecvError>
-        requires home { home self.old ≡ B.id cx.old.board }
+        requires home { home self.old ≡ (B.id cx.old.board).lane_table }
         ensures same_end { (home self.new ≡ home self.old) × (lane self.new ≡ lane self.old) × (job self.new ≡ job self.old) }
         ensures same_board { B.id cx.new.board ≡ B.id cx.old.board }
         ensures same_task { cx.new.me ≡ cx.old.me }
         ensures wakes { KeepsWakes cx.old.wakes cx.new.wakes }
         ensures ok { IfOk result (λ value. taken self.new ≡ taken self.old ++ value ∷ []) }
         ensures suits { IfOk result (T.suits (job self.old)) }
-        ensures woken { OnOk result (IsWoken (waiting cx.old.board self.old self.new) cx.new.wakes) }
+        ensures unended { OnOk result ((is_whole self.new ≡ false) × (is_cut self.new ≡ false)) }
+        ensures woken { OnOk result (AreFoundWoken (found_waiting cx.old.board self.old self.new) cx.new.wakes) }
         ensures err { OnErr result (taken self.new ≡ taken self.old) }
-        ensures refused { IfErr result (λ refusal. ByRefusal refusal (found_empty cx.new.board self.old self.new) (is_whole self.new ≡ true) (is_cut self.new ≡ true)) }
+        ensures refused { IfErr result (λ refusal. ByRefusal refusal (found_empty cx.new.board self.old self.new) ((is_whole self.new ≡ true) × found_ended cx.new.board self.new true) ((is_cut self.new ≡ true) × found_ended cx.new.board self.new false)) }
+        ensures empty { IfErr result (λ refusal. refusal ≡ RecvError.Empty → (is_whole self.new ≡ false) × (is_cut self.new ≡ false)) }
+        ensures unchanged { IfErr result (λ refusal. refusal ≡ RecvError.Empty → cx.new.board ≡ cx.old.board) }
         // The answers that stay.
         ensures whole { is_whole self.old ≡ true → result ≡ Err RecvError.Whole }
         ensures cut { is_cut self.old ≡ true → result ≡ Err RecvError.Cut };
 
-    /// Closes the lane, and loses what is still in it.
+    /// Closes the lane. What was sent and not taken stays untaken.
     fn cut(self, cx: &mut Cx<B>)
-        requires home { home self ≡ B.id cx.old.board }
-        ensures shut { has_shut cx.new.board self }
-        ensures woken { IsWoken (waiting_last cx.old.board self) cx.new.wakes }
+        requires home { home self ≡ (B.id cx.old.board).lane_table }
+        ensures cut { has_cut cx.new.board self }
+        ensures woken { AreFoundWoken (found_waiting_cut cx.old.board self) cx.new.wakes }
         ensures same_board { B.id cx.new.board ≡ B.id cx.old.board }
         ensures same_task { cx.new.me ≡ cx.old.me }
         ensures wakes { KeepsWakes cx.old.wakes cx.new.wakes };

@@ -1,194 +1,45 @@
-//! The lanes of one thread.
-ghost use Rattle.std.specs.Prelude.{◌≡◌, ℕ, ◌*◌, ◌≤◌, true, false, [], ◌∷◌, ◌++◌, length, slice_get, Some, IfOk, OnOk, OnErr, IfErr, IfSome, IsNone, ◌+◌};
+//! What the lanes and groups of one thread are kept on.
+ghost use Rattle.std.specs.Prelude.{◌≡◌, [], IfOk, IfErr};
 ghost use Rattle.morsel_meaning.specs.declared.fault.Fault.TheVariants.{OutOfMemory};
-ghost use Rattle.morsel_prims.specs.Marks.{ArePlainLanes, AreFor, are_sendable, is_unclosed, lane_job, lane_room, recv_waits_of, send_waits_of};
-ghost use Rattle.morsel_prims.specs.Polled.{refused_value, IfFull, IfClosed};
-ghost use Rattle.morsel_prims.specs.Rows.{place_of_row, list_of_row};
-ghost use Rattle.morsel_prims.specs.declared.plain_item.Mark.TheVariants.{Value, End};
-ghost use Rattle.morsel_prims.specs.declared.plain_item.PlainLane.{PlainLane};
 
-use crate::lane::{Message, SendError};
-use crate::plain_item::{Mark, PlainLane, Suited};
-use crate::roll::{Roll, RollRow};
+use crate::lane::Message;
+use crate::plain_counts::PlainCounts;
+use crate::plain_queues::PlainQueues;
 use crate::task::Board;
-use morsel_meaning::{Fault, TaskNo};
+use morsel_meaning::Fault;
 use std::alloc::Global;
+use std::marker::Model;
 
-/// All lanes of one thread.
+/// All lanes and groups of one thread.
 #[derive(Drop)]
 pub struct PlainBoard<T: Message> {
-    roll: Roll<Mark<Suited<T>, T::Job>>,
-    lanes: Vec<PlainLane<Suited<T>, T::Job>>,
-    ghost kept: { ArePlainLanes roll.seat.me.0.rows lanes.items },
+    /// Its lanes.
+    pub(crate) queues: PlainQueues<T>,
+    /// Its groups.
+    pub(crate) counts: PlainCounts,
+}
+
+impl<T: Message> Model for PlainBoard<T> {
+    ghost use Rattle.morsel_prims.specs.Board.{PlainSeen};
+
+    ghost Value = { PlainSeen T T.Job };
+
+    ghost view = { λ board. record { lane_table = board.queues.roll.seat.table_id; rows = board.queues.roll.seat.me.0.rows; lanes = board.queues.lanes.items; group_table = board.counts.roll.seat.table_id; group_rows = board.counts.roll.seat.me.0.rows; groups = board.counts.groups.items } };
 }
 
 impl<T: Message> Board for PlainBoard<T> {
-    ghost id = { λ board. board.roll.seat.table_id };
+    ghost id = { λ board. record { lane_table = board.lane_table; group_table = board.group_table } };
 }
 
 impl<T: Message> PlainBoard<T> {
-    /// No lanes.
+    /// No lanes, and no groups.
     pub fn new(alloc: Global) -> Result<PlainBoard<T>, Fault>
+        ensures empty { IfOk result (λ board. (board.lanes ≡ []) × (board.groups ≡ [])) }
         ensures out_of_memory { IfErr result (λ fault. fault ≡ OutOfMemory) }
     {
-        let roll = Roll::new(alloc)?;
         Ok(PlainBoard {
-            roll,
-            lanes: Vec::new(alloc),
+            queues: PlainQueues::new(alloc)?,
+            counts: PlainCounts::new(alloc)?,
         })
-    }
-
-    /// The lane takes the value, if it has room. The task that waits for it is handed out.
-    fn send(
-        &mut self,
-        index: usize,
-        mine: &mut RollRow<Mark<Suited<T>, T::Job>>,
-        value: Suited<T>,
-    ) -> Result<Option<TaskNo>, SendError<Suited<T>>>
-        requires table { mine.old.badge.table_id ≡ self.old.roll.seat.table_id }
-        requires place { place_of_row mine.old.badge.views ≡ 2 * index }
-        requires unclosed { is_unclosed (list_of_row mine.old.badge.views) ≡ true }
-        requires job { lane_job (list_of_row mine.old.badge.views) ≡ Some value.1 }
-        ensures table { (self.new.roll.seat.table_id ≡ self.old.roll.seat.table_id) × (mine.new.badge.table_id ≡ mine.old.badge.table_id) × (place_of_row mine.new.badge.views ≡ place_of_row mine.old.badge.views) }
-        ensures sent { OnOk result (list_of_row mine.new.badge.views ≡ list_of_row mine.old.badge.views ++ Value value ∷ []) }
-        ensures woken { IfOk result (λ task. task ≡ recv_waits_of (slice_get self.old.lanes.items index)) }
-        ensures err { OnErr result (list_of_row mine.new.badge.views ≡ list_of_row mine.old.badge.views) }
-        ensures back { IfErr result (λ refused. refused_value refused ≡ value) }
-        ensures full { IfErr result (λ refused. IfFull refused ((lane : PlainLane _ _) × (slice_get self.new.lanes.items index ≡ Some lane) × (lane.shut ≡ false) × (lane.room ≤ length lane.queue.items))) }
-        ensures closed { IfErr result (λ refused. IfClosed refused ((lane : PlainLane _ _) × (slice_get self.new.lanes.items index ≡ Some lane) × (lane.shut ≡ true))) }
-    {
-        let PlainBoard { roll, lanes } = self;
-        roll.look(mine);
-        let lane = &lanes[index];
-        if lane.shut {
-            return Err(SendError::Closed(value));
-        }
-        if lane.queue.len() >= lane.room as usize {
-            return Err(SendError::Full(value));
-        }
-        let mark = Mark::Value(value);
-        roll.write(mine, &mark);
-        let lane = &mut lanes[index];
-        let _ = lane.queue.push_back(mark);
-        Ok(lane.recv_waits.take())
-    }
-
-    /// The sender closes the lane. The task that waits for it is handed out.
-    fn close(
-        &mut self,
-        index: usize,
-        mine: &mut RollRow<Mark<Suited<T>, T::Job>>,
-        whole: bool,
-    ) -> Option<TaskNo>
-        requires table { mine.old.badge.table_id ≡ self.old.roll.seat.table_id }
-        requires place { place_of_row mine.old.badge.views ≡ 2 * index }
-        requires unclosed { is_unclosed (list_of_row mine.old.badge.views) ≡ true }
-        ensures table { (self.new.roll.seat.table_id ≡ self.old.roll.seat.table_id) × (mine.new.badge.table_id ≡ mine.old.badge.table_id) × (place_of_row mine.new.badge.views ≡ place_of_row mine.old.badge.views) }
-        ensures ended { list_of_row mine.new.badge.views ≡ list_of_row mine.old.badge.views ++ End whole ∷ [] }
-        ensures woken { result ≡ recv_waits_of (slice_get self.old.lanes.items index) }
-    {
-        let PlainBoard { roll, lanes } = self;
-        let mark = Mark::End(whole);
-        roll.write(mine, &mark);
-        let lane = &mut lanes[index];
-        let _ = lane.queue.push_back(mark);
-        lane.recv_waits.take()
-    }
-
-    /// Takes what comes first. The task that waits for room is handed out.
-    fn take(
-        &mut self,
-        index: usize,
-        mine: &mut RollRow<Mark<Suited<T>, T::Job>>,
-    ) -> Option<(Mark<Suited<T>, T::Job>, Option<TaskNo>)>
-        requires table { mine.old.badge.table_id ≡ self.old.roll.seat.table_id }
-        requires place { place_of_row mine.old.badge.views ≡ 2 * index + 1 }
-        ensures table { (self.new.roll.seat.table_id ≡ self.old.roll.seat.table_id) × (mine.new.badge.table_id ≡ mine.old.badge.table_id) × (place_of_row mine.new.badge.views ≡ place_of_row mine.old.badge.views) }
-        ensures taken { IfSome result (λ taken. list_of_row mine.new.badge.views ≡ list_of_row mine.old.badge.views ++ taken.0 ∷ []) }
-        ensures sendable { IfSome result (λ taken. are_sendable (taken.0 ∷ []) ≡ true) }
-        ensures job { IfSome result (λ taken. (job : _) → is_unclosed (list_of_row mine.old.badge.views) ≡ true → lane_job (list_of_row mine.old.badge.views) ≡ Some job → AreFor job (taken.0 ∷ [])) }
-        ensures woken { IfSome result (λ taken. taken.1 ≡ send_waits_of (slice_get self.old.lanes.items index)) }
-        ensures none { IsNone result → list_of_row mine.new.badge.views ≡ list_of_row mine.old.badge.views }
-        ensures empty { IsNone result → ((lane : PlainLane _ _) × (slice_get self.new.lanes.items index ≡ Some lane) × (lane.queue.items ≡ [])) }
-    {
-        let PlainBoard { roll, lanes } = self;
-        roll.look(mine);
-        let lane = &mut lanes[index];
-        let Some(mark) = lane.queue.pop_front() else {
-            return None;
-        };
-        roll.write(mine, &mark);
-        Some((mark, lane.send_waits.take()))
-    }
-
-    /// The receiver closes the lane. The task that waits for room is handed out.
-    fn shut(&mut self, index: usize, mine: &mut RollRow<Mark<Suited<T>, T::Job>>) -> Option<TaskNo>
-        requires table { mine.old.badge.table_id ≡ self.old.roll.seat.table_id }
-        requires place { place_of_row mine.old.badge.views ≡ 2 * index + 1 }
-        ensures table { (self.new.roll.seat.table_id ≡ self.old.roll.seat.table_id) × (mine.new.badge.table_id ≡ mine.old.badge.table_id) × (place_of_row mine.new.badge.views ≡ place_of_row mine.old.badge.views) }
-        ensures shut { (lane : PlainLane _ _) × (slice_get self.new.lanes.items index ≡ Some lane) × (lane.shut ≡ true) }
-        ensures woken { result ≡ send_waits_of (slice_get self.old.lanes.items index) }
-    {
-        let PlainBoard { roll, lanes } = self;
-        roll.write(mine, &Mark::Shut);
-        let lane = &mut lanes[index];
-        lane.shut = true;
-        lane.send_waits.take()
-    }
-
-    /// The task waits until the lane has room.
-    fn wait_to_send(
-        &mut self,
-        index: usize,
-        mine: &mut RollRow<Mark<Suited<T>, T::Job>>,
-        task: TaskNo,
-    )
-        requires table { mine.old.badge.table_id ≡ self.old.roll.seat.table_id }
-        requires place { place_of_row mine.old.badge.views ≡ 2 * index }
-        ensures table { (self.new.roll.seat.table_id ≡ self.old.roll.seat.table_id) × (mine.new.badge.table_id ≡ mine.old.badge.table_id) × (mine.new.badge.views ≡ mine.old.badge.views) }
-        ensures waits { send_waits_of (slice_get self.new.lanes.items index) ≡ Some task }
-        ensures lane { (lane : PlainLane _ _) → slice_get self.old.lanes.items index ≡ Some lane → (now : PlainLane _ _) × (slice_get self.new.lanes.items index ≡ Some now) × (now.shut ≡ lane.shut) × (now.room ≡ lane.room) × (now.queue ≡ lane.queue) }
-    {
-        let PlainBoard { roll, lanes } = self;
-        roll.look(mine);
-        lanes[index].send_waits = Some(task);
-    }
-
-    /// How many values the lane holds; at most its room.
-    fn held(&mut self, index: usize, mine: &mut RollRow<Mark<Suited<T>, T::Job>>, room: u32) -> u32
-        requires table { mine.old.badge.table_id ≡ self.old.roll.seat.table_id }
-        requires place { place_of_row mine.old.badge.views ≡ 2 * index }
-        requires unclosed { is_unclosed (list_of_row mine.old.badge.views) ≡ true }
-        requires room { lane_room (list_of_row mine.old.badge.views) ≡ Some room }
-        ensures table { (self.new.roll.seat.table_id ≡ self.old.roll.seat.table_id) × (mine.new.badge.table_id ≡ mine.old.badge.table_id) × (mine.new.badge.views ≡ mine.old.badge.views) }
-        ensures held { (lane : PlainLane _ _) × (slice_get self.new.lanes.items index ≡ Some lane) × (length lane.queue.items ≤ result) }
-        ensures within { result ≤ room }
-    {
-        self.roll.look(mine);
-        let lane = &self.lanes[index];
-        let held = lane.queue.len();
-        // The lane never holds more.
-        if held > room as usize {
-            return room;
-        }
-        held as u32
-    }
-
-    /// The task waits until there is something in the lane.
-    fn wait_to_take(
-        &mut self,
-        index: usize,
-        mine: &mut RollRow<Mark<Suited<T>, T::Job>>,
-        task: TaskNo,
-    )
-        requires table { mine.old.badge.table_id ≡ self.old.roll.seat.table_id }
-        requires place { place_of_row mine.old.badge.views ≡ 2 * index + 1 }
-        ensures table { (self.new.roll.seat.table_id ≡ self.old.roll.seat.table_id) × (mine.new.badge.table_id ≡ mine.old.badge.table_id) × (mine.new.badge.views ≡ mine.old.badge.views) }
-        ensures waits { recv_waits_of (slice_get self.new.lanes.items index) ≡ Some task }
-        ensures lane { (lane : PlainLane _ _) → slice_get self.old.lanes.items index ≡ Some lane → (now : PlainLane _ _) × (slice_get self.new.lanes.items index ≡ Some now) × (now.shut ≡ lane.shut) × (now.room ≡ lane.room) × (now.queue ≡ lane.queue) }
-    {
-        let PlainBoard { roll, lanes } = self;
-        roll.look(mine);
-        lanes[index].recv_waits = Some(task);
     }
 }

@@ -44,7 +44,7 @@ impl<T: Message> Suited<T> {
     }
 }
 
-/// What is in a lane: its job first, then values, then its end; and that the receiver has closed.
+/// What an end of a lane writes down: what the lane is for first, then the values that it sent or took, then how the lane ended.
 #[derive(Drop)]
 pub enum Mark<V, J> {
     /// What the lane is for, and for how many values it has room.
@@ -60,9 +60,14 @@ pub enum Mark<V, J> {
 /// A lane of one thread.
 #[derive(Drop)]
 pub struct PlainLane<V, J> {
+    /// What was sent, also that the sender has closed, and not yet taken.
     pub queue: HeapCircularBuffer<Mark<V, J>>,
+    /// For how many values the lane has room.
     pub room: u32,
+    /// Whether the receiver has closed.
     pub shut: bool,
+    /// Who waits for room, or for the receiver to close.
     pub send_waits: Option<TaskNo>,
+    /// Who waits for a value, or for the sender to close.
     pub recv_waits: Option<TaskNo>,
 }

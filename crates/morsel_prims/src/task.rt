@@ -5,38 +5,44 @@ use morsel_meaning::TaskNo;
 
 /// Where lanes and groups of one thread are kept; `()` for those that lie in shared memory.
 pub trait Board {
-    ghost use Rattle.atomic_table.specs.Seated.{TableId};
+    ghost use Rattle.morsel_prims.specs.Polled.{BoardId};
 
     /// Which board it is.
-    ghost id: { Self → TableId };
+    ghost id: { Self → BoardId };
 }
 
 /// What a poll works with: who polls, the tasks that it makes ready, and the board.
 #[derive(Drop)]
 pub struct Cx<B> {
+    /// The task that polls.
     pub me: TaskNo,
+    /// The tasks that are to be woken.
     pub wakes: Wakes,
+    /// Where the lanes and groups of one thread are kept.
     pub board: B,
 }
 
 /// What is polled until it answers.
 pub trait Task<B: Board> {
-    ghost use Rattle.std.specs.Prelude.{◌≡◌};
-    ghost use Rattle.atomic_table.specs.Seated.{TableId};
-    ghost use Rattle.morsel_prims.specs.Polled.{IfReady, OnPending};
-    ghost use Rattle.morsel_prims.specs.Woken.{KeepsWakes};
+    ghost use Rattle.std.specs.Prelude.{◌≡◌, ◌⊎◌, true};
+    ghost use Rattle.morsel_meaning.specs.declared.task.TaskNo.{TaskNo};
+    ghost use Rattle.morsel_prims.specs.Polled.{BoardId, IfReady, OnPending};
+    ghost use Rattle.morsel_prims.specs.Woken.{KeepsWakes, has_number};
 
     /// What it ends with.
     type Out: Drop;
 
     /// It may be polled with the board of this identity.
-    ghost can_poll: { TableId → Self → Type 0 };
+    ghost can_poll: { BoardId → Self → Type 0 };
 
     /// It may end with this output.
     ghost gives: { Self → Self.Out → Type 0 };
 
-    /// It is registered where it waits: by the board after the poll, and by the task before and after.
-    ghost waits: { B → Self → Self → Type 0 };
+    /// This task is registered at an end that was not ready: by the board after the poll, and by the task before and after.
+    ghost waits: { TaskNo → B → Self → Self → Type 0 };
+
+    /// Each end that it held was cut: by the board after it.
+    ghost has_cut: { B → Self → Type 0 };
 
     /// Goes as far as it can.
     fn poll(&mut self, cx: &mut Cx<B>) -> Poll<Self::Out>
@@ -44,7 +50,8 @@ pub trait Task<B: Board> {
         ensures ready { IfReady result (gives self.old) }
         ensures again { OnPending result (can_poll (B.id cx.old.board) self.new) }
         ensures gives { OnPending result ((out : Self.Out) → gives self.new out → gives self.old out) }
-        ensures waits { OnPending result (waits cx.new.board self.old self.new) }
+        // It is polled again: it is among those that are to be woken, or registered.
+        ensures waits { OnPending result ((has_number cx.new.wakes.numbers cx.old.me.0 ≡ true) ⊎ waits cx.old.me cx.new.board self.old self.new) }
         ensures same_board { B.id cx.new.board ≡ B.id cx.old.board }
         ensures same_task { cx.new.me ≡ cx.old.me }
         ensures wakes { KeepsWakes cx.old.wakes cx.new.wakes };
@@ -52,6 +59,7 @@ pub trait Task<B: Board> {
     /// Cuts the ends that it holds.
     fn abandon(self, cx: &mut Cx<B>)
         requires can_poll { can_poll (B.id cx.old.board) self }
+        ensures cut { has_cut cx.new.board self }
         ensures same_board { B.id cx.new.board ≡ B.id cx.old.board }
         ensures same_task { cx.new.me ≡ cx.old.me }
         ensures wakes { KeepsWakes cx.old.wakes cx.new.wakes };

@@ -1,7 +1,7 @@
 //! The tasks that a call made ready.
-ghost use Rattle.std.specs.Prelude.{◌≡◌, ◌<◌, ◌++◌, [], ◌∷◌, IfOk, IfErr, IfSome, IsNone, ◌↔◌};
+ghost use Rattle.std.specs.Prelude.{◌≡◌, ◌<◌, ◌≤◌, false, ◌++◌, [], ◌∷◌, IfOk, IfErr, IfSome, IsNone, ◌↔◌};
 ghost use Rattle.morsel_meaning.specs.declared.fault.Fault.TheVariants.{OutOfMemory};
-ghost use Rattle.morsel_prims.specs.Woken.{IsWoken, KeepsWakes, with_woken};
+ghost use Rattle.morsel_prims.specs.Woken.{IsWoken, KeepsWakes, has_number, with_woken};
 
 use morsel_meaning::{Fault, TaskNo};
 use std::alloc::Global;
@@ -56,6 +56,7 @@ impl Wakes {
     #[tactic(auto, using(crate::proofs::WokenLemmas::listed_pop, crate::proofs::WokenLemmas::listed_within))]
     pub fn pop(&mut self) -> Option<TaskNo>
         ensures taken { IfSome result (λ task. self.old.numbers ≡ self.new.numbers ++ task.0 ∷ []) }
+        ensures once { IfSome result (λ task. (task.0 < self.old.bound) × (has_number self.new.numbers task.0 ≡ false)) }
         ensures empty { IsNone result ↔ (self.old.numbers ≡ []) }
         ensures none { IsNone result → self.new ≡ self.old }
         ensures bound { self.new.bound ≡ self.old.bound }
@@ -66,7 +67,10 @@ impl Wakes {
     }
 
     /// Puts the task last where there is one that is not there. A number that is not below the bound is left out.
-    pub fn wake(&mut self, task: Option<TaskNo>)
+    pub(crate) fn wake(&mut self, task: Option<TaskNo>)
+        ensures none { IsNone task → self.new ≡ self.old }
+        ensures put { IfSome task (λ some. some.0 < self.old.bound → self.new ≡ with_woken self.old some.0) }
+        ensures beyond { IfSome task (λ some. self.old.bound ≤ some.0 → self.new ≡ self.old) }
         ensures woken { IsWoken task self.new }
         ensures wakes { KeepsWakes self.old self.new }
     {
