@@ -1,7 +1,7 @@
 //! Lists of calls, drawn at random, on a lane of one thread and on a plain queue.
 use super::line_of;
-use crate::tests::line::{Closed, Line, RECEIVING, SENDING, Shut};
 use crate::number::Number;
+use crate::tests::line::{Closed, Line, RECEIVING, SENDING, Shut};
 use morsel_meaning::{Fault, TaskNo};
 use morsel_prims::{Ended, Lanes, Poll, RecvError, SendError, Tokens};
 use rand_core::{Rng, SeedableRng};

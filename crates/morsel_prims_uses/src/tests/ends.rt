@@ -1,7 +1,7 @@
 //! How a lane ends.
 use super::line_of;
-use crate::tests::line::{Closed, Line, Shut};
 use crate::number::Number;
+use crate::tests::line::{Closed, Line, Shut};
 use morsel_prims::{Ended, Lanes, Poll, RecvError, SendError, Tokens};
 use std::test::Fail;
 
