@@ -1,0 +1,7 @@
+-- What a scan means, and what a piece of a file means by itself.
+pub mod Scans
+pub mod ScanColumns
+pub mod ScanRows
+pub mod CsvScans
+pub mod CsvPieces
+pub mod Ahead
