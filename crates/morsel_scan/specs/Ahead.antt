@@ -1,5 +1,5 @@
 -- How far reading runs ahead of writing: over the reads and writes of a run, by what each byte of the sources gives.
-use Rattle.std.specs.Prelude.{◌≡◌, ℕ, ◌+◌, ◌≤◌, nat_eq, Bool, true, false, if◌then◌else◌, Option, Some, Result, Ok, Err, List, [], ◌∷◌, ◌++◌, length, take, get_or, slice_get, slice_range}
+use Rattle.std.specs.Prelude.{◌≡◌, ℕ, ◌+◌, ◌≤◌, nat_eq, Bool, true, false, if◌then◌else◌, Some, Result, Ok, Err, List, [], ◌∷◌, length, take, get_or, slice_get, slice_range}
 use Rattle.std.specs.List.{sum_by, list_any}
 use Rattle.morsel_meaning.specs.declared.fault.Fault.{Fault}
 use Rattle.morsel_meaning.specs.Values.{Row}

@@ -1,5 +1,5 @@
 -- Which pieces of CSV files belong to a scan: what holds of a piece by itself, given the bytes of the files.
-use Rattle.std.specs.Prelude.{◌≡◌, ◌⊎◌, ℕ, suc, ◌+◌, ◌<◌, ◌≤◌, ◌&&◌, nat_le, nat_lt, Bool, true, false, Some, List, [], ◌∷◌, ◌++◌, length, take, slice_get, slice_range}
+use Rattle.std.specs.Prelude.{◌≡◌, ◌⊎◌, ℕ, ◌+◌, ◌<◌, ◌≤◌, Bool, false, Some, List, [], ◌∷◌, ◌++◌, length, take, slice_get, slice_range}
 use Rattle.std.specs.List.{sum_by}
 use Rattle.morsel_meaning.specs.Values.{kinds_of}
 use Rattle.morsel_grammar.specs.Grammar.{CsvRecord, Records}

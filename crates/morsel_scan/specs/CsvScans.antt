@@ -1,5 +1,5 @@
 -- What a scan of CSV files means, and what a piece of such a file means by itself.
-use Rattle.std.specs.Prelude.{◌≡◌, ◌⊎◌, ℕ, ◌+◌, ◌&&◌, nat_le, nat_lt, Bool, false, Option, Some, None, Result, Ok, Err, List, [], ◌∷◌, length}
+use Rattle.std.specs.Prelude.{◌≡◌, ◌⊎◌, ℕ, ◌+◌, ◌&&◌, nat_le, nat_lt, Bool, false, Some, Result, Ok, Err, List, [], ◌∷◌}
 use Rattle.std.specs.List.{Contains}
 use Rattle.morsel_meaning.specs.declared.fault.Fault.{Fault}
 use Rattle.morsel_meaning.specs.declared.fault.Fault.TheVariants as faults

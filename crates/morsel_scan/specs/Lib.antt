@@ -5,3 +5,6 @@ pub mod ScanRows
 pub mod CsvScans
 pub mod CsvPieces
 pub mod Ahead
+pub mod ScanLaws
+pub mod AheadLaws
+pub mod CsvLaws

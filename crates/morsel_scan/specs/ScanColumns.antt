@@ -1,5 +1,5 @@
 -- The columns of a scan: those of its files, the row index before them and the path after them; which are used, and which are kept.
-use Rattle.std.specs.Prelude.{ℕ, ◌+◌, ◌==◌, ◌||◌, pos, Bool, true, false, Option, Some, None, List, [], ◌∷◌, ◌++◌, map, length}
+use Rattle.std.specs.Prelude.{ℕ, ◌+◌, ◌==◌, ◌||◌, pos, Bool, Option, Some, None, List, [], ◌∷◌, ◌++◌, map, length}
 use Rattle.morsel_meaning.specs.declared.value.ColType.TheVariants as types
 use Rattle.morsel_meaning.specs.declared.value.Value.{Value}
 use Rattle.morsel_meaning.specs.declared.value.Value.TheVariants as values

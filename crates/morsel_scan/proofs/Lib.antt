@@ -1,0 +1,4 @@
+pub mod GatherLemmas
+pub mod PieceLemmas
+pub mod AheadLemmas
+pub mod CsvPieceLemmas
