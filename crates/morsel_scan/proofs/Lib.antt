@@ -2,3 +2,10 @@ pub mod GatherLemmas
 pub mod PieceLemmas
 pub mod AheadLemmas
 pub mod CsvPieceLemmas
+pub mod FilterLemmas
+pub mod SliceLemmas
+pub mod CutLemmas
+pub mod WidthLemmas
+pub mod ColumnLemmas
+pub mod ChoiceLemmas
+pub mod FinishLemmas

@@ -1,6 +1,5 @@
 -- What a scan of CSV files means, and what a piece of such a file means by itself.
-use Rattle.std.specs.Prelude.{◌≡◌, ◌⊎◌, ℕ, ◌+◌, ◌&&◌, nat_le, nat_lt, Bool, false, Some, Result, Ok, Err, List, [], ◌∷◌}
-use Rattle.std.specs.List.{Contains}
+use Rattle.std.specs.Prelude.{◌≡◌, ◌⊎◌, ℕ, ◌+◌, ◌&&◌, nat_le, nat_lt, Bool, false, Some, Result, Ok, Err, List, [], ◌∷◌, ◌++◌}
 use Rattle.morsel_meaning.specs.declared.fault.Fault.{Fault}
 use Rattle.morsel_meaning.specs.declared.fault.Fault.TheVariants as faults
 use Rattle.morsel_meaning.specs.Values.{Row, Table, kinds_of}
@@ -8,7 +7,7 @@ use Rattle.morsel_grammar.specs.Rows.{mark_len, unmarked}
 use Rattle.morsel_grammar.specs.Reading.{Reading, reading}
 use Rattle.morsel_grammar.specs.Results.{refusal_fault}
 use Rattle.morsel_pipe.specs.Pieces.{Piece}
-use Rattle.morsel_scan.specs.Scans.{CsvScan}
+use Rattle.morsel_scan.specs.Scans.{Scan, CsvScan}
 use Rattle.morsel_scan.specs.ScanColumns.{output_fields}
 use Rattle.morsel_scan.specs.ScanRows.{SourceRows, Placed, placed, scanned, scanned_source, scan_rows}
 
@@ -46,11 +45,14 @@ piece_rows s piece = scanned_source s.scan (piece_keeps piece) piece.first_row (
 abbrev pub piece_placed : CsvScan → Piece → List Placed
 piece_placed s piece = placed piece.first_row piece.file piece.source (piece_source s piece).rows
 
+-- one of these rows has the fault
+abbrev pub HasRowFault : Scan → (ℕ → Bool) → List Placed → Fault → Type 0
+HasRowFault scan keeps rows fault = (before : List Placed) × (row : Placed) × (after : List Placed) × (rows ≡ before ++ row ∷ after) × (scanned scan keeps row ≡ Err fault)
+
 -- a fault of a piece: that of a record that is refused, or of a row; or at any time out of memory
 abbrev pub IsPieceFault : CsvScan → Piece → Fault → Type 0
 IsPieceFault s piece faults.OutOfMemory = Unit {0}
-IsPieceFault s piece fault = ((piece_source s piece).fault ≡ Some fault)
-    ⊎ ((row : Placed) × Contains (piece_placed s piece) row × (scanned s.scan (piece_keeps piece) row ≡ Err fault))
+IsPieceFault s piece fault = ((piece_source s piece).fault ≡ Some fault) ⊎ (HasRowFault s.scan (piece_keeps piece) (piece_placed s piece) fault)
 
 -- a piece is decoded: its rows, all of them, or one of its faults
 abbrev pub Decodes : CsvScan → Piece → Result Table Fault → Type 0

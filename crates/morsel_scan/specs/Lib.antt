@@ -8,3 +8,6 @@ pub mod Ahead
 pub mod ScanLaws
 pub mod AheadLaws
 pub mod CsvLaws
+pub mod Filters
+pub mod Decoding
+pub mod Nodes
