@@ -1,17 +1,15 @@
 -- What a predicate says of a row without its unused columns, and what is kept of such a row.
-use Rattle.std.proofs.Common.{◌≡◌, ℕ, zero, suc, ◌+◌, ◌<◌, ◌≤◌, ap, sym, subst, refl, ◌∙◌, inl, inr, arith, append_assoc}
-use Rattle.std.specs.Prelude.{◌⊎◌, Bool, true, false, not, ◌||◌, nat_lt, cond, if◌then◌else◌, Option, Some, None, List, [], ◌∷◌, ◌++◌, length, map, take, drop, get_or}
-use Rattle.std.specs.List.{list_any, position_or_len}
+use Rattle.std.proofs.Common.{◌≡◌, ℕ, suc, ◌+◌, ◌<◌, ◌≤◌, ap, sym, refl, ◌∙◌, inl, inr, arith}
+use Rattle.std.specs.Prelude.{◌⊎◌, Bool, true, false, not, ◌||◌, nat_lt, cond, if◌then◌else◌, Option, Some, None, List, [], ◌∷◌, ◌++◌, length, map}
+use Rattle.std.specs.List.{position_or_len}
 use Rattle.std.specs.Str.{bytes_eq}
 use Rattle.std.proofs.lemmas.Bool.{cases_lt, lt-ltb, le-ltb}
 use Rattle.std.proofs.lemmas.List.Folds.{list_any-append}
 use Rattle.std.proofs.lemmas.Slice.Eq.{bytes_eq-Decides}
 use Rattle.morsel_meaning.specs.declared.value.Value.{Value}
-use Rattle.morsel_meaning.specs.declared.value.Value.TheVariants as values
 use Rattle.morsel_meaning.specs.declared.value.Field.{Field}
 use Rattle.morsel_meaning.specs.Values.{Row}
 use Rattle.morsel_frame.specs.Names.{stands_in}
-use Rattle.morsel_frame.specs.Tables.{cell_at}
 use Rattle.morsel_grammar.specs.Cells.{CsvCell, Good, Bad}
 use Rattle.morsel_grammar.specs.Reading.{chosen, used_values}
 use Rattle.morsel_expr.specs.declared.node.Rhs.{Rhs}
@@ -19,7 +17,7 @@ use Rattle.morsel_expr.specs.declared.node.Rhs.TheVariants as sides
 use Rattle.morsel_expr.specs.declared.node.PredNode.{PredNode}
 use Rattle.morsel_expr.specs.declared.node.PredNode.TheVariants as nodes
 use Rattle.morsel_expr.specs.Truths.{least, greatest, mirror, certain}
-use Rattle.morsel_expr.specs.Predicates.{is_null, compared, asserted, place_of, value_at_place, value_under, side, truth}
+use Rattle.morsel_expr.specs.Predicates.{is_null, compared, asserted, value_at_place, value_under, side, truth}
 use Rattle.morsel_scan.specs.ScanColumns.{names_in, names_in_side}
 use Rattle.morsel_scan.specs.ScanRows.{good_value}
 

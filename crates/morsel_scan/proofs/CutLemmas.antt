@@ -1,14 +1,13 @@
 -- A text that is cut before the record of a row.
-use Rattle.std.proofs.Common.{◌≡◌, ℕ, zero, suc, ◌+◌, ◌<◌, ◌≤◌, ap, sym, subst, refl, ◌∙◌, inl, inr, arith, take, drop, length-append, append-nil}
-use Rattle.std.specs.Prelude.{◌⊎◌, Bool, true, false, Option, Some, None, List, [], ◌∷◌, ◌++◌, length, map}
+use Rattle.std.proofs.Common.{◌≡◌, ℕ, zero, suc, ◌+◌, ◌≤◌, ap, sym, subst, refl, ◌∙◌, arith}
+use Rattle.std.specs.Prelude.{false, Some, None, List, [], ◌∷◌, ◌++◌, length, map}
 use Rattle.std.proofs.lemmas.List.{length-map}
 use Rattle.morsel_meaning.specs.declared.value.ColType.{ColType}
-use Rattle.morsel_meaning.specs.Values.{kinds_of}
 use Rattle.morsel_grammar.specs.Options.{Options, AreOptions}
-use Rattle.morsel_grammar.specs.Grammar.{CsvRecord, Records}
+use Rattle.morsel_grammar.specs.Grammar.{CsvRecord}
 use Rattle.morsel_grammar.specs.Cells.{CsvCell}
-use Rattle.morsel_grammar.specs.Reading.{Refusal, Reading, reading, row_place}
-use Rattle.morsel_grammar.specs.GrammarRows.{AreWholeRecords, HasRows, HasRowsBefore, HasRowAt}
+use Rattle.morsel_grammar.specs.Reading.{reading, row_place}
+use Rattle.morsel_grammar.specs.GrammarRows.{AreWholeRecords, HasRows}
 use Rattle.morsel_grammar.proofs.FileLemmas.{reads_all_cells, places_rows}
 use Rattle.morsel_grammar.proofs.OneEndLemmas.{records_whole}
 

@@ -1,6 +1,6 @@
 -- The rows that a filter keeps.
 use Rattle.std.proofs.Common.{◌≡◌, ap, sym, refl, ◌∙◌}
-use Rattle.std.specs.Prelude.{Bool, true, false, List, [], ◌∷◌, map, if◌then◌else◌, Some, Result, Ok, Err, IfOk, IsOkUnless}
+use Rattle.std.specs.Prelude.{true, List, [], ◌∷◌, map, if◌then◌else◌, Some, Result, Ok, Err, IfOk, IsOkUnless}
 use Rattle.std.specs.List.{filter}
 use Rattle.morsel_meaning.specs.declared.value.Field.{Field}
 use Rattle.morsel_meaning.specs.declared.fault.Fault.{Fault}

@@ -1,9 +1,9 @@
 -- From the values of used columns to the rows of a scan.
-use Rattle.std.proofs.Common.{◌≡◌, ℕ, zero, suc, ◌+◌, ◌<◌, ◌≤◌, ap, sym, subst, refl, ◌∙◌, inl, inr, arith, append_assoc, append-nil, length-append}
-use Rattle.std.specs.Prelude.{◌⊎◌, Bool, true, false, ◌||◌, nat_le, cond, if◌then◌else◌, Option, Some, None, Result, Ok, Err, List, [], ◌∷◌, ◌++◌, length, map, pos}
+use Rattle.std.proofs.Common.{◌≡◌, ℕ, suc, ◌+◌, ap, sym, refl, ◌∙◌, inl, inr, arith, length-append}
+use Rattle.std.specs.Prelude.{Bool, true, false, ◌||◌, cond, if◌then◌else◌, Option, Some, None, Ok, Err, List, [], ◌∷◌, ◌++◌, length, map, pos}
 use Rattle.std.specs.List.{filter}
 use Rattle.std.specs.Str.{bytes_eq}
-use Rattle.std.proofs.lemmas.Bool.{le-leb, lt-leb}
+use Rattle.std.proofs.lemmas.Bool.{le-leb}
 use Rattle.std.proofs.lemmas.Slice.Eq.{bytes_eq-Decides}
 use Rattle.std.proofs.lemmas.List.{length-map}
 use Rattle.morsel_meaning.specs.declared.value.Value.{Value}
@@ -15,22 +15,21 @@ use Rattle.morsel_meaning.specs.declared.fault.Fault.TheVariants.{ComputeError}
 use Rattle.morsel_meaning.specs.declared.fault.ComputeKind.TheVariants as kinds
 use Rattle.morsel_meaning.specs.Values.{Row}
 use Rattle.morsel_frame.specs.Names.{stands_in}
-use Rattle.morsel_frame.specs.Tables.{cells_at, numbered, with_text}
+use Rattle.morsel_frame.specs.Tables.{cells_at}
 use Rattle.morsel_grammar.specs.Cells.{CsvCell}
 use Rattle.morsel_grammar.specs.Reading.{chosen, used_values}
 use Rattle.morsel_grammar.specs.GrammarRows.{values_of}
 use Rattle.morsel_expr.specs.declared.node.PredNode.{PredNode}
 use Rattle.morsel_expr.specs.Truths.{is_true}
-use Rattle.morsel_expr.specs.Predicates.{value_under, truth}
+use Rattle.morsel_expr.specs.Predicates.{value_under}
 use Rattle.morsel_scan.specs.declared.spec.RowIndex.{RowIndex}
 use Rattle.morsel_scan.specs.Scans.{Scan}
-use Rattle.morsel_scan.specs.ScanColumns.{names_in, filter_names, is_kept, kept_columns, used_columns, index_fields, path_fields, index_values, path_values, whole_fields, output_fields}
-use Rattle.morsel_scan.specs.ScanRows.{Placed, placed, good_value, whole_row, output_row, passes, index_fits, sound_row, row_of_values, scanned, gathered_then, gathered}
+use Rattle.morsel_scan.specs.ScanColumns.{filter_names, is_kept, kept_columns, used_columns, index_fields, path_fields, index_values, path_values, whole_fields}
+use Rattle.morsel_scan.specs.ScanRows.{Placed, placed, good_value, whole_row, output_row, passes, index_fits, row_of_values, scanned, gathered_then, gathered}
 use Rattle.morsel_scan.specs.Decoding.{step_fields, all_of, step_mask, true_places, step_row, step_rows, chosen_rows, NumbersFit}
-use Rattle.morsel_scan.specs.Nodes.{indexed, pathed}
 use Rattle.morsel_scan.proofs.SliceLemmas.{always}
 use Rattle.morsel_scan.proofs.WidthLemmas.{AreWide}
-use Rattle.morsel_scan.proofs.ColumnLemmas.{AreNamedUsed, value_under-first, value_under-used, truth-alike, AreKeptUsed, chosen-used, chosen-chosen, length-used}
+use Rattle.morsel_scan.proofs.ColumnLemmas.{AreNamedUsed, value_under-first, value_under-used, truth-alike, AreKeptUsed, chosen-used, length-used}
 use Rattle.morsel_scan.proofs.ChoiceLemmas.{cells_at-places}
 
 -- which fields pass a test
@@ -60,13 +59,13 @@ uses scan name = is_kept scan.asked.columns name || stands_in name (filter_names
 are_used : (scan : Scan) (name : List ℕ) → stands_in name (filter_names scan.filter) ≡ true → AreNamedUsed (used_columns scan) scan.fields name
 are_used scan name is = named_used (uses scan) scan.fields name (or_right (is_kept scan.asked.columns name) (stands_in name (filter_names scan.filter)) is)
 
-are_kept : (scan : Scan) → AreKeptUsed (kept_columns scan) (used_columns scan)
+pub are_kept : (scan : Scan) → AreKeptUsed (kept_columns scan) (used_columns scan)
 are_kept scan = kept_used (is_kept scan.asked.columns) (uses scan) scan.fields (λ name is. or_left (is_kept scan.asked.columns name) (stands_in name (filter_names scan.filter)) is)
 
-kept_width : (scan : Scan) → length (kept_columns scan) ≡ length scan.fields
+pub kept_width : (scan : Scan) → length (kept_columns scan) ≡ length scan.fields
 kept_width scan = length-map scan.fields (λ (field : Field). is_kept scan.asked.columns field.name)
 
-used_width : (scan : Scan) → length (used_columns scan) ≡ length scan.fields
+pub used_width : (scan : Scan) → length (used_columns scan) ≡ length scan.fields
 used_width scan = length-map scan.fields (λ (field : Field). is_kept scan.asked.columns field.name || stands_in field.name (filter_names scan.filter))
 
 -- what is the same behind a row index is the same
@@ -106,7 +105,7 @@ mask_width : (scan : Scan) (position : ℕ) (source : List ℕ) (cells : List Cs
     → length (step_mask scan) ≡ length (step_row scan position source found)
 mask_width scan position source cells found wide is =
     let used : length (chosen (used_columns scan) (kept_columns scan)) ≡ length found =
-        length-used (kept_columns scan) (used_columns scan) cells found (kept_width scan ∙ sym (used_width scan)) (wide ∙ sym (used_width scan)) is in
+    length-used (kept_columns scan) (used_columns scan) cells found (kept_width scan ∙ sym (used_width scan)) (wide ∙ sym (used_width scan)) is in
     length-append (all_of (index_fields scan.asked.row_index)) (chosen (used_columns scan) (kept_columns scan) ++ all_of (path_fields scan.asked.path))
     ∙ ap (λ n. length (all_of (index_fields scan.asked.row_index)) + n) (length-append (chosen (used_columns scan) (kept_columns scan)) (all_of (path_fields scan.asked.path)))
     ∙ ap (λ n. n + (length (chosen (used_columns scan) (kept_columns scan)) + length (all_of (path_fields scan.asked.path)))) (one scan.asked.row_index)
@@ -118,6 +117,7 @@ mask_width scan position source cells found wide is =
     one : (index : Option RowIndex) → length (all_of (index_fields index)) ≡ length (index_values index position)
     one None = refl
     one (Some index) = refl
+
     last : (path : Option (List ℕ)) → length (all_of (path_fields path)) ≡ length (path_values path source)
     last None = refl
     last (Some name) = refl
@@ -143,7 +143,7 @@ fits_later (Some index) position more (inl none) = absurd (omega arith)
 fits_later (Some index) position more (inr fit) = inr (omega arith)
 
 -- the values of a first row and of those after it
-values-first : (used : List Bool) (cells : List CsvCell) (rows : List (List CsvCell)) (found : List Row) → values_of used (cells ∷ rows) ≡ Some found
+pub values-first : (used : List Bool) (cells : List CsvCell) (rows : List (List CsvCell)) (found : List Row) → values_of used (cells ∷ rows) ≡ Some found
     → (first : Row) × (later : List Row) × (used_values used cells ≡ Some first) × (values_of used rows ≡ Some later) × (found ≡ first ∷ later)
 values-first used cells rows found is = by (used_values used cells) (values_of used rows) refl refl
   where
@@ -169,7 +169,7 @@ gathered-finish scan position file name (row ∷ rows) found is wide fit =
     let rest : List Row = filter (passes scan.filter (step_fields scan)) (step_rows scan (position + 1) name first.1) in
     let places : List ℕ = true_places 0 (step_mask scan) in
     let passed : passes scan.filter (whole_fields scan) (whole_row scan one) ≡ passes scan.filter (step_fields scan) step =
-        sym (passes-same scan.filter (step_fields scan) (whole_fields scan) step (whole_row scan one) (λ n stands. same_under scan one first.0 n wide.0 first.2 stands)) in
+    sym (passes-same scan.filter (step_fields scan) (whole_fields scan) step (whole_row scan one) (λ n stands. same_under scan one first.0 n wide.0 first.2 stands)) in
     ap (λ x. gathered_then (row_of_values scan one x) (gathered (scanned scan always) (placed (position + 1) file name rows))) first.2
     ∙ ap (λ t. gathered_then (if t then Ok (if passes scan.filter (whole_fields scan) (whole_row scan one) then Some (output_row scan one) else None) else Err (ComputeError kinds.IndexTooLarge 4294967295 0))
     (gathered (scanned scan always) (placed (position + 1) file name rows))) (fits_first scan.asked.row_index position (length rows) fit)

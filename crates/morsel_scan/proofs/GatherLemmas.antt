@@ -106,7 +106,7 @@ gathered-alike scan a b position file name (row ∷ rows) alike =
     let one : Placed = record { position = position; file = file; source = name; at = row.0; cells = row.1 } in
     let made : Result (Option Row) Fault = row_of_values scan one (used_values (used_columns scan) row.1) in
     let later : KeepAlike a b (position + 1) (length rows) = λ n within.
-        let same : position + (n + 1) ≡ position + 1 + n = omega arith in
-        ap a (sym same) ∙ alike (n + 1) (omega arith) ∙ ap b same in
+    let same : position + (n + 1) ≡ position + 1 + n = omega arith in
+    ap a (sym same) ∙ alike (n + 1) (omega arith) ∙ ap b same in
     ap (λ t. gathered_then (if t then made else Ok None) (gathered (scanned scan a) (placed (position + 1) file name rows))) here
     ∙ ap (gathered_then (scanned scan b one)) (gathered-alike scan a b (position + 1) file name rows later)

@@ -9,3 +9,9 @@ pub mod WidthLemmas
 pub mod ColumnLemmas
 pub mod ChoiceLemmas
 pub mod FinishLemmas
+pub mod ReadLemmas
+pub mod DecodeLemmas
+pub mod DecodedLemmas
+pub mod StepLemmas
+mod WorkedFacts
+pub mod RowCutLemmas

@@ -1,14 +1,14 @@
 -- Rows that are read have a cell for each column.
-use Rattle.std.proofs.Common.{◌≡◌, ℕ, zero, suc, ◌+◌, ◌-◌, ap, sym, refl, ◌∙◌, take, drop}
-use Rattle.std.specs.Prelude.{Bool, true, false, not, if◌then◌else◌, Option, Some, None, List, [], ◌∷◌, ◌++◌, length}
+use Rattle.std.proofs.Common.{◌≡◌, ℕ, zero, suc, ◌+◌, ◌-◌, ap, refl, take, drop}
+use Rattle.std.specs.Prelude.{Bool, true, false, not, if◌then◌else◌, Option, Some, None, List, [], ◌∷◌, length}
 use Rattle.std.specs.Str.{is_utf8}
 use Rattle.morsel_meaning.specs.declared.value.ColType.{ColType}
 use Rattle.morsel_grammar.specs.Options.{Options}
 use Rattle.morsel_grammar.specs.Grammar.{CsvField, CsvRecord, Comment, Fields}
-use Rattle.morsel_grammar.specs.Cells.{CsvCell, cell_of}
+use Rattle.morsel_grammar.specs.Cells.{CsvCell}
 use Rattle.morsel_grammar.specs.Rows.{RowOf, NoRow, IsRow, Misfit, is_empty, cells_of, row_or_misfit, row_of_nothing, is_header, row_of}
 use Rattle.morsel_grammar.specs.Split.{record_at}
-use Rattle.morsel_grammar.specs.Reading.{Malformed, NotUtf8, Reading, ends, refuses, row_then, split_then, reading_up_to, reading}
+use Rattle.morsel_grammar.specs.Reading.{NotUtf8, Reading, refuses, row_then, split_then, reading_up_to, reading}
 
 -- each row has so many cells
 abbrev pub AreWide : ℕ → List (ℕ × List CsvCell) → Type 0

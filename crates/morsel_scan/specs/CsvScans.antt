@@ -49,10 +49,14 @@ piece_placed s piece = placed piece.first_row piece.file piece.source (piece_sou
 abbrev pub HasRowFault : Scan → (ℕ → Bool) → List Placed → Fault → Type 0
 HasRowFault scan keeps rows fault = (before : List Placed) × (row : Placed) × (after : List Placed) × (rows ≡ before ++ row ∷ after) × (scanned scan keeps row ≡ Err fault)
 
--- a fault of a piece: that of a record that is refused, or of a row; or at any time out of memory
+-- what holds of a fault, unless memory is out, which it may be at any time
+abbrev pub UnlessOutOfMemory : Fault → Type 0 → Type 0
+UnlessOutOfMemory faults.OutOfMemory P = Unit {0}
+UnlessOutOfMemory fault P = P
+
+-- a fault of a piece: that of a record that is refused, or of a row; or memory is out
 abbrev pub IsPieceFault : CsvScan → Piece → Fault → Type 0
-IsPieceFault s piece faults.OutOfMemory = Unit {0}
-IsPieceFault s piece fault = ((piece_source s piece).fault ≡ Some fault) ⊎ (HasRowFault s.scan (piece_keeps piece) (piece_placed s piece) fault)
+IsPieceFault s piece fault = UnlessOutOfMemory fault (((piece_source s piece).fault ≡ Some fault) ⊎ (HasRowFault s.scan (piece_keeps piece) (piece_placed s piece) fault))
 
 -- a piece is decoded: its rows, all of them, or one of its faults
 abbrev pub Decodes : CsvScan → Piece → Result Table Fault → Type 0

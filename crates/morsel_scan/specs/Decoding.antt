@@ -4,22 +4,20 @@ use Rattle.std.specs.List.{filter}
 use Rattle.morsel_meaning.specs.declared.value.Field.{Field}
 use Rattle.morsel_meaning.specs.declared.fault.Fault.{Fault}
 use Rattle.morsel_meaning.specs.declared.fault.Fault.TheVariants as faults
-use Rattle.morsel_meaning.specs.declared.fault.ComputeKind.{ComputeKind}
 use Rattle.morsel_meaning.specs.declared.fault.ComputeKind.TheVariants as kinds
 use Rattle.morsel_meaning.specs.Values.{Row, Table, kinds_of}
 use Rattle.morsel_frame.specs.Tables.{cells_at}
 use Rattle.morsel_grammar.specs.Grammar.{CsvRecord}
 use Rattle.morsel_grammar.specs.Cells.{CsvCell}
-use Rattle.morsel_grammar.specs.Reading.{Refusal, reading, chosen, used_values}
+use Rattle.morsel_grammar.specs.Reading.{Reading, reading, chosen, used_values}
 use Rattle.morsel_grammar.specs.Results.{refusal_fault}
 use Rattle.morsel_grammar.specs.GrammarRows.{AreWholeRecords, values_of}
-use Rattle.morsel_expr.specs.declared.node.PredNode.{PredNode}
 use Rattle.morsel_pipe.specs.Pieces.{Piece}
 use Rattle.morsel_scan.specs.declared.spec.RowIndex.{RowIndex}
 use Rattle.morsel_scan.specs.Scans.{Scan, CsvScan}
 use Rattle.morsel_scan.specs.ScanColumns.{kept_columns, used_columns, index_fields, path_fields, index_values, path_values}
 use Rattle.morsel_scan.specs.ScanRows.{passes}
-use Rattle.morsel_scan.specs.CsvScans.{piece_source, IsPieceFault}
+use Rattle.morsel_scan.specs.CsvScans.{piece_source, UnlessOutOfMemory, IsPieceFault}
 
 -- a piece can be decoded: its slice is within its rows, and its positions and places within their types
 pub record FitsScan (piece : Piece) : Type 0 where
@@ -68,10 +66,9 @@ abbrev pub NumbersPass : Option RowIndex → ℕ → ℕ → Type 0
 NumbersPass None position rows = ⊥
 NumbersPass (Some index) position rows = (0 < rows) × (4294967295 < index.offset + (position + rows))
 
--- the fault of a number past 32 bits, or out of memory
+-- the fault of a number past 32 bits, or memory is out
 abbrev pub IsNumberFault : Option RowIndex → ℕ → ℕ → Fault → Type 0
-IsNumberFault index position rows faults.OutOfMemory = Unit {0}
-IsNumberFault index position rows fault = (fault ≡ faults.ComputeError kinds.IndexTooLarge 4294967295 0) × NumbersPass index position rows
+IsNumberFault index position rows fault = UnlessOutOfMemory fault ((fault ≡ faults.ComputeError kinds.IndexTooLarge 4294967295 0) × NumbersPass index position rows)
 
 -- the values of used columns were made into rows of the scan
 abbrev pub Finishes : Scan → ℕ → List ℕ → Table → Result Table Fault → Type 0
@@ -79,37 +76,37 @@ Finishes scan position source read (Ok made) = (made.rows ≡ chosen_rows scan (
     × (made.schema ≡ chosen (step_mask scan) (step_fields scan)) × NumbersFit scan.asked.row_index position (length read.rows)
 Finishes scan position source read (Err fault) = IsNumberFault scan.asked.row_index position (length read.rows) fault
 
--- a row has a bad cell in a used column, and its place is the fault's
-abbrev pub HasBadRow : CsvScan → ℕ → List (ℕ × List CsvCell) → Fault → Type 0
-HasBadRow s file rows fault = (before : List (ℕ × List CsvCell)) × (row : ℕ × List CsvCell) × (after : List (ℕ × List CsvCell))
-    × (rows ≡ before ++ row ∷ after) × (used_values (used_columns s.scan) row.1 ≡ None) × (fault ≡ faults.ComputeError kinds.IllTyped file row.0)
+-- one of so many first rows has a bad cell in a used column, and its place is the fault's
+abbrev pub HasBadRow : CsvScan → ℕ → ℕ → List (ℕ × List CsvCell) → Fault → Type 0
+HasBadRow s file len rows fault = (before : List (ℕ × List CsvCell)) × (row : ℕ × List CsvCell) × (after : List (ℕ × List CsvCell))
+    × (rows ≡ before ++ row ∷ after) × (length before < len) × (used_values (used_columns s.scan) row.1 ≡ None) × (fault ≡ faults.ComputeError kinds.IllTyped file row.0)
 
--- a text of a file was not read: a record is refused, or a row has a bad cell; or memory is out
-abbrev pub IsTextFault : CsvScan → ℕ → ℕ → List ℕ → Fault → Type 0
-IsTextFault s file at text faults.OutOfMemory = Unit {0}
-IsTextFault s file at text fault = (let r = reading s.options (kinds_of s.scan.fields) false at text in
-    (refusal_fault file r.refusal ≡ Some fault) ⊎ (HasBadRow s file r.rows fault))
+-- what is read of a text of a file, which stands after the header
+abbrev pub text_reading : CsvScan → ℕ → List ℕ → Reading
+text_reading s at text = reading s.options (kinds_of s.scan.fields) false at text
 
--- a text of a file, which stands after the header, was read into its used columns
+-- so many first rows of a text were read into the used columns, and no record is refused; or a fault
+abbrev pub ReadsFirst : CsvScan → ℕ → ℕ → List ℕ → ℕ → Result Table Fault → Type 0
+ReadsFirst s file at text len (Ok frame) = ((text_reading s at text).refusal ≡ None) × (frame.schema ≡ chosen (used_columns s.scan) s.scan.fields)
+    × (values_of (used_columns s.scan) (map (λ (row : ℕ × List CsvCell). row.1) (take len (text_reading s at text).rows)) ≡ Some frame.rows)
+ReadsFirst s file at text len (Err fault) =
+    UnlessOutOfMemory fault ((refusal_fault file (text_reading s at text).refusal ≡ Some fault) ⊎ (HasBadRow s file len (text_reading s at text).rows fault))
+
+-- the same of all rows of a text
 abbrev pub ReadsText : CsvScan → ℕ → ℕ → List ℕ → Result Table Fault → Type 0
-ReadsText s file at text (Ok frame) = (let r = reading s.options (kinds_of s.scan.fields) false at text in
-    (r.refusal ≡ None) × (frame.schema ≡ chosen (used_columns s.scan) s.scan.fields)
-    × (values_of (used_columns s.scan) (map (λ (row : ℕ × List CsvCell). row.1) r.rows) ≡ Some frame.rows))
-ReadsText s file at text (Err fault) = IsTextFault s file at text fault
+ReadsText s file at text result = ReadsFirst s file at text (length (text_reading s at text).rows) result
 
--- no record of a text of a file is refused, or one is; or memory is out
+-- no record of a text is refused, or one is; or memory is out
 abbrev pub ChecksText : CsvScan → ℕ → ℕ → List ℕ → Result (Unit {0}) Fault → Type 0
-ChecksText s file at text (Ok _) = (reading s.options (kinds_of s.scan.fields) false at text).refusal ≡ None
-ChecksText s file at text (Err faults.OutOfMemory) = Unit {0}
-ChecksText s file at text (Err fault) = refusal_fault file (reading s.options (kinds_of s.scan.fields) false at text).refusal ≡ Some fault
+ChecksText s file at text (Ok _) = (text_reading s at text).refusal ≡ None
+ChecksText s file at text (Err fault) = UnlessOutOfMemory fault (refusal_fault file (text_reading s at text).refusal ≡ Some fault)
 
--- a text is cut before the record of its row of this number, or at its end where it has no such row
+-- a text is cut after whole records that have so many rows; or at its end, and it has no more rows than that
 pub record IsCut (s : CsvScan) (at : ℕ) (text : List ℕ) (row cut : ℕ) : Type 0 where
   pub within : cut ≤ length text
-  pub found : ((records : List CsvRecord) × AreWholeRecords s.options (take cut text) records
-      × ((reading s.options (kinds_of s.scan.fields) false at (take cut text)).refusal ≡ None)
-      × (length (reading s.options (kinds_of s.scan.fields) false at (take cut text)).rows ≡ row))
-      ⊎ ((cut ≡ length text) × (length (reading s.options (kinds_of s.scan.fields) false at text).rows ≤ row))
+  pub found : ((records : List CsvRecord) × AreWholeRecords s.options (take cut text) records × ((text_reading s at (take cut text)).refusal ≡ None)
+      × (length (text_reading s at (take cut text)).rows ≡ row))
+      ⊎ ((cut ≡ length text) × (length (text_reading s at text).rows ≤ row))
 
 -- the rows of a piece that its slice keeps were read into the used columns
 abbrev pub ReadsKept : CsvScan → Piece → Result Table Fault → Type 0

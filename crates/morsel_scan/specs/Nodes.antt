@@ -1,5 +1,5 @@
 -- What a node that decodes pieces has found of its scan; and what adding the row index, the path and the filter makes of rows.
-use Rattle.std.specs.Prelude.{◌≡◌, ℕ, ◌+◌, Bool, false, Option, Some, None, Result, Ok, Err, List, [], ◌∷◌, ◌++◌, map, length, IfSome}
+use Rattle.std.specs.Prelude.{◌≡◌, ℕ, ◌+◌, Bool, false, Option, Some, None, Result, Ok, Err, List, ◌++◌, map, length}
 use Rattle.std.specs.List.{filter}
 use Rattle.morsel_meaning.specs.declared.value.Field.{Field}
 use Rattle.morsel_meaning.specs.declared.fault.Fault.{Fault}
@@ -8,7 +8,7 @@ use Rattle.morsel_meaning.specs.Values.{Row, Table}
 use Rattle.morsel_frame.specs.Tables.{numbered, with_text}
 use Rattle.morsel_expr.specs.declared.node.PredNode.{PredNode}
 use Rattle.morsel_scan.specs.declared.spec.RowIndex.{RowIndex}
-use Rattle.morsel_scan.specs.Scans.{Scan, CsvScan}
+use Rattle.morsel_scan.specs.Scans.{Scan}
 use Rattle.morsel_scan.specs.ScanColumns.{used_columns, index_fields, path_fields}
 use Rattle.morsel_scan.specs.ScanRows.{passes}
 use Rattle.morsel_scan.specs.Filters.{Filter}

@@ -24,12 +24,7 @@ pub fn with_index(
 }
 
 /// Adds a row index. The first row has this position.
-fn add_index(
-    alloc: Global,
-    frame: Frame,
-    index: &RowIndex,
-    position: u64,
-) -> Result<Frame, Fault>
+fn add_index(alloc: Global, frame: Frame, index: &RowIndex, position: u64) -> Result<Frame, Fault>
     requires { position ≤ 4294967295 }
     ensures { AddsIndex (Some index.now) position frame result }
 {
@@ -49,12 +44,7 @@ fn add_index(
 }
 
 /// Adds a row index from this number on.
-fn put_index(
-    alloc: Global,
-    frame: Frame,
-    index: &RowIndex,
-    first: u32,
-) -> Result<Frame, Fault>
+fn put_index(alloc: Global, frame: Frame, index: &RowIndex, first: u32) -> Result<Frame, Fault>
     ensures { PutsIndex index.now first frame result }
 {
     let name = Name::new(alloc, index.name.as_str())?;

@@ -16,8 +16,8 @@ returns-clause-ok c =
     let step : Filter = record { fields = c.self.inside.schema; node = c.self.inside.pred } in
     let of_step : c.args.frame.schema ≡ c.self.inside.schema = c.requires.fields ∙ sym (ap (λ (f : Filter). f.fields) c.self.view_is) in
     let kept : kept_rows rows c.deref.result.now ≡ true_of step rows =
-        ap (kept_rows rows) (c.deref.ensures.value ∙ c.in_ok-truths.ensures.ok)
-        ∙ kept_by_truths (truth c.args.frame.schema c.self.inside.pred) rows
-        ∙ ap (λ (fields : List Field). filter (λ row. is_true (truth fields c.self.inside.pred row)) rows) of_step in
+    ap (kept_rows rows) (c.deref.ensures.value ∙ c.in_ok-truths.ensures.ok)
+    ∙ kept_by_truths (truth c.args.frame.schema c.self.inside.pred) rows
+    ∙ ap (λ (fields : List Field). filter (λ row. is_true (truth fields c.self.inside.pred row)) rows) of_step in
     let all = kept ∙ ap (λ (f : Filter). true_of f rows) c.self.view_is in
     subst (λ (r : List Row). IfOk c.filter.result (λ (table : Table). table ≡ record { schema = c.args.frame.schema; rows = r })) all c.filter.ensures.ok
