@@ -1,7 +1,6 @@
 pub mod GatherLemmas
 pub mod PieceLemmas
 pub mod AheadLemmas
-pub mod CsvPieceLemmas
 pub mod FilterLemmas
 pub mod SliceLemmas
 pub mod CutLemmas

@@ -1,5 +1,5 @@
 -- What a scan of CSV files means, and what a piece of such a file means by itself.
-use Rattle.std.specs.Prelude.{◌≡◌, ◌⊎◌, ℕ, ◌+◌, ◌&&◌, nat_le, nat_lt, Bool, false, Some, Result, Ok, Err, List, [], ◌∷◌, ◌++◌}
+use Rattle.std.specs.Prelude.{◌≡◌, ◌⊎◌, ℕ, ◌+◌, ◌<◌, ◌≤◌, ◌^◌, ◌&&◌, nat_le, nat_lt, Bool, false, Some, Result, Ok, Err, List, [], ◌∷◌, ◌++◌, length}
 use Rattle.morsel_meaning.specs.declared.fault.Fault.{Fault}
 use Rattle.morsel_meaning.specs.declared.fault.Fault.TheVariants as faults
 use Rattle.morsel_meaning.specs.Values.{Row, Table, kinds_of}
@@ -19,7 +19,7 @@ read_source file name r = record { file = file; name = name; rows = r.rows; faul
 abbrev pub csv_source : CsvScan → ℕ → List ℕ → List ℕ → SourceRows
 csv_source s file name bytes = read_source file name (reading s.options (kinds_of s.scan.fields) s.options.has_header (mark_len bytes) (unmarked bytes))
 
--- the same of files with these names, whose numbers go on from the first
+-- the same of files with these names, one for each, whose numbers go on from the first
 abbrev pub csv_sources : CsvScan → ℕ → List (List ℕ) → List (List ℕ) → List SourceRows
 csv_sources s first [] files = []
 csv_sources s first (name ∷ names) [] = []
@@ -28,6 +28,12 @@ csv_sources s first (name ∷ names) (bytes ∷ files) = csv_source s first name
 -- the rows of a scan of CSV files
 abbrev pub csv_scan_rows : CsvScan → ℕ → List (List ℕ) → List (List ℕ) → Result (List Row) Fault
 csv_scan_rows s first names files = scan_rows s.scan (csv_sources s first names files)
+
+-- a piece can be decoded: its slice is within its rows, and its positions and places within their types
+pub record FitsScan (piece : Piece) : Type 0 where
+  pub slice : piece.slice.0 + piece.slice.1 ≤ piece.rows
+  pub positions : piece.first_row + piece.rows ≤ 4294967295
+  pub places : piece.at + length piece.bytes < 2 ^ 64
 
 -- the rows of a piece, whose records stand after the header of its file
 abbrev pub piece_source : CsvScan → Piece → SourceRows

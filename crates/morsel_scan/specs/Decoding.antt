@@ -1,5 +1,5 @@
 -- The steps of decoding a piece: its text is cut where the slice begins and ends, and read; then come the row index, the path, the filter, and the choice of columns.
-use Rattle.std.specs.Prelude.{◌≡◌, ◌⊎◌, ℕ, ◌+◌, ◌<◌, ◌≤◌, ◌^◌, Bool, true, false, Option, Some, None, Result, Ok, Err, List, [], ◌∷◌, ◌++◌, map, length, take, drop}
+use Rattle.std.specs.Prelude.{◌≡◌, ◌⊎◌, ℕ, ◌+◌, ◌<◌, ◌≤◌, Bool, true, false, Option, Some, None, Result, Ok, Err, List, [], ◌∷◌, ◌++◌, map, length, take, drop}
 use Rattle.std.specs.List.{filter}
 use Rattle.morsel_meaning.specs.declared.value.Field.{Field}
 use Rattle.morsel_meaning.specs.declared.fault.Fault.{Fault}
@@ -18,12 +18,6 @@ use Rattle.morsel_scan.specs.Scans.{Scan, CsvScan}
 use Rattle.morsel_scan.specs.ScanColumns.{kept_columns, used_columns, index_fields, path_fields, index_values, path_values}
 use Rattle.morsel_scan.specs.ScanRows.{passes}
 use Rattle.morsel_scan.specs.CsvScans.{piece_source, UnlessOutOfMemory, IsPieceFault}
-
--- a piece can be decoded: its slice is within its rows, and its positions and places within their types
-pub record FitsScan (piece : Piece) : Type 0 where
-  pub slice : piece.slice.0 + piece.slice.1 ≤ piece.rows
-  pub positions : piece.first_row + piece.rows ≤ 4294967295
-  pub places : piece.at + length piece.bytes < 2 ^ 64
 
 -- the columns of which a piece's rows are made: the row index, the used columns of the files, the path
 abbrev pub step_fields : Scan → List Field

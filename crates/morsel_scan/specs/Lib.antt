@@ -7,7 +7,6 @@ pub mod CsvPieces
 pub mod Ahead
 pub mod ScanLaws
 pub mod AheadLaws
-pub mod CsvLaws
 pub mod Filters
 pub mod Decoding
 pub mod Nodes

@@ -1,7 +1,6 @@
 //! Laws: what is made of parts of a scan's input is made of the whole.
 ghost use Rattle.morsel_grammar.specs.Options.{AreOptions};
 ghost use Rattle.morsel_scan.specs.Scans.{CsvScan};
-ghost use Rattle.morsel_scan.specs.CsvLaws.{KeepsSlice};
 ghost use Rattle.morsel_scan.specs.ScanLaws.{GathersParts, PlacesParts, ScansParts, ScansSources, ReadsParts, ScansPieces};
 
 /// What is made of rows in two parts is made of the one and then of the other.
@@ -38,10 +37,4 @@ pub fn a_text_has_the_rows_of_its_parts()
 #[tactic(auto, using(crate::proofs::PieceLemmas::scans_pieces))]
 pub fn a_text_is_scanned_piece_by_piece()
     ensures { (s : CsvScan) → AreOptions s.options → ScansPieces s }
-{}
-
-/// A piece of a scan keeps those of its rows that the scan's slice keeps.
-#[tactic(auto, using(crate::proofs::CsvPieceLemmas::keeps_slice))]
-pub fn a_piece_keeps_what_the_slice_keeps()
-    ensures { (s : CsvScan) → KeepsSlice s }
 {}

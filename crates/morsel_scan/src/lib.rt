@@ -13,8 +13,8 @@ pub use ahead::{
 };
 pub use filter_step::FilterStep;
 pub use laws::{
-    a_file_is_scanned_part_by_part, a_piece_keeps_what_the_slice_keeps,
-    a_text_has_the_rows_of_its_parts, a_text_is_scanned_piece_by_piece,
-    files_are_scanned_one_after_the_other, positions_go_on, rows_are_gathered_part_by_part,
+    a_file_is_scanned_part_by_part, a_text_has_the_rows_of_its_parts,
+    a_text_is_scanned_piece_by_piece, files_are_scanned_one_after_the_other, positions_go_on,
+    rows_are_gathered_part_by_part,
 };
 pub use spec::{FileScanOptions, RowIndex, ScanFormat, ScanSpec};
