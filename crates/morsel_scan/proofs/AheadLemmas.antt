@@ -8,7 +8,7 @@ use Rattle.std.proofs.lemmas.List.Sums.{sum_by-append, sum_by-cons}
 use Rattle.std.proofs.Math.Seq.{take-add}
 use Rattle.morsel_outside.specs.declared.events.IoEvent.{IoEvent}
 use Rattle.morsel_outside.specs.declared.events.IoEvent.TheVariants.{ReadAt, Wrote}
-use Rattle.morsel_scan.specs.Ahead.{Axis, one_if, row_bytes, text_size, text_to, is_source, asked_after, IsNextRead, IsInTime, MayRead, ReadsAhead, asked_up_to, written_up_to, Seeks}
+use Rattle.morsel_scan.specs.Ahead.{Axis, one_if, row_bytes, text_size, is_source, asked_after, EndsEachRow, IsWrittenTo, IsNextRead, IsInTime, MayRead, ReadsAhead, asked_up_to, written_up_to, Seeks}
 use Rattle.morsel_scan.specs.AheadLaws.{ReadsOn, CountsOn, ReadsWithin, SeeksInTime, SeeksOnly}
 
 -- a stretch is its two halves
@@ -62,26 +62,31 @@ is_written axis bound given next asked place few begun behind = by (cases_lt nex
     by (inl lt) = let le : next ≤ place = omega arith in absurd (let h = row_bytes-later axis next place asked le in let k = row_bytes-from axis next given asked in omega arith)
     by (inr le) = le
 
-in_time : (axis : Axis) (bound given next asked written : ℕ) → given - next < bound → text_to axis next ≤ written → row_bytes axis given asked ≤ axis.longest → IsInTime axis (bound + axis.longest) asked written
+-- what comes before a written place is written
+written_before : (axis : Axis) (place next written : ℕ) → place ≤ next → IsWrittenTo axis next written → IsWrittenTo axis place written
+written_before axis place next written le (inl none) = inl (let h = sum_by-rises (text_size axis.text_of) axis.gives place next le in omega arith)
+written_before axis place next written le (inr some) = inr (let h = sum_by-rises (text_size axis.text_of) axis.gives place next le in omega arith)
+
+in_time : (axis : Axis) (bound given next asked written : ℕ) → given - next < bound → IsWrittenTo axis next written → row_bytes axis given asked ≤ axis.longest → IsInTime axis (bound + axis.longest) asked written
 in_time axis bound given next asked written few there begun = λ place behind.
-    let h = sum_by-rises (text_size axis.text_of) axis.gives place next (is_written axis bound given next asked place few begun behind) in omega arith
+    written_before axis place next written (is_written axis bound given next asked place few begun behind) there
 
 may_read : (axis : Axis) (w chunk asked written file at len : ℕ) (t : Bool) → IsNextRead axis asked file at len → len ≤ chunk → IsInTime axis w asked written → MayRead axis w chunk asked written file at len t
 may_read axis w chunk asked written file at len true next short soon = (next, short, soon)
 may_read axis w chunk asked written file at len false next short soon = tt
 
 -- reads that are made while few places are given and not written are in time
-seeks-ahead : (axis : Axis) (bound chunk given next asked written : ℕ) (reads : List IoEvent) → given - next < bound → text_to axis next ≤ written → Seeks axis chunk given asked reads
+seeks-ahead : (axis : Axis) (bound chunk given next asked written : ℕ) (reads : List IoEvent) → EndsEachRow axis → given - next < bound → IsWrittenTo axis next written → Seeks axis chunk given asked reads
     → ReadsAhead axis (bound + axis.longest) chunk asked written reads
-seeks-ahead axis bound chunk given next asked written [] few there seeks = tt
-seeks-ahead axis bound chunk given next asked written (ReadAt file at len ∷ reads) few there (is_next, short, begun, source, later) = (
-  may_read axis (bound + axis.longest) chunk asked written file at len (is_source axis file) is_next short (in_time axis bound given next asked written few there begun),
-  subst (λ t. ReadsAhead axis (bound + axis.longest) chunk (if t then asked + len else asked) written reads) (sym source) (seeks-ahead axis bound chunk given next (asked + len) written reads few there later),
+seeks-ahead axis bound chunk given next asked written [] each few there seeks = tt
+seeks-ahead axis bound chunk given next asked written (ReadAt file at len ∷ reads) each few there (is_next, short, none, source, later) = (
+  may_read axis (bound + axis.longest) chunk asked written file at len (is_source axis file) is_next short (in_time axis bound given next asked written few there (each given asked none)),
+  subst (λ t. ReadsAhead axis (bound + axis.longest) chunk (if t then asked + len else asked) written reads) (sym source) (seeks-ahead axis bound chunk given next (asked + len) written reads each few there later),
 )
-seeks-ahead axis bound chunk given next asked written (Wrote len ∷ reads) few there seeks = absurd seeks
+seeks-ahead axis bound chunk given next asked written (Wrote len ∷ reads) each few there seeks = absurd seeks
 
 pub seeks_in_time : SeeksInTime
-seeks_in_time = λ axis bound chunk given next asked written reads few there seeks. seeks-ahead axis bound chunk given next asked written reads few there seeks
+seeks_in_time = λ axis bound chunk given next asked written reads each few there seeks. seeks-ahead axis bound chunk given next asked written reads each few there seeks
 
 ahead-append : (axis : Axis) (w chunk asked written : ℕ) (first later : List IoEvent) → ReadsAhead axis w chunk asked written first
     → ReadsAhead axis w chunk (asked_up_to axis asked first) (written_up_to written first) later → ReadsAhead axis w chunk asked written (first ++ later)

@@ -1,5 +1,5 @@
 -- How far reading runs ahead of writing: over the reads and writes of a run, by what each byte of the sources gives.
-use Rattle.std.specs.Prelude.{◌≡◌, ℕ, ◌+◌, ◌≤◌, nat_eq, Bool, true, false, if◌then◌else◌, Some, Result, Ok, Err, List, [], ◌∷◌, length, take, get_or, slice_get, slice_range}
+use Rattle.std.specs.Prelude.{◌≡◌, ◌⊎◌, ℕ, ◌+◌, ◌<◌, ◌≤◌, nat_eq, Bool, true, false, if◌then◌else◌, Some, Result, Ok, Err, List, [], ◌∷◌, length, take, get_or, slice_get, slice_range}
 use Rattle.std.specs.List.{sum_by, list_any}
 use Rattle.morsel_meaning.specs.declared.fault.Fault.{Fault}
 use Rattle.morsel_meaning.specs.Values.{Row}
@@ -12,6 +12,8 @@ pub record Axis : Type 0 where
   pub sizes : List ℕ  -- how many bytes each has
   pub gives : List (Result (List Row) Fault)  -- for each place the rows that it gives, or its fault: a record's last byte gives what the record gives, each other byte nothing
   pub of_rows : List Bool  -- for each place whether it is of a record that is a row
+  pub row_ends : List Bool  -- for each place whether it is the last of a record that is a row, also where no eol ends it
+  pub head : ℕ  -- how many bytes the sink's text has before that of its first row
   pub text_of : List Row → List ℕ  -- the text that rows add to the sink
   pub longest : ℕ  -- how many bytes the longest record has, with its end
 
@@ -48,16 +50,28 @@ pub record IsNextRead (axis : Axis) (asked file at len : ℕ) : Type 0 where
   pub next : asked ≡ sum_by (λ n. n) (take source axis.sizes) + at
   pub within : at + len ≤ get_or axis.sizes source 0
 
+-- no row ends at one of these places
+abbrev pub EndsNoRow : Axis → ℕ → ℕ → Type 0
+EndsNoRow axis from to = (place : ℕ) → from ≤ place → place < to → get_or axis.row_ends place false ≡ false
+
+-- places at which no row ends are of one row at most: they have no more bytes of rows than the longest record
+abbrev pub EndsEachRow : Axis → Type 0
+EndsEachRow axis = (from to : ℕ) → EndsNoRow axis from to → row_bytes axis from to ≤ axis.longest
+
+-- the text that the places before one add is written, and the sink's head before it
+abbrev pub IsWrittenTo : Axis → ℕ → ℕ → Type 0
+IsWrittenTo axis place written = (text_to axis place ≡ 0) ⊎ (axis.head + text_to axis place ≤ written)
+
 -- a read is made in time: where at least `w` bytes of rows were asked behind a place, all text that comes before it is written
 abbrev pub IsInTime : Axis → ℕ → ℕ → ℕ → Type 0
-IsInTime axis w asked written = (place : ℕ) → w ≤ row_bytes axis place asked → text_to axis place ≤ written
+IsInTime axis w asked written = (place : ℕ) → w ≤ row_bytes axis place asked → IsWrittenTo axis place written
 
 -- a read of a source is the next, no longer than a chunk, and in time; one of another file is free
 abbrev pub MayRead : Axis → ℕ → ℕ → ℕ → ℕ → ℕ → ℕ → ℕ → Bool → Type 0
 MayRead axis w chunk asked written file at len true = IsNextRead axis asked file at len × (len ≤ chunk) × IsInTime axis w asked written
 MayRead axis w chunk asked written file at len false = Unit {0}
 
--- each read may be made where it is made, given how many places were asked before and how many bytes of text written
+-- each read may be made where it is made, given how many places were asked before and how many bytes of the sink's text, its head among them, were written
 abbrev pub ReadsAhead : Axis → ℕ → ℕ → ℕ → ℕ → List IoEvent → Type 0
 ReadsAhead axis w chunk asked written [] = Unit {0}
 ReadsAhead axis w chunk asked written (ReadAt file at len ∷ events) = MayRead axis w chunk asked written file at len (is_source axis file)
@@ -70,15 +84,15 @@ asked_up_to axis asked [] = asked
 asked_up_to axis asked (ReadAt file at len ∷ events) = asked_up_to axis (asked_after axis asked file len) events
 asked_up_to axis asked (Wrote len ∷ events) = asked_up_to axis asked events
 
--- how many bytes of text were written after these events
+-- how many bytes of the sink's text, its head among them, were written after these events
 abbrev pub written_up_to : ℕ → List IoEvent → ℕ
 written_up_to written [] = written
 written_up_to written (ReadAt file at len ∷ events) = written_up_to written events
 written_up_to written (Wrote len ∷ events) = written_up_to (written + len) events
 
--- each event is a read of the next place, no longer than a chunk, made while no more than one record's bytes of rows were asked behind place `given`
+-- each event is a read of the next place, no longer than a chunk, made while no row ends at a place that was asked and is behind place `given`
 abbrev pub Seeks : Axis → ℕ → ℕ → ℕ → List IoEvent → Type 0
 Seeks axis chunk given asked [] = Unit {0}
-Seeks axis chunk given asked (ReadAt file at len ∷ events) = IsNextRead axis asked file at len × (len ≤ chunk) × (row_bytes axis given asked ≤ axis.longest)
+Seeks axis chunk given asked (ReadAt file at len ∷ events) = IsNextRead axis asked file at len × (len ≤ chunk) × EndsNoRow axis given asked
     × (is_source axis file ≡ true) × Seeks axis chunk given (asked + len) events
 Seeks axis chunk given asked (Wrote len ∷ events) = ⊥

@@ -19,7 +19,7 @@ pub fn a_greater_bound_asks_less()
     ensures { ReadsWithin }
 {}
 
-/// Reads are in time where they are made while little is given and not written, and no whole row is held back.
+/// Reads are in time where they are made while little is given and not written, and each row that was asked to its end is given.
 #[tactic(auto, using(crate::proofs::AheadLemmas::seeks_in_time))]
 pub fn a_search_for_a_piece_is_in_time()
     ensures { SeeksInTime }
