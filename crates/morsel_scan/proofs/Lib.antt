@@ -1,4 +1,5 @@
 pub mod GatherLemmas
+pub mod CountLemmas
 pub mod PieceLemmas
 pub mod AheadLemmas
 pub mod FilterLemmas

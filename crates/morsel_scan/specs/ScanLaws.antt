@@ -2,14 +2,15 @@
 use Rattle.std.specs.Prelude.{◌≡◌, ◌⊎◌, ℕ, ◌+◌, ◌<◌, Bool, false, Option, Some, None, Result, Ok, List, [], ◌∷◌, ◌++◌, length}
 use Rattle.morsel_meaning.specs.declared.fault.Fault.{Fault}
 use Rattle.morsel_meaning.specs.Values.{Row, kinds_of}
-use Rattle.morsel_grammar.specs.Grammar.{CsvRecord}
+use Rattle.morsel_grammar.specs.Grammar.{CsvRecord, Records}
 use Rattle.morsel_grammar.specs.Cells.{CsvCell}
 use Rattle.morsel_grammar.specs.Reading.{reading}
-use Rattle.morsel_grammar.specs.GrammarRows.{AreWholeRecords}
+use Rattle.morsel_grammar.specs.GrammarRows.{AreWholeRecords, HasRows}
 use Rattle.morsel_pipe.specs.Pieces.{Piece}
 use Rattle.morsel_scan.specs.Scans.{Scan, CsvScan}
 use Rattle.morsel_scan.specs.ScanRows.{Placed, placed, gathered, scanned, SourceRows, scanned_source, scanned_sources, total_rows, followed_by}
-use Rattle.morsel_scan.specs.CsvScans.{read_source, piece_keeps, piece_source, piece_rows}
+use Rattle.morsel_scan.specs.CsvScans.{read_source, piece_keeps, piece_rows}
+use Rattle.morsel_scan.specs.CsvPieces.{row_count}
 
 -- what is made of rows in two parts is made of the one and then of the other
 abbrev pub GathersParts : Type 0
@@ -58,18 +59,32 @@ rows_of_pieces s (piece ∷ pieces) = followed_by (piece_rows s piece) (rows_of_
 abbrev pub KeepAlike : (ℕ → Bool) → (ℕ → Bool) → ℕ → ℕ → Type 0
 KeepAlike a b position rows = (row : ℕ) → row < rows → a (position + row) ≡ b (position + row)
 
--- the piece has these bytes' beginning: whole records, or, as the last piece, all of it
-abbrev pub BeginsWithPiece : CsvScan → Piece → List Piece → List ℕ → List ℕ → Type 0
-BeginsWithPiece s piece pieces text rest = (text ≡ piece.bytes ++ rest)
-    × (((records : List CsvRecord) × AreWholeRecords s.options piece.bytes records) ⊎ ((rest ≡ []) × (pieces ≡ [])))
+-- the text, which stands after the header of a file, is UTF-8 and records, none of which is a row
+abbrev pub HasNoRows : CsvScan → List ℕ → Type 0
+HasNoRows s text = HasRows s.options (kinds_of s.scan.fields) false text [] false
 
--- pieces of a text that stands after the header of a file, one directly after the other; they keep the rows that are kept
+-- the piece is the first of a text that begins at this place of a file, after this many rows: before it are whole records without a row,
+-- it has whole records, or the text's last ones, and it keeps those of their rows that are kept; `rest` comes after it
+pub record IsFirstPiece (s : CsvScan) (keeps : ℕ → Bool) (file : ℕ) (name : List ℕ) (at position : ℕ) (piece : Piece) (text rest : List ℕ) : Type 0 where
+  pub passed : List ℕ
+  pub no_rows : HasNoRows s passed
+  pub whole : AreWholeRecords s.options passed no_rows.records
+  pub bytes : text ≡ passed ++ (piece.bytes ++ rest)
+  pub records : List CsvRecord
+  pub split : Records s.options piece.bytes records
+  pub ends : (AreWholeRecords s.options piece.bytes records) ⊎ (rest ≡ [])
+  pub file_is : piece.file ≡ file
+  pub name_is : piece.source ≡ name
+  pub at_is : piece.at ≡ at + length passed
+  pub position_is : piece.first_row ≡ position
+  pub rows_are : piece.rows ≡ row_count s records
+  pub keeps_alike : KeepAlike keeps (piece_keeps piece) position piece.rows
+
+-- pieces of a text that stands after the header of a file, in order; what stands in none of them has no row, and positions go on by the pieces' rows
 abbrev pub CutText : CsvScan → (ℕ → Bool) → ℕ → List ℕ → ℕ → ℕ → List Piece → List ℕ → Type 0
-CutText s keeps file name at position [] text = text ≡ []
-CutText s keeps file name at position (piece ∷ pieces) text = (rest : List ℕ) × BeginsWithPiece s piece pieces text rest
-    × (piece.file ≡ file) × (piece.source ≡ name) × (piece.at ≡ at) × (piece.first_row ≡ position)
-    × KeepAlike keeps (piece_keeps piece) position (length (piece_source s piece).rows)
-    × CutText s keeps file name (at + length piece.bytes) (position + length (piece_source s piece).rows) pieces rest
+CutText s keeps file name at position [] text = HasNoRows s text
+CutText s keeps file name at position (piece ∷ pieces) text = (rest : List ℕ) × IsFirstPiece s keeps file name at position piece text rest
+    × CutText s keeps file name (piece.at + length piece.bytes) (position + piece.rows) pieces rest
 
 -- what a scan makes of a text that stands after the header of a file is made of its pieces, one after the other
 abbrev pub ScansPieces : CsvScan → Type 0

@@ -33,7 +33,7 @@ pub fn a_text_has_the_rows_of_its_parts()
     ensures { (s : CsvScan) → AreOptions s.options → ReadsParts s }
 {}
 
-/// What a scan makes of a text is made of its pieces, one after the other.
+/// What a scan makes of a text is made of its pieces, one after the other, also where records without rows stand between them.
 #[tactic(auto, using(crate::proofs::PieceLemmas::scans_pieces))]
 pub fn a_text_is_scanned_piece_by_piece()
     ensures { (s : CsvScan) → AreOptions s.options → ScansPieces s }
