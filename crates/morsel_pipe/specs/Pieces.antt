@@ -7,7 +7,7 @@ pub record Piece : Type 0 where
   pub seq : ℕ  -- its number within the scan
   pub file : ℕ  -- the source's number within the query
   pub source : List ℕ  -- the source's name
-  pub at : ℕ  -- the place in the file of its first byte
+  pub at : ℕ  -- the place in the file of its first record, group or block, in bytes
   pub first_row : ℕ  -- the position of its first row within the scan
   pub rows : ℕ  -- how many rows it has
   pub slice : ℕ × ℕ  -- the offset and length, within it, of the rows that the scan's slice keeps

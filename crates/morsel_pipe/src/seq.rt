@@ -36,7 +36,7 @@ impl MorselSeq {
         MorselSeq(self.0 + 2)
     }
 
-    /// The number that is as far behind this one as `offset` is behind 0.
+    /// The sum of the two numbers.
     pub fn offset_by(self, offset: MorselSeq) -> MorselSeq
         requires fits { self + offset < 2 ^ 64 }
         ensures { result ≡ self + offset }
