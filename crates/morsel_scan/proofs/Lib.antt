@@ -14,4 +14,5 @@ pub mod DecodeLemmas
 pub mod DecodedLemmas
 pub mod StepLemmas
 mod WorkedFacts
+mod PieceFacts
 pub mod RowCutLemmas
