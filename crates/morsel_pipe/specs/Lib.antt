@@ -1,0 +1,2 @@
+-- What goes through the pipes of a query.
+pub mod Pieces
