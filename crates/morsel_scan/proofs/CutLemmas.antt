@@ -9,7 +9,7 @@ use Rattle.morsel_grammar.specs.Cells.{CsvCell}
 use Rattle.morsel_grammar.specs.Reading.{reading, row_place}
 use Rattle.morsel_grammar.specs.GrammarRows.{AreWholeRecords, HasRows}
 use Rattle.morsel_grammar.proofs.FileLemmas.{reads_all_cells, places_rows}
-use Rattle.morsel_grammar.proofs.OneEndLemmas.{records_whole}
+use Rattle.morsel_grammar.proofs.WholeRecordLemmas.{records_whole}
 
 -- what comes before so many rows of the text, which begins at a place, is whole records and has just these rows
 pub record HasRowsOnly (o : Options) (kinds : List ColType) (at : ℕ) (front : List ℕ) (rows : ℕ) : Type 0 where
