@@ -11,7 +11,7 @@ use Rattle.morsel_grammar.proofs.ByteLemmas.{other_byte, either_second}
 use Rattle.morsel_cut.specs.RowCounts.{is_row, row_count, CountsRows, AddsRows}
 
 -- what a record is to the rows, and whether it counts
-abbrev Agrees : RowOf → Bool → Type 0
+abbrev pub Agrees : RowOf → Bool → Type 0
 Agrees NoRow counts = counts ≡ false
 Agrees (IsRow cells) counts = counts ≡ true
 Agrees Misfit counts = Unit {0}
@@ -27,7 +27,7 @@ cells_agree : (columns : ℕ) (cells : Option (List CsvCell)) → Agrees (row_or
 cells_agree columns None = tt
 cells_agree columns (Some cells) = either_second (columns == 1) true refl
 
-record_agrees : (o : Options) (kinds : List ColType) (r : CsvRecord) → Agrees (row_of o kinds r) (is_row (length kinds) r)
+pub record_agrees : (o : Options) (kinds : List ColType) (r : CsvRecord) → Agrees (row_of o kinds r) (is_row (length kinds) r)
 record_agrees o kinds (Comment body) = refl
 record_agrees o kinds (Fields fields) = by (is_empty fields)
   where

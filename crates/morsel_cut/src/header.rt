@@ -1,5 +1,5 @@
 //! Where the header of a text ends.
-ghost use Rattle.std.specs.Prelude.{◌≡◌, List};
+ghost use Rattle.std.specs.Prelude.{◌≡◌, ◌≤◌, List, length};
 ghost use Rattle.morsel_grammar.specs.Grammar.{CsvRecord, Records};
 ghost use Rattle.morsel_cut.specs.RowCounts.{EndsHead};
 
@@ -18,7 +18,8 @@ pub struct HeadEnd {
 /// How many bytes of a text there are up to and with its header, the first record that is neither comment nor empty, and
 /// whether that is still to come.
 pub fn head_end(bytes: &[u8], options: &CsvOptions) -> HeadEnd
-    ensures { (records : List CsvRecord) → Records options.now bytes.now records → EndsHead options.now bytes.now records result }
+    ensures within { result.len ≤ length bytes.now }
+    ensures ends { (records : List CsvRecord) → Records options.now bytes.now records → EndsHead options.now bytes.now records result }
 {
     let mut at = 0;
     while at < bytes.len() {

@@ -18,7 +18,8 @@ const FRONT: usize = 4096;
 ///
 /// Comments are none, and an empty record is one of one column alone. A record with too many or too few fields counts as one.
 pub fn rows_of(bytes: &[u8], columns: usize, options: &CsvOptions) -> usize
-    ensures { (records : List CsvRecord) → Records options.now bytes.now records → result ≡ row_count columns records }
+    ensures few { result ≤ length bytes.now }
+    ensures rows { (records : List CsvRecord) → Records options.now bytes.now records → result ≡ row_count columns records }
 {
     let mut rows = 0;
     let mut at = 0;

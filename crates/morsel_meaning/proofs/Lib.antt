@@ -1,1 +1,4 @@
 pub mod OrderLemmas
+pub mod OftenLemmas
+pub mod NumberLemmas
+pub mod InterleavingLemmas

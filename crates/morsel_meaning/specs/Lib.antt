@@ -2,3 +2,6 @@
 pub mod Values
 pub mod Order
 pub mod Faults
+pub mod Often
+pub mod Sequences
+pub mod ListLaws

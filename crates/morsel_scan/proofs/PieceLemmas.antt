@@ -18,7 +18,7 @@ use Rattle.morsel_scan.specs.Scans.{CsvScan}
 use Rattle.morsel_scan.specs.ScanRows.{SourceRows, placed, scanned, gathered, scanned_source, followed_by, ended_by}
 use Rattle.morsel_scan.specs.CsvScans.{read_source, piece_keeps, piece_source, piece_rows}
 use Rattle.morsel_scan.specs.ScanLaws.{joined_under, ReadsParts, KeepAlike, HasNoRows, IsFirstPiece, CutText, rows_of_pieces, ScansPieces}
-use Rattle.morsel_scan.specs.CsvPieces.{rows_counted}
+use Rattle.morsel_cut.specs.RowCounts.{row_count}
 use Rattle.morsel_scan.proofs.CountLemmas.{counted}
 use Rattle.morsel_scan.proofs.GatherLemmas.{followed_by-nothing, followed_by-end, gathered-alike, scans_parts}
 
@@ -102,18 +102,18 @@ piece-append : (s : CsvScan) (keeps : ℕ → Bool) (file : ℕ) (name : List �
     → (AreWholeRecords s.options bytes records) ⊎ (rest ≡ [])
     → scanned_source s.scan keeps position (read_behind s file name at (bytes ++ rest))
     ≡ followed_by (scanned_source s.scan keeps position (read_behind s file name at bytes))
-    (scanned_source s.scan keeps (position + rows_counted s records) (read_behind s file name (at + length bytes) rest))
+    (scanned_source s.scan keeps (position + row_count (length s.scan.fields) records) (read_behind s file name (at + length bytes) rest))
 piece-append s keeps file name at position bytes rest records fit split (inl whole) =
     let r : Reading = reading s.options (kinds_of s.scan.fields) false at bytes in
     behind-append s keeps file name at position bytes rest records fit whole
-    ∙ fault_first s keeps file name position (rows_counted s records) r.rows r.refusal
+    ∙ fault_first s keeps file name position (row_count (length s.scan.fields) records) r.rows r.refusal
     (λ p. scanned_source s.scan keeps p (read_behind s file name (at + length bytes) rest)) (counted s at bytes records fit split).all
 piece-append s keeps file name at position bytes rest records fit split (inr last) =
     ap (λ r. scanned_source s.scan keeps position (read_behind s file name at (bytes ++ r))) last
     ∙ ap (λ t. scanned_source s.scan keeps position (read_behind s file name at t)) (append-nil bytes)
     ∙ sym (followed_by-end (scanned_source s.scan keeps position (read_behind s file name at bytes)))
     ∙ ap (followed_by (scanned_source s.scan keeps position (read_behind s file name at bytes)))
-    (sym (nothing_behind s keeps file name (at + length bytes) (position + rows_counted s records) rest last))
+    (sym (nothing_behind s keeps file name (at + length bytes) (position + row_count (length s.scan.fields) records) rest last))
 
 -- what is made of a piece's bytes, where it stands
 piece_here : (s : CsvScan) (keeps : ℕ → Bool) (file : ℕ) (name : List ℕ) (at position : ℕ) (piece : Piece) (text rest : List ℕ) → AreOptions s.options

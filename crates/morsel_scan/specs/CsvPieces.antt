@@ -1,30 +1,20 @@
 -- Which pieces of CSV files belong to a scan: what holds of a piece by itself, given the bytes of the files.
 use Rattle.std.specs.Prelude.{◌≡◌, ◌⊎◌, ℕ, ◌+◌, ◌-◌, ◌<◌, ◌≤◌, Bool, false, Some, List, [], ◌∷◌, ◌++◌, length, take, get_or, slice_get, slice_range, IsUtf8}
 use Rattle.std.specs.List.{sum_by}
-use Rattle.morsel_meaning.specs.Values.{kinds_of}
 use Rattle.morsel_grammar.specs.Grammar.{CsvRecord, Records}
-use Rattle.morsel_grammar.specs.Rows.{RowOf, NoRow, IsRow, Misfit, row_of, behind_header, mark_len, unmarked}
+use Rattle.morsel_grammar.specs.Rows.{behind_header, mark_len, unmarked}
 use Rattle.morsel_grammar.specs.GrammarRows.{AreWholeRecords, awaits_header_after}
+use Rattle.morsel_cut.specs.RowCounts.{row_count}
 use Rattle.morsel_pipe.specs.Pieces.{Piece}
 use Rattle.morsel_scan.specs.Scans.{CsvScan}
 use Rattle.morsel_scan.specs.ScanRows.{slice_keeps}
 use Rattle.morsel_scan.specs.CsvScans.{FitsScan, piece_keeps}
 
--- whether a record counts as a row, also where it has another number of fields than there are columns
-abbrev pub counts : RowOf → ℕ
-counts NoRow = 0
-counts (IsRow cells) = 1
-counts Misfit = 1
-
--- how many of the records after a header count as rows
-abbrev pub rows_counted : CsvScan → List CsvRecord → ℕ
-rows_counted s records = sum_by (λ record_. counts (row_of s.options (kinds_of s.scan.fields) record_)) records
-
 -- the files are records to their ends, and this many of them count as rows
 abbrev pub HaveRows : CsvScan → List (List ℕ) → ℕ → Type 0
 HaveRows s [] rows = rows ≡ 0
 HaveRows s (bytes ∷ files) rows = (records : List CsvRecord) × Records s.options (unmarked bytes) records
-    × (more : ℕ) × HaveRows s files more × (rows ≡ rows_counted s (behind_header s.options.has_header records) + more)
+    × (more : ℕ) × HaveRows s files more × (rows ≡ row_count (length s.scan.fields) (behind_header s.options.has_header records) + more)
 
 -- before a place of a file, after its mark, there are whole records, of which so many count as rows; and whether the header is still to come there
 pub record HasRowsUpTo (s : CsvScan) (bytes : List ℕ) (at rows : ℕ) (awaits_header : Bool) : Type 0 where
@@ -34,7 +24,7 @@ pub record HasRowsUpTo (s : CsvScan) (bytes : List ℕ) (at rows : ℕ) (awaits_
   pub split : unmarked bytes ≡ front ++ rest
   pub whole : AreWholeRecords s.options front records
   pub place : at ≡ mark_len bytes + length front
-  pub rows_are : rows ≡ rows_counted s (behind_header s.options.has_header records)
+  pub rows_are : rows ≡ row_count (length s.scan.fields) (behind_header s.options.has_header records)
   pub header_is : awaits_header ≡ awaits_header_after s.options.has_header records
 
 -- a place of the bytes of all files, one after the other: it is a place of one of them, so many rows come before it, and the header is still to come or not
@@ -77,7 +67,7 @@ pub record IsPieceOf (s : CsvScan) (first : ℕ) (names files : List (List ℕ))
   pub records : List CsvRecord
   pub split : Records s.options piece.bytes records
   pub ends : (AreWholeRecords s.options piece.bytes records) ⊎ (piece.at + length piece.bytes ≡ length begins.bytes)
-  pub rows : piece.rows ≡ rows_counted s records
+  pub rows : piece.rows ≡ row_count (length s.scan.fields) records
   pub some : 0 < piece.rows
   pub fits : FitsScan piece
   pub slice : (total row : ℕ) → row < piece.rows → piece_keeps piece (piece.first_row + row) ≡ slice_keeps s.scan.asked.slice total (piece.first_row + row)

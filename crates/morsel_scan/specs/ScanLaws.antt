@@ -6,11 +6,11 @@ use Rattle.morsel_grammar.specs.Grammar.{CsvRecord, Records}
 use Rattle.morsel_grammar.specs.Cells.{CsvCell}
 use Rattle.morsel_grammar.specs.Reading.{reading}
 use Rattle.morsel_grammar.specs.GrammarRows.{AreWholeRecords, HasRows}
+use Rattle.morsel_cut.specs.RowCounts.{row_count}
 use Rattle.morsel_pipe.specs.Pieces.{Piece}
 use Rattle.morsel_scan.specs.Scans.{Scan, CsvScan}
 use Rattle.morsel_scan.specs.ScanRows.{Placed, placed, gathered, scanned, SourceRows, scanned_source, scanned_sources, total_rows, followed_by}
 use Rattle.morsel_scan.specs.CsvScans.{read_source, piece_keeps, piece_rows}
-use Rattle.morsel_scan.specs.CsvPieces.{rows_counted}
 
 -- what is made of rows in two parts is made of the one and then of the other
 abbrev pub GathersParts : Type 0
@@ -77,7 +77,7 @@ pub record IsFirstPiece (s : CsvScan) (keeps : ℕ → Bool) (file : ℕ) (name 
   pub name_is : piece.source ≡ name
   pub at_is : piece.at ≡ at + length passed
   pub position_is : piece.first_row ≡ position
-  pub rows_are : piece.rows ≡ rows_counted s records
+  pub rows_are : piece.rows ≡ row_count (length s.scan.fields) records
   pub keeps_alike : KeepAlike keeps (piece_keeps piece) position piece.rows
 
 -- pieces of a text that stands after the header of a file, in order; what stands in none of them has no row, and positions go on by the pieces' rows

@@ -21,11 +21,11 @@ loop-at-preserved c =
           (take_rest bytes at) (c.loop-at.invariant.passed records are) c.record_size-at.ensures.value c.is_row-is_header.ensures c.if-is_header.false;
     }
 
-pub returns-then-is_header : goal.returns-then-is_header
-returns-then-is_header c = λ records are.
+pub returns-then-is_header-clause-ends : goal.returns-then-is_header-clause-ends
+returns-then-is_header-clause-ends c = λ records are.
     finds_header c.args.options.now c.args.bytes.now _ c.loop-at.at c.record_size-at.result c.is_row-is_header.result records c.record_size-at.ensures.fit c.loop-at-test.true
     (take_rest c.args.bytes.now c.loop-at.at) (c.loop-at.invariant.passed records are) c.record_size-at.ensures.value c.is_row-is_header.ensures c.if-is_header.true
 
-pub returns : goal.returns
-returns c = λ records are.
+pub returns-clause-ends : goal.returns-clause-ends
+returns-clause-ends c = λ records are.
     finds_no_header c.args.options.now c.args.bytes.now c.loop-at.at records c.loop-at.invariant.within c.loop-at-test.false (c.loop-at.invariant.passed records are)

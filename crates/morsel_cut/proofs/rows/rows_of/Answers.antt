@@ -24,6 +24,6 @@ loop-at-preserved c =
           (take_rest bytes at) (c.loop-at.invariant.counted records are) c.front_rows-len.ensures.rows;
     }
 
-pub returns : goal.returns
-returns c = λ records are.
+pub returns-clause-rows : goal.returns-clause-rows
+returns-clause-rows c = λ records are.
     counted_all c.args.options.now c.args.columns c.args.bytes.now c.loop-at.at c.loop-at.rows records c.loop-at-test.false (c.loop-at.invariant.counted records are)
