@@ -45,7 +45,7 @@ def build():
         print("proving and building the program ..", file=sys.stderr, flush=True)
     words = ["rt", "run", "--", "--version"]
     if subprocess.run(words, cwd=program.CRATE, stdout=sys.stderr).returncode:
-        sys.exit("rt run in crates/morsel_prog failed")
+        sys.exit("rt run in crates/morsel failed")
     return program.built()[0]
 
 

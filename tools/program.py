@@ -4,7 +4,7 @@ import subprocess
 import sys
 
 ROOT = os.path.join(os.path.dirname(os.path.abspath(__file__)), "..")
-CRATE = os.path.join(ROOT, "crates", "morsel_prog")
+CRATE = os.path.join(ROOT, "crates", "morsel")
 LIMIT = 60
 
 
@@ -21,10 +21,10 @@ def built():
     """The program as each compiler built it: by `rt ci` both, by `rt run` the first. MORSEL names another one instead."""
     if os.environ.get("MORSEL"):
         return [os.path.abspath(os.environ["MORSEL"])]
-    found = [f"{CRATE}/out/morsel_prog{it}" for it in ("", ".by-rattle")]
+    found = [f"{CRATE}/out/morsel{it}" for it in ("", ".by-rattle")]
     found = [os.path.abspath(it) for it in found if os.path.isfile(it) and os.path.getmtime(it) > newest_source()]
     if not found:
-        sys.exit("there is no program in crates/morsel_prog/out that is newer than its sources: `rt ci`, or `rt run` in crates/morsel_prog, builds it")
+        sys.exit("there is no program in crates/morsel/out that is newer than its sources: `rt ci`, or `rt run` in crates/morsel, builds it")
     return found
 
 

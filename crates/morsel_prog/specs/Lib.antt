@@ -1,6 +1,5 @@
--- The words of the command line, what the program does with them, and what the outside of real files tells.
+-- The words of the command line, and what the program does with them.
 pub mod Words
 pub mod Results
 pub mod Program
-pub mod RealIo
 pub mod Complete

@@ -6,9 +6,9 @@ mod faults;
 mod hostile;
 mod sure;
 
-use crate::program::{local_main, morsel_main};
 use morsel_meaning::Name;
 use morsel_outside::{Io, MemIo, OpenGate, SureMemIo};
+use morsel_prog::{local_main, morsel_main};
 use std::alloc::Global;
 use std::mem::drop;
 use std::process::Abort;

@@ -6,8 +6,8 @@ ghost use Rattle.morsel_prog.specs.Words.{command_of};
 ghost use Rattle.morsel_prog.specs.Complete.{IsValidCommand, IsDone};
 
 use super::{ROWS, SCAN, TEXT, files, words_of};
-use crate::program::{local_main, morsel_main};
 use morsel_outside::{OpenGate, SureMemIo};
+use morsel_prog::{local_main, morsel_main};
 use std::alloc::Global;
 use std::mem::drop;
 use std::sync::Wait;

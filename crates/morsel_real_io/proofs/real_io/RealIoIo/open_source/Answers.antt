@@ -1,5 +1,5 @@
-use Rattle.morsel_prog.proofs.RealIoLemmas.{opens-kept}
-use Rattle.morsel_prog.proofs.real_io.RealIoIo.open_source.Goals as goal
+use Rattle.morsel_real_io.proofs.RealIoLemmas.{opens-kept}
+use Rattle.morsel_real_io.proofs.real_io.RealIoIo.open_source.Goals as goal
 
 pub returns-in-Ok : goal.returns-in-Ok
 returns-in-Ok g c =

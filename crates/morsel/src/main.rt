@@ -1,22 +1,16 @@
 //! `morsel`: a streaming query engine whose answers are proved.
 //!
-//! `words` reads the command line, `program` has the two main calls, from the words to the status, `report` tells an
-//! answer, `help` has the texts of `--help` and `--version`, and `real_io` is the edge to the files of the system.
+//! It takes the words of the command line, runs them over the files of the system, and answers `--help` and `--version`,
+//! whose texts are in `help`.
 #![tactic(auto)]
 
 mod help;
-mod program;
-mod real_io;
-mod report;
-#[cfg(test)]
-mod tests;
-mod words;
 
 use help::{HELP, VERSION};
 use morsel_meaning::Fault;
 use morsel_outside::OpenGate;
-use program::morsel_main;
-use real_io::RealIo;
+use morsel_prog::{morsel_main, status_of};
+use morsel_real_io::RealIo;
 use std::fs::File;
 use std::io::ErrorKind;
 use std::os::fd::IntoRawFd;
@@ -63,7 +57,7 @@ fn show<R: Print + Eprint>(rt: &R, text: &str) -> u8 {
         return 0;
     };
     let _ = eprintln!(rt; "standard output: {error}");
-    report::status_of(&Fault::WriteFault)
+    status_of(&Fault::WriteFault)
 }
 
 /// Runs the command of the words, and tells the reason of a failure on standard error.
@@ -78,7 +72,7 @@ where
     let status = morsel_main(rt, rt.alloc(), words, &mut io, &OpenGate);
     if let Some(reason) = io.reason() {
         let _ = rt.eprintln(reason);
-    } else if status == report::status_of(&Fault::Usage) {
+    } else if status == status_of(&Fault::Usage) {
         let _ = rt.eprintln("morsel --help tells the commands");
     }
     status
@@ -108,11 +102,11 @@ where
 {
     if let Err(error) = take_closed_streams(rt) {
         let _ = eprintln!(rt; "/dev/null: {error}");
-        return report::status_of(&Fault::WriteFault);
+        return status_of(&Fault::WriteFault);
     }
     match words_of(rt) {
         Ok(words) => answer(rt, words.as_slice()),
-        Err(_) => report::status_of(&Fault::OutOfMemory),
+        Err(_) => status_of(&Fault::OutOfMemory),
     }
 }
 

@@ -6,7 +6,7 @@
 //! A file that is changed in place while it is read is answered as it was at each read.
 ghost use Rattle.std.specs.Prelude.{◌≡◌, ◌+◌, ◌<◌, ◌≤◌, [], length, slice_index, IfOk, OnOk, OnErr, None};
 ghost use Rattle.morsel_outside.specs.Actions.{Rises};
-ghost use Rattle.morsel_prog.specs.RealIo.{untold, with_source, with_name_asked, with_sink_made, with_read_fault, with_write_fault, with_print_fault};
+ghost use Rattle.morsel_real_io.specs.RealIo.{untold, with_source, with_name_asked, with_sink_made, with_read_fault, with_write_fault, with_print_fault};
 
 mod reasons;
 mod sinks;
@@ -49,7 +49,7 @@ pub struct RealIo<'r, R: Files + Print> {
 impl<'r, R: Files + Print> Model for RealIo<'r, R> {
     ghost use Rattle.std.specs.Prelude.{map, length};
     ghost use Rattle.morsel_outside.specs.Outside.{Outside};
-    ghost use Rattle.morsel_prog.specs.RealIo.{untold};
+    ghost use Rattle.morsel_real_io.specs.RealIo.{untold};
 
     ghost Value = { Outside };
 

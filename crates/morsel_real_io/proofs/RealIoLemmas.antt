@@ -7,7 +7,7 @@ use Rattle.morsel_outside.specs.declared.io.FileNo.{FileNo}
 use Rattle.morsel_outside.specs.Outside.{Outside, with_last}
 use Rattle.morsel_outside.specs.Calls.{Opens}
 use Rattle.morsel_outside.proofs.DoesLemmas.{does-opening}
-use Rattle.morsel_prog.specs.RealIo.{with_source}
+use Rattle.morsel_real_io.specs.RealIo.{with_source}
 
 -- a list that is not told stays untold
 untold_last : {A : Type 0} (items : Option (List A)) (item : A) → items ≡ None → items ≡ with_last items item

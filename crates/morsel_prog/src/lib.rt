@@ -1,0 +1,11 @@
+//! The main calls: from the words of a command line to its answer and its status.
+//!
+//! `words` reads the command line, `program` has the two main calls, and `report` tells an answer.
+#![tactic(auto)]
+
+mod program;
+mod report;
+mod words;
+
+pub use program::{local_main, morsel_main};
+pub use report::status_of;

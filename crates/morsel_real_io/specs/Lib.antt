@@ -1,0 +1,2 @@
+-- What the outside of real files tells.
+pub mod RealIo
