@@ -16,3 +16,7 @@ pub mod StepLemmas
 mod WorkedFacts
 mod PieceFacts
 pub mod RowCutLemmas
+pub mod StretchLemmas
+pub mod PartLemmas
+pub mod AxisLemmas
+pub mod AxisFileLemmas

@@ -10,3 +10,7 @@ pub mod AheadLaws
 pub mod Filters
 pub mod Decoding
 pub mod Nodes
+pub mod StretchRows
+pub mod CsvAxis
+pub mod StretchLaws
+pub mod CsvAxisLaws

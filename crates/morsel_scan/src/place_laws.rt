@@ -1,0 +1,38 @@
+//! Laws of places: what stretches of the sources' bytes give, and that it is what a scan means.
+ghost use Rattle.morsel_scan.specs.StretchLaws.{CollectsParts, GivesOn, GivesFront, GivesAll, GivesMidst, GivesFaults};
+
+/// Places in two parts give what the one gives, and then the other.
+#[tactic(auto, using(crate::proofs::StretchLemmas::collects_parts))]
+pub fn places_give_part_by_part()
+    ensures { CollectsParts }
+{}
+
+/// Two stretches, one after the other, give the rows of both.
+#[tactic(auto, using(crate::proofs::StretchLemmas::gives_on))]
+pub fn stretches_follow_one_another()
+    ensures { GivesOn }
+{}
+
+/// What the first places give are the first rows before the first fault.
+#[tactic(auto, using(crate::proofs::StretchLemmas::gives_front))]
+pub fn first_places_give_first_rows()
+    ensures { GivesFront }
+{}
+
+/// All places give rows exactly where there is no fault, and these are then all before the first.
+#[tactic(auto, using(crate::proofs::StretchLemmas::gives_all))]
+pub fn all_places_give_all_rows()
+    ensures { GivesAll }
+{}
+
+/// Some rows of a stretch have their place among the rows before the first fault.
+#[tactic(auto, using(crate::proofs::StretchLemmas::gives_midst))]
+pub fn a_part_of_a_stretch_has_its_place()
+    ensures { GivesMidst }
+{}
+
+/// A stretch whose places do not give rows has the fault that they give.
+#[tactic(auto, using(crate::proofs::StretchLemmas::gives_faults))]
+pub fn a_fault_is_that_of_a_place()
+    ensures { GivesFaults }
+{}
