@@ -2,6 +2,7 @@
 use Rattle.std.proofs.Common.{◌≡◌, ◌≢◌, ℕ, zero, suc, ◌+◌, ◌-◌, ◌<◌, ◌≤◌, ap, sym, subst, refl, ◌∙◌, arith, append_assoc, append-nil, length-append}
 use Rattle.std.specs.Prelude.{Bool, true, false, ◌&&◌, ◌==◌, if◌then◌else◌, nat_le, Option, Some, None, Result, Ok, Err, List, [], ◌∷◌, ◌++◌, length, drop}
 use Rattle.std.specs.List.{sum_by}
+use Rattle.std.proofs.lemmas.Bool.Decides.{nat_tests}
 use Rattle.std.proofs.lemmas.List.Sums.{sum_by-append, sum_by-cons}
 use Rattle.std.proofs.lemmas.List.{take-append-drop, length-drop}
 use Rattle.morsel_meaning.specs.declared.fault.ComputeKind.TheVariants as kinds
@@ -147,7 +148,7 @@ within_alike scan keeps row few =
     ∙ by (keeps row.position)
   where
     low_false : (n : ℕ) → n < 4294967295 → nat_le 4294967295 n ≡ false
-    low_false n few = search (rules, arith)
+    low_false n few = grind (arith, nat_tests)
     by : (t : Bool) → (if t && false then Err (faults.ComputeError kinds.TooManyRows 4294967295 0) else scanned scan keeps row) ≡ scanned scan keeps row
     by true = refl
     by false = refl

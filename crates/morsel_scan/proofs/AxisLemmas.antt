@@ -1,6 +1,6 @@
 -- What the bytes of a text give is what a scan makes of the rows that are read of it.
 use Rattle.std.proofs.Common.{◌≡◌, ◌≢◌, ℕ, zero, suc, ◌+◌, ◌-◌, ◌<◌, ◌≤◌, ap, sym, subst, refl, ◌∙◌, arith, append_assoc, append-nil, length-append, cond}
-use Rattle.std.proofs.lemmas.List.Basic.{length-map}
+use Rattle.std.proofs.lemmas.List.{length-map}
 use Rattle.std.specs.Prelude.{Bool, true, false, not, ◌&&◌, ◌||◌, ◌==◌, if◌then◌else◌, Option, Some, None, Result, Ok, Err, List, [], ◌∷◌, ◌++◌, length, map, IsUtf8}
 use Rattle.std.specs.List.{sum_by, flat_map}
 use Rattle.std.specs.Str.{is_utf8}
@@ -66,7 +66,8 @@ bytes_of-text s make fit text =
     let P : List ℕ → Type 0 = λ text. (start : PartStart) → bytes_of (text_axis s make start (text_parts s.options text)) ≡ length text in
     by_records s.options P fit (record {
       nothing = λ start. refl;
-      none = λ text some none start. ap (λ parts. bytes_of (text_axis s make start parts)) (parts-none s.options text fit some none) ∙ one_size (length text);
+      none = λ text some none start. ap (λ parts. bytes_of (text_axis s make start parts)) (parts-none s.options text fit some none)
+      ∙ sum_by-cons (λ (x : AxisPart). x.size) (axis_part s make start (record { bytes = text; found = None })) [] ∙ one_size (length text);
       first = λ r text next bytes taken later start.
       let part : TextPart = found_part bytes r in
       ap (λ parts. bytes_of (text_axis s make start parts)) (parts-record s.options r text next bytes fit taken)

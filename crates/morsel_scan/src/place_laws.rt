@@ -1,4 +1,7 @@
 //! Laws of places: what stretches of the sources' bytes give, and that it is what a scan means.
+ghost use Rattle.morsel_grammar.specs.Options.{AreOptions};
+ghost use Rattle.morsel_scan.specs.Scans.{CsvScan};
+ghost use Rattle.morsel_scan.specs.CsvAxisLaws.{GivesScanRows, GivesScan};
 ghost use Rattle.morsel_scan.specs.StretchLaws.{CollectsParts, GivesOn, GivesFront, GivesAll, GivesMidst, GivesFaults};
 
 /// Places in two parts give what the one gives, and then the other.
@@ -35,4 +38,14 @@ pub fn a_part_of_a_stretch_has_its_place()
 #[tactic(auto, using(crate::proofs::StretchLemmas::gives_faults))]
 pub fn a_fault_is_that_of_a_place()
     ensures { GivesFaults }
+{}
+
+/// Where all places of a scan's files give rows, these are the scan's.
+pub fn places_give_the_rows_of_the_scan()
+    ensures { (s : CsvScan) → AreOptions s.options → GivesScanRows s }
+{}
+
+/// All places of a scan's files give what the scan means, a fault too, where they have no more rows than are allowed.
+pub fn places_give_what_the_scan_means()
+    ensures { (s : CsvScan) → AreOptions s.options → GivesScan s }
 {}
