@@ -15,7 +15,7 @@ use Rattle.morsel_scan.specs.Ahead.{Axis, IsWrittenTo, ReadsAhead, asked_up_to, 
 use Rattle.morsel_scan.proofs.AheadLemmas.{reads_on}
 use Rattle.morsel_scan.proofs.StretchLemmas.{gives_on, gives_front, gives_all, gives_midst, followed_by-ok}
 use Rattle.morsel_drive.specs.Lines.{Each, SuitsPart, IsSoundAxis, IsReading}
-use Rattle.morsel_drive.specs.Driving.{IsWriting, Keeps, Stops, IsAfter, FitsInput, EndsWith, Writes}
+use Rattle.morsel_drive.specs.Driving.{IsWriting, KeepsText, Stops, IsAfter, FitsInput, EndsWith, WritesRows}
 use Rattle.morsel_drive.specs.declared.written.Written.{Written}
 use Rattle.morsel_drive.specs.declared.caller.Input.{Input}
 use Rattle.morsel_drive.specs.declared.caller.Input.TheVariants.{Reading, Holding, Ended}
@@ -44,7 +44,7 @@ pub record GoesOn (axis : Axis) (was : Written) (part : Part) : Type 0 where
   pub within : was.rows + part.rows ≤ length (before_fault axis.gives)
   pub text : axis.text_of (take (was.rows + part.rows) (before_fault axis.gives)) ≡ axis.text_of (take was.rows (before_fault axis.gives)) ++ part.bytes
 
-pub goes_on : (axis : Axis) (w chunk : ℕ) (actions : List Action) (was : Written) (part : Part) → IsSoundAxis axis → Keeps axis w chunk actions was → SuitsPart axis part
+pub goes_on : (axis : Axis) (w chunk : ℕ) (actions : List Action) (was : Written) (part : Part) → IsSoundAxis axis → KeepsText axis w chunk actions was → SuitsPart axis part
     → part.from ≡ was.next → was.begun + part.skip ≡ was.rows → GoesOn axis was part
 goes_on axis w chunk actions was part sound k s begins behind =
     let gives : Gives axis.gives was.next part.to s.all = subst (λ from. Gives axis.gives from part.to s.all) begins s.gives in
@@ -74,8 +74,8 @@ stands_at axis part was now done all false first later begun behind ends next be
     (done, subst (λ to. Gives axis.gives 0 to done) (sym next) first, begins ∙ begun)
 
 -- a part more was written
-pub keeps-part : (axis : Axis) (w chunk : ℕ) (actions : List Action) (was : Written) (part : Part) (now : Written) → IsSoundAxis axis → Keeps axis w chunk actions was → SuitsPart axis part
-    → part.from ≡ was.next → was.begun + part.skip ≡ was.rows → IsAfter part was now → Keeps axis w chunk (actions ++ (Writing part.bytes ∷ [])) now
+pub keeps-part : (axis : Axis) (w chunk : ℕ) (actions : List Action) (was : Written) (part : Part) (now : Written) → IsSoundAxis axis → KeepsText axis w chunk actions was → SuitsPart axis part
+    → part.from ≡ was.next → was.begun + part.skip ≡ was.rows → IsAfter part was now → KeepsText axis w chunk (actions ++ (Writing part.bytes ∷ [])) now
 keeps-part axis w chunk actions was part now sound k s begins behind (rows, next, begun) =
     let gives : Gives axis.gives was.next part.to s.all = subst (λ from. Gives axis.gives from part.to s.all) begins s.gives in
     let at = stands_at axis part was now k.done s.all part.last k.gives gives k.begun behind s.ends next begun in
@@ -95,7 +95,7 @@ keeps-part axis w chunk actions was part now sound k s begins behind (rows, next
 fronts : (axis : Axis) (rows : List Row) (n : ℕ) → IsSoundAxis axis → axis.text_of (take n rows) ++ axis.text_of (drop n rows) ≡ axis.text_of rows
 fronts axis rows n sound = sym (sound.adds (take n rows) (drop n rows)) ∙ ap axis.text_of (take-append-drop n rows)
 
-pub keeps-stops : (axis : Axis) (w chunk : ℕ) (actions : List Action) (written : Written) → IsSoundAxis axis → Keeps axis w chunk actions written → Stops axis w chunk actions
+pub keeps-stops : (axis : Axis) (w chunk : ℕ) (actions : List Action) (written : Written) → IsSoundAxis axis → KeepsText axis w chunk actions written → Stops axis w chunk actions
 keeps-stops axis w chunk actions written sound k = record {
   rest = axis.text_of (drop written.rows (before_fault axis.gives));
   front = ap (λ t. t ++ axis.text_of (drop written.rows (before_fault axis.gives))) k.text ∙ fronts axis (before_fault axis.gives) written.rows sound;
@@ -103,7 +103,7 @@ keeps-stops axis w chunk actions written sound k = record {
 }
 
 -- a part was not wholly written
-pub stops-part : (axis : Axis) (w chunk : ℕ) (actions : List Action) (was : Written) (part : Part) (taken : ℕ) → IsSoundAxis axis → Keeps axis w chunk actions was → SuitsPart axis part
+pub stops-part : (axis : Axis) (w chunk : ℕ) (actions : List Action) (was : Written) (part : Part) (taken : ℕ) → IsSoundAxis axis → KeepsText axis w chunk actions was → SuitsPart axis part
     → part.from ≡ was.next → was.begun + part.skip ≡ was.rows → Stops axis w chunk (actions ++ (FailedWriting (take taken part.bytes) ∷ []))
 stops-part axis w chunk actions was part taken sound k s begins behind =
     let on = goes_on axis w chunk actions was part sound k s begins behind in
@@ -122,7 +122,7 @@ stops-part axis w chunk actions was part taken sound k s begins behind =
         ∙ sym (append_assoc a b c)
 
 -- nothing was written yet
-pub keeps-nothing : (axis : Axis) (w chunk : ℕ) (written : Written) → IsSoundAxis axis → written.next ≡ 0 → written.begun ≡ 0 → written.rows ≡ 0 → Keeps axis w chunk [] written
+pub keeps-nothing : (axis : Axis) (w chunk : ℕ) (written : Written) → IsSoundAxis axis → written.next ≡ 0 → written.begun ≡ 0 → written.rows ≡ 0 → KeepsText axis w chunk [] written
 keeps-nothing axis w chunk written sound next begun rows = record {
   done = [];
   gives = subst (λ to. Gives axis.gives 0 to []) (sym next) (record { order = omega arith; within = omega arith; all = refl });
@@ -133,9 +133,9 @@ keeps-nothing axis w chunk written sound next begun rows = record {
 }
 
 -- more was read
-pub keeps-read : (axis : Axis) (w chunk : ℕ) (actions reads : List Action) (written : Written) → Keeps axis w chunk actions written → Each IsReading reads
+pub keeps-read : (axis : Axis) (w chunk : ℕ) (actions reads : List Action) (written : Written) → KeepsText axis w chunk actions written → Each IsReading reads
     → ReadsAhead axis w chunk (asked_up_to axis 0 (flat_map event_of actions)) (written_up_to axis.head (flat_map event_of actions)) (flat_map event_of reads)
-    → Keeps axis w chunk (actions ++ reads) written
+    → KeepsText axis w chunk (actions ++ reads) written
 keeps-read axis w chunk actions reads written k are ahead = record {
   done = k.done;
   gives = k.gives;
@@ -160,7 +160,7 @@ size_of axis sound (Ok first ∷ gives) rows is =
     ∙ ap length (sym (sound.adds first both.1) ∙ ap (λ r. axis.text_of (r ++ both.1)) same ∙ ap axis.text_of (sym both.4))
 
 -- all that the places before `next` add is written
-pub written_to : (axis : Axis) (w chunk : ℕ) (actions : List Action) (written : Written) → IsSoundAxis axis → Keeps axis w chunk actions written
+pub written_to : (axis : Axis) (w chunk : ℕ) (actions : List Action) (written : Written) → IsSoundAxis axis → KeepsText axis w chunk actions written
     → IsWrittenTo axis written.next (written_up_to axis.head (flat_map event_of actions))
 written_to axis w chunk actions written sound k =
     let first = gives_front axis.gives written.next k.done k.gives in
@@ -182,7 +182,7 @@ take_all rows = ap (take (length rows)) (sym (append-nil rows)) ∙ take-append_
 
 -- where all that was given is written, and no place gives more, the text is that of all rows
 pub writes_all : (axis : Axis) (is_piece : Piece → Type 0) (w chunk : ℕ) (actions : List Action) (given : ℕ) (input : Input) (written : Written) (result : Result ℕ Fault) → IsSoundAxis axis
-    → Keeps axis w chunk actions written → FitsInput axis is_piece given input → EndsWith given input written result → Writes axis actions result
+    → KeepsText axis w chunk actions written → FitsInput axis is_piece given input → EndsWith given input written result → WritesRows axis actions result
 writes_all axis is_piece w chunk actions given Ended written (Ok n) sound k rest (count, all, ended) =
     let last : Gives axis.gives written.next (length axis.gives) [] = subst (λ from. Gives axis.gives from (length axis.gives) []) (sym all) rest in
     let whole : Gives axis.gives 0 (length axis.gives) k.done = subst (Gives axis.gives 0 (length axis.gives)) (append-nil k.done)

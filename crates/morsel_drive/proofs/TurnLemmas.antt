@@ -14,7 +14,7 @@ use Rattle.morsel_pipe.specs.Pieces.{Piece, Part}
 use Rattle.morsel_scan.specs.Ahead.{Axis, EndsEachRow, IsWrittenTo, Seeks, ReadsAhead, asked_up_to, written_up_to}
 use Rattle.morsel_scan.proofs.AheadLemmas.{seeks_in_time, counts_on}
 use Rattle.morsel_drive.specs.Lines.{Each, IsReading, IsSoundAxis, SuitsPart, IsDue, ReadsFor}
-use Rattle.morsel_drive.specs.Driving.{IsWriting, Transfers, Keeps, Stops, KeepsOrStops, WritesPart, WritesOn, IsWriteStop, FitsInput, GivesInput, ReadsInTime, EndsWith, StopsFor, DrivesAxis, Drives}
+use Rattle.morsel_drive.specs.Driving.{IsWriting, Transfers, KeepsText, Stops, KeepsOrStops, WritesPart, WritesOn, IsWriteStop, FitsInput, GivesInput, ReadsInTime, EndsWith, StopsFor, DrivesAxis, Drives}
 use Rattle.morsel_drive.specs.declared.written.Written.{Written}
 use Rattle.morsel_drive.specs.declared.caller.Input.{Input}
 use Rattle.morsel_drive.specs.declared.caller.Input.TheVariants.{Reading}
@@ -29,12 +29,12 @@ in_need axis bound chunk given next asked events ends few seeks written is = see
 -- what is told of writes: the line serves on, and the text is kept
 abbrev pub ToldWrites : {J : Type 0} → (J → Axis) → (J → Type 0) → (J → Type 0) → Written → Written → List Action → Type 0
 ToldWrites {J} axis first serves was now writes = (job : J) → first job → IsSoundAxis (axis job)
-    → serves job × ((w chunk : ℕ) (before : List Action) → Keeps (axis job) w chunk before was → Keeps (axis job) w chunk (before ++ writes) now)
+    → serves job × ((w chunk : ℕ) (before : List Action) → KeepsText (axis job) w chunk before was → KeepsText (axis job) w chunk (before ++ writes) now)
 
 -- the same of writes that may have stopped
 abbrev pub ToldStop : {J T : Type 0} → (J → Axis) → (J → Type 0) → (J → Type 0) → Written → Result T Fault → Written → List Action → Type 0
 ToldStop {J} axis first serves was result now writes = (job : J) → first job → IsSoundAxis (axis job)
-    → OnOk result (serves job) × ((w chunk : ℕ) (before : List Action) → Keeps (axis job) w chunk before was → KeepsOrStops (axis job) w chunk (before ++ writes) result now)
+    → OnOk result (serves job) × ((w chunk : ℕ) (before : List Action) → KeepsText (axis job) w chunk before was → KeepsOrStops (axis job) w chunk (before ++ writes) result now)
 
 pub wrote_nothing : {J : Type 0} (axis : J → Axis) (serves : J → Type 0) (written : Written) (old : Outside)
     → WritesOn {T = Unit {0}} (ToldWrites axis serves serves written written) old (Ok tt) old
@@ -43,7 +43,7 @@ wrote_nothing axis serves written old = record {
   does = does-nothing old;
   are = tt;
   stops = tt;
-  told_them = λ job serving sound. (serving, λ w chunk before k. subst (λ actions. Keeps (axis job) w chunk actions written) (sym (append-nil before)) k);
+  told_them = λ job serving sound. (serving, λ w chunk before k. subst (λ actions. KeepsText (axis job) w chunk actions written) (sym (append-nil before)) k);
 }
 
 pub wrote_more : {J : Type 0} (axis : J → Axis) (first serves later : J → Type 0) (fn was now : Written) (old mid new : Outside) (part : Part)
@@ -56,7 +56,7 @@ wrote_more axis first serves later fn was now old mid new part s on suits (begin
   stops = tt;
   told_them = λ job serving sound. let h = s.told_them job serving sound in (
     on job h.0,
-    λ w chunk before k. subst (λ actions. Keeps (axis job) w chunk actions now) (append_assoc before s.writes (Writing part.bytes ∷ []))
+    λ w chunk before k. subst (λ actions. KeepsText (axis job) w chunk actions now) (append_assoc before s.writes (Writing part.bytes ∷ []))
         (keeps-part (axis job) w chunk (before ++ s.writes) was part now sound (h.1 w chunk before k) (suits job h.0) begins behind after),
   );
 }
@@ -104,7 +104,7 @@ pub record Stands (did : List Action → Type 0) (told : List Action → Type 0)
 
 -- in the midst of a run the text is kept, so many bytes were asked, and what is held is of the input
 pub record InMidst (axis : Axis) (is_piece : Piece → Type 0) (reads serves : Type 0) (w chunk given asked : ℕ) (input : Input) (written : Written) (actions : List Action) : Type 0 where
-  pub keeps : Keeps axis w chunk actions written
+  pub keeps : KeepsText axis w chunk actions written
   pub asked_is : asked_up_to axis 0 (flat_map event_of actions) ≡ asked
   pub fits : FitsInput axis is_piece given input
   pub reading : reads
@@ -148,7 +148,7 @@ asked_more axis actions more asked now was is =
 kept_read : (axis : Axis) (is_piece : Piece → Type 0) (reads serves : Type 0) (bound chunk given asked : ℕ) (input : Input) (written : Written) (actions more : List Action) → IsSoundAxis axis
     → InMidst axis is_piece reads serves (bound + axis.longest) chunk given asked input written actions → Each IsReading more
     → ((there : ℕ) → IsWrittenTo axis written.next there → ReadsAhead axis (bound + axis.longest) chunk asked there (flat_map event_of more))
-    → Keeps axis (bound + axis.longest) chunk (actions ++ more) written
+    → KeepsText axis (bound + axis.longest) chunk (actions ++ more) written
 kept_read axis is_piece reads serves bound chunk given asked input written actions more sound m are in_time =
     keeps-read axis (bound + axis.longest) chunk actions more written m.keeps are
     (subst (λ n. ReadsAhead axis (bound + axis.longest) chunk n (written_up_to axis.head (flat_map event_of actions)) (flat_map event_of more)) (sym m.asked_is)

@@ -35,7 +35,7 @@ pub record Transfers (did : List Action → Type 0) (before : Outside) (actions 
   pub reads : did (filter is_reading actions)
 
 -- the text has a front of the rows before the first fault: all that the places before `next` give, and maybe more; and each read was in time
-pub record Keeps (axis : Axis) (w chunk : ℕ) (actions : List Action) (written : Written) : Type 0 where
+pub record KeepsText (axis : Axis) (w chunk : ℕ) (actions : List Action) (written : Written) : Type 0 where
   pub done : List Row  -- what the places before `next` give
   pub gives : Gives axis.gives 0 written.next done
   pub begun : written.begun ≡ length done
@@ -51,7 +51,7 @@ pub record Stops (axis : Axis) (w chunk : ℕ) (actions : List Action) : Type 0 
 
 -- so long as all goes well, the text is kept; with a fault the run stops
 abbrev pub KeepsOrStops : {T : Type 0} → Axis → ℕ → ℕ → List Action → Result T Fault → Written → Type 0
-KeepsOrStops axis w chunk actions (Ok _) written = Keeps axis w chunk actions written
+KeepsOrStops axis w chunk actions (Ok _) written = KeepsText axis w chunk actions written
 KeepsOrStops axis w chunk actions (Err fault) written = Stops axis w chunk actions
 
 -- where the text is after a part
@@ -120,13 +120,13 @@ abbrev pub StopsFor : (Fault → Type 0) → (Fault → Type 0) → List Action 
 StopsFor failed broke actions fault = IsWriteStop actions fault ⊎ failed fault ⊎ broke fault
 
 -- rows are answered where all places give them, and their text was written
-abbrev pub Writes : Axis → List Action → Result ℕ Fault → Type 0
-Writes axis actions (Ok n) = (rows : List Row) × (collected axis.gives ≡ Ok rows) × (flat_map text_by actions ≡ axis.text_of rows) × (n ≡ length rows)
-Writes axis actions (Err fault) = Unit {0}
+abbrev pub WritesRows : Axis → List Action → Result ℕ Fault → Type 0
+WritesRows axis actions (Ok n) = (rows : List Row) × (collected axis.gives ≡ Ok rows) × (flat_map text_by actions ≡ axis.text_of rows) × (n ≡ length rows)
+WritesRows axis actions (Err fault) = Unit {0}
 
 -- what a run answers and what it wrote, given what each place gives: all rows, or a fault that is due; the text is a front of the rows' before the first fault, and each read in time
 pub record DrivesAxis (axis : Axis) (is_due : Fault → Type 0) (w chunk : ℕ) (actions : List Action) (result : Result ℕ Fault) : Type 0 where
-  pub writes : Writes axis actions result
+  pub writes : WritesRows axis actions result
   pub due : IfErr result (IsDue is_due)
   pub front : Stops axis w chunk actions
 

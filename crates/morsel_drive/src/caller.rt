@@ -3,7 +3,7 @@ ghost use Rattle.std.specs.Prelude.{◌≡◌, ℕ, ◌+◌, ◌<◌, List, ◌+
 ghost use Rattle.morsel_outside.specs.Actions.{Action};
 ghost use Rattle.morsel_scan.specs.Ahead.{EndsEachRow};
 ghost use Rattle.morsel_drive.specs.Lines.{IsSoundAxis, ReadsFor};
-ghost use Rattle.morsel_drive.specs.Driving.{IsAfter, WritesPart, WritesOn, KeepsOrStops, Keeps, HoldsFitting, FitsInput, GivesInput, ReadsInTime, EndsWith, DrivesAxis, Drives};
+ghost use Rattle.morsel_drive.specs.Driving.{IsAfter, WritesPart, WritesOn, KeepsOrStops, KeepsText, HoldsFitting, FitsInput, GivesInput, ReadsInTime, EndsWith, DrivesAxis, Drives};
 
 use crate::line::{Line, PieceSource, Taken};
 use crate::written::Written;
@@ -22,7 +22,7 @@ pub enum Input {
     Ended,
 }
 
-/// Writes a part where it begins at the place where the text ends.
+/// WritesRows a part where it begins at the place where the text ends.
 fn write_part<H: Io>(io: &mut H, part: &Encoded, written: &mut Written) -> Result<(), Fault>
     requires made { 0 < (H.seen io.old).sinks }
     ensures { WritesPart (H.seen io.old) part.now written.old result (H.seen io.new) written.new }
@@ -67,7 +67,7 @@ fn after(written: Written, part: &Encoded, rows: u64) -> Written
 fn write_on<H: Io, L: Line>(io: &mut H, line: &mut L, written: &mut Written) -> Result<bool, Fault>
     requires made { 0 < (H.seen io.old).sinks }
     ensures { WritesOn (λ writes. (job : L.Job) → L.serves line.old job → IsSoundAxis (L.axis job)
-        → OnOk result (L.serves line.new job) × ((w chunk : ℕ) (before : List Action) → Keeps (L.axis job) w chunk before written.old
+        → OnOk result (L.serves line.new job) × ((w chunk : ℕ) (before : List Action) → KeepsText (L.axis job) w chunk before written.old
         → KeepsOrStops (L.axis job) w chunk (before ++ writes) result written.new)) (H.seen io.old) result (H.seen io.new) }
 {
     'parts: for _ in 0..u64::MAX {
