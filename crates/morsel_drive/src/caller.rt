@@ -22,7 +22,7 @@ pub enum Input {
     Ended,
 }
 
-/// WritesRows a part where it begins at the place where the text ends.
+/// Writes a part where it begins at the place where the text ends.
 fn write_part<H: Io>(io: &mut H, part: &Encoded, written: &mut Written) -> Result<(), Fault>
     requires made { 0 < (H.seen io.old).sinks }
     ensures { WritesPart (H.seen io.old) part.now written.old result (H.seen io.new) written.new }
