@@ -2,8 +2,10 @@
 #![tactic(auto)]
 
 mod number;
+mod settle;
 
 pub use number::{Number, send_seven};
+pub use settle::settle;
 
 #[cfg(test)]
 mod tests;
