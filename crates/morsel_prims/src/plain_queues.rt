@@ -197,7 +197,6 @@ impl<T: Message> PlainQueues<T> {
         requires place { place_of_row mine.old.badge.views ≡ 2 * index }
         ensures table { (self.new.roll.seat.table_id ≡ self.old.roll.seat.table_id) × (mine.new.badge.table_id ≡ mine.old.badge.table_id) × (mine.new.badge.views ≡ mine.old.badge.views) }
         ensures waits { send_waits_of (slice_get self.new.lanes.items index) ≡ Some task }
-        ensures same_waits { recv_waits_of (slice_get self.new.lanes.items index) ≡ recv_waits_of (slice_get self.old.lanes.items index) }
         ensures lane { WaitsToSend (slice_get self.old.lanes.items index) (slice_get self.new.lanes.items index) }
         ensures others { OnlyLane index self.old.lanes.items self.new.lanes.items }
         ensures rows { self.new.roll.seat.me.0.rows ≡ self.old.roll.seat.me.0.rows }
@@ -214,7 +213,6 @@ impl<T: Message> PlainQueues<T> {
         requires place { place_of_row mine.old.badge.views ≡ 2 * index + 1 }
         ensures table { (self.new.roll.seat.table_id ≡ self.old.roll.seat.table_id) × (mine.new.badge.table_id ≡ mine.old.badge.table_id) × (mine.new.badge.views ≡ mine.old.badge.views) }
         ensures waits { recv_waits_of (slice_get self.new.lanes.items index) ≡ Some task }
-        ensures same_waits { send_waits_of (slice_get self.new.lanes.items index) ≡ send_waits_of (slice_get self.old.lanes.items index) }
         ensures lane { WaitsToTake (slice_get self.old.lanes.items index) (slice_get self.new.lanes.items index) }
         ensures others { OnlyLane index self.old.lanes.items self.new.lanes.items }
         ensures rows { self.new.roll.seat.me.0.rows ≡ self.old.roll.seat.me.0.rows }
