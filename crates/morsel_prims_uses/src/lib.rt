@@ -2,10 +2,10 @@
 #![tactic(auto)]
 
 mod number;
-mod settle;
+mod receipts;
 
 pub use number::{Number, send_seven};
-pub use settle::settle;
+pub use receipts::settle;
 
 #[cfg(test)]
 mod tests;

@@ -3,7 +3,7 @@ ghost use Rattle.std.specs.Prelude.{◌≡◌, ◌<◌, ◌≤◌, IfOk};
 ghost use Rattle.morsel_prims.specs.Polled.{LaneHistory};
 
 use crate::number::Number;
-use crate::settle::settle;
+use crate::receipts::settle;
 use morsel_meaning::{Fault, TaskNo};
 use morsel_prims::{
     Cx, Ended, LaneReceiver, LaneSender, Lanes, Poll, RecvError, SendError, Tokens, Wakes,
