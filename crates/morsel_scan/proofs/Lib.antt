@@ -16,3 +16,5 @@ pub mod StepLemmas
 mod WorkedFacts
 mod PieceFacts
 pub mod RowCutLemmas
+pub mod SourceLemmas
+pub mod FlawLemmas
