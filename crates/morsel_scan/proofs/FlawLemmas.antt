@@ -1,5 +1,5 @@
 -- Names of a choice of columns, one after another, and the first that no column has.
-use Rattle.std.proofs.Common.{◌≡◌, ℕ, ◌+◌, ◌<◌, ◌∙◌, sym, ap, refl, Bool, true, false, List, [], ◌∷◌, length, drop, get_or}
+use Rattle.std.proofs.Common.{◌≡◌, ℕ, ◌+◌, ◌<◌, ◌∙◌, sym, ap, Bool, true, false, List, ◌∷◌, length, drop, get_or}
 use Rattle.std.specs.Prelude.{if◌then◌else◌, is_some, Option, Some, None}
 use Rattle.std.proofs.lemmas.List.{drop_more}
 use Rattle.morsel_meaning.specs.declared.value.Field.{Field}

@@ -19,7 +19,7 @@ use Rattle.morsel_scan.specs.Scans.{FileOptions, Scan, CsvScan}
 use Rattle.morsel_scan.specs.ScanColumns.{used_columns}
 use Rattle.morsel_scan.specs.CsvScans.{Decodes}
 use Rattle.morsel_scan.specs.Filters.{Filter}
-use Rattle.morsel_scan.specs.Decoding.{text_reading, step_fields, step_mask, true_places, ReadsFirst, ReadsText, ChecksText, IsCut, ReadsKept, Finishes}
+use Rattle.morsel_scan.specs.Decoding.{text_reading, step_fields, ReadsFirst, ReadsText, ChecksText, IsCut, ReadsKept, Finishes}
 use Rattle.morsel_scan.specs.Nodes.{node_of, IsPrepared, AddsIndex, AddsPath, KeepsRows}
 use Rattle.morsel_scan.proofs.ReadLemmas.{take-all, reads_text_ok, reads_text_err, checks_text_ok, checks_text_err}
 use Rattle.morsel_scan.proofs.RowCutLemmas.{cut_found, cut_none}

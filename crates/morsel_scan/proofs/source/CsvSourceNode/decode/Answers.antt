@@ -1,5 +1,5 @@
 use Rattle.std.specs.Prelude.{◌+◌}
-use Rattle.std.proofs.Common.{ap, subst, ℕ}
+use Rattle.std.proofs.Common.{subst, ℕ}
 use Rattle.morsel_scan.specs.Decoding.{Finishes}
 use Rattle.morsel_scan.proofs.SourceLemmas.{piece_decoded}
 use Rattle.morsel_scan.proofs.source.CsvSourceNode.decode.Goals as goal
