@@ -15,7 +15,7 @@ use morsel_meaning::Fault;
 use std::alloc::Global;
 
 /// Which columns are used and kept.
-struct Marks {
+struct ColumnMarks {
     /// Which columns of the files are used.
     used: Vec<bool>,
     /// None of them.
@@ -44,7 +44,7 @@ fn marks_of(
     schema: &Schema,
     asked: &FileScanOptions,
     filter: &Option<Pred>,
-) -> Result<Marks, Fault>
+) -> Result<ColumnMarks, Fault>
     ensures used { IfOk result (λ marks. marks.used.items ≡ used_columns (record { fields = schema.now; asked = asked.now; filter = filter.now })) }
     ensures unused { IfOk result (λ marks. marks.unused.items ≡ map (λ field. false) schema.now) }
     ensures kept { IfOk result (λ marks. marks.kept.items ≡ true_places 0 (step_mask (record { fields = schema.now; asked = asked.now; filter = filter.now }))) }
@@ -55,7 +55,7 @@ fn marks_of(
     let unused = vec![in alloc; false; schema.len()]?;
     let kept = kept_places(alloc, schema, asked, used.as_slice())?;
     let step = step_schema(alloc, schema, asked, used.as_slice())?;
-    Ok(Marks {
+    Ok(ColumnMarks {
         used,
         unused,
         kept,
@@ -98,7 +98,7 @@ pub fn source_columns(
     check_scan(alloc, schema, asked, &filter)?;
     match marks_of(alloc, schema, asked, &filter) {
         Ok(marks) => {
-            let Marks {
+            let ColumnMarks {
                 used,
                 unused,
                 kept,
