@@ -20,3 +20,5 @@ pub mod StretchLemmas
 pub mod PartLemmas
 pub mod AxisLemmas
 pub mod AxisFileLemmas
+pub mod SourceLemmas
+pub mod FlawLemmas

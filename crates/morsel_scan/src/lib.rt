@@ -6,6 +6,10 @@ mod decode_steps;
 mod filter_step;
 mod laws;
 mod place_laws;
+mod source;
+mod source_columns;
+mod source_fields;
+mod source_marks;
 mod spec;
 
 pub use ahead::{
@@ -22,4 +26,5 @@ pub use place_laws::{
     a_fault_is_that_of_a_place, a_part_of_a_stretch_has_its_place, all_places_give_all_rows,
     first_places_give_first_rows, places_give_part_by_part, stretches_follow_one_another,
 };
+pub use source::CsvSourceNode;
 pub use spec::{FileScanOptions, RowIndex, ScanFormat, ScanSpec};
