@@ -20,3 +20,6 @@ pub mod StretchLemmas
 pub mod PartLemmas
 pub mod AxisLemmas
 pub mod AxisFileLemmas
+pub mod MidstLemmas
+pub mod StandLemmas
+pub mod PassedLemmas

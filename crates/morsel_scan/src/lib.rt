@@ -18,7 +18,7 @@ pub use laws::{
     a_text_is_scanned_piece_by_piece, files_are_scanned_one_after_the_other, positions_go_on,
     rows_are_gathered_part_by_part,
 };
-pub use place_laws::{
+pub use place_laws::{scratch,
     a_fault_is_that_of_a_place, a_part_of_a_stretch_has_its_place, all_places_give_all_rows,
     first_places_give_first_rows, places_give_part_by_part, stretches_follow_one_another,
 };

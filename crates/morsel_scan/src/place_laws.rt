@@ -49,3 +49,9 @@ pub fn places_give_the_rows_of_the_scan()
 pub fn places_give_what_the_scan_means()
     ensures { (s : CsvScan) → AreOptions s.options → GivesScan s }
 {}
+
+/// Scratch.
+#[tactic(auto, using(crate::proofs::PassedLemmas::nothing_between))]
+pub fn scratch()
+    ensures { GivesOn }
+{}
