@@ -23,3 +23,4 @@ pub mod AxisFileLemmas
 pub mod MidstLemmas
 pub mod StandLemmas
 pub mod PassedLemmas
+pub mod FilesPassedLemmas
