@@ -24,3 +24,4 @@ pub mod MidstLemmas
 pub mod StandLemmas
 pub mod PassedLemmas
 pub mod FilesPassedLemmas
+pub mod AxisPieceLemmas

@@ -144,11 +144,11 @@ rows_rise s bytes at to rows more fit (inl (awaits_header, has)) upto order =
     let five = gap.rows in
     omega (arith, three, four, five)
 
-size_of : (s : CsvScan) (make : Maker) (start : PartStart) (text : List ℕ) → AreOptions s.options → length (gives_of (text_axis s make start (text_parts s.options text))) ≡ length text
+pub size_of : (s : CsvScan) (make : Maker) (start : PartStart) (text : List ℕ) → AreOptions s.options → length (gives_of (text_axis s make start (text_parts s.options text))) ≡ length text
 size_of s make start text fit = length-gives_of (text_axis s make start (text_parts s.options text)) ∙ bytes_of-text s make fit text start
 
 -- what a file gives, its text being cut after records
-file-cut : (s : CsvScan) (make : Maker) (file : ℕ) (name : List ℕ) (position : ℕ) (bytes front rest : List ℕ) (records : List CsvRecord) → AreOptions s.options → unmarked bytes ≡ front ++ rest
+pub file-cut : (s : CsvScan) (make : Maker) (file : ℕ) (name : List ℕ) (position : ℕ) (bytes front rest : List ℕ) (records : List CsvRecord) → AreOptions s.options → unmarked bytes ≡ front ++ rest
     → (AreWholeRecords s.options front records) ⊎ (rest ≡ [])
     → (let start : PartStart = file_start s file name position bytes in
     gives_of (file_axis s make file name position bytes)
