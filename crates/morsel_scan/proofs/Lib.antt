@@ -25,3 +25,4 @@ pub mod StandLemmas
 pub mod PassedLemmas
 pub mod FilesPassedLemmas
 pub mod AxisPieceLemmas
+pub mod AxisFaultLemmas

@@ -51,7 +51,7 @@ pub fn places_give_what_the_scan_means()
 {}
 
 /// Scratch.
-#[tactic(auto, using(crate::proofs::StretchLemmas::gives_on, crate::proofs::AxisPieceLemmas::within_piece))]
+#[tactic(auto, using(crate::proofs::StretchLemmas::gives_on, crate::proofs::AxisFaultLemmas::piece_fault))]
 pub fn scratch()
     ensures { GivesOn }
 {}
