@@ -26,3 +26,4 @@ pub mod PassedLemmas
 pub mod FilesPassedLemmas
 pub mod AxisPieceLemmas
 pub mod AxisFaultLemmas
+pub mod AxisEndLemmas

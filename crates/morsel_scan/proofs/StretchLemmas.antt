@@ -65,7 +65,7 @@ front-split gives m rows g =
 pub gives_front : GivesFront
 gives_front = λ gives to rows g. (before_fault (drop to gives), front-split gives to rows g)
 
-slice_all : (xs : Places) → slice_range xs 0 (length xs) ≡ xs
+pub slice_all : (xs : Places) → slice_range xs 0 (length xs) ≡ xs
 slice_all xs = from_front xs (length xs) ∙ take_all (length xs) xs (omega arith)
 
 pub gives_all : GivesAll

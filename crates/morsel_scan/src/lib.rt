@@ -18,8 +18,7 @@ pub use laws::{
     a_text_is_scanned_piece_by_piece, files_are_scanned_one_after_the_other, positions_go_on,
     rows_are_gathered_part_by_part,
 };
-pub use place_laws::{scratch,
-    a_fault_is_that_of_a_place, a_part_of_a_stretch_has_its_place, all_places_give_all_rows,
-    first_places_give_first_rows, places_give_part_by_part, stretches_follow_one_another,
+pub use place_laws::{
+    a_fault_is_that_of_a_place, a_part_of_a_stretch_has_its_place, a_stretch_gives_the_rows_of_its_piece, all_places_give_all_rows, first_places_give_first_rows, nothing_is_given_after_the_last_row, nothing_is_given_past_the_slice, pieces_one_after_the_other_are_the_scan, places_give_part_by_part, places_give_the_rows_of_the_scan, places_give_what_the_scan_means, stretches_follow_one_another,
 };
 pub use spec::{FileScanOptions, RowIndex, ScanFormat, ScanSpec};

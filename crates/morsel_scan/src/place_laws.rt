@@ -1,7 +1,7 @@
 //! Laws of places: what stretches of the sources' bytes give, and that it is what a scan means.
 ghost use Rattle.morsel_grammar.specs.Options.{AreOptions};
 ghost use Rattle.morsel_scan.specs.Scans.{CsvScan};
-ghost use Rattle.morsel_scan.specs.CsvAxisLaws.{GivesScanRows, GivesScan};
+ghost use Rattle.morsel_scan.specs.CsvAxisLaws.{GivesScanRows, GivesScan, GivesPieces, ScansChained, GivesNothingAtEnd, GivesNothingPastSlice};
 ghost use Rattle.morsel_scan.specs.StretchLaws.{CollectsParts, GivesOn, GivesFront, GivesAll, GivesMidst, GivesFaults};
 
 /// Places in two parts give what the one gives, and then the other.
@@ -50,8 +50,22 @@ pub fn places_give_what_the_scan_means()
     ensures { (s : CsvScan) → AreOptions s.options → GivesScan s }
 {}
 
-/// Scratch.
-#[tactic(auto, using(crate::proofs::StretchLemmas::gives_on, crate::proofs::AxisFaultLemmas::piece_fault))]
-pub fn scratch()
-    ensures { GivesOn }
+/// A piece's stretch gives what is made of the piece by itself, and has each of its faults.
+pub fn a_stretch_gives_the_rows_of_its_piece()
+    ensures { (s : CsvScan) → AreOptions s.options → GivesPieces s }
+{}
+
+/// What is made of pieces from the beginning on, after which no place gives anything, is the scan's rows.
+pub fn pieces_one_after_the_other_are_the_scan()
+    ensures { (s : CsvScan) → AreOptions s.options → ScansChained s }
+{}
+
+/// No place gives anything after the last row, where the bytes that follow are UTF-8 and records.
+pub fn nothing_is_given_after_the_last_row()
+    ensures { (s : CsvScan) → AreOptions s.options → GivesNothingAtEnd s }
+{}
+
+/// No place gives anything from where the slice keeps no more, unless it has a fault.
+pub fn nothing_is_given_past_the_slice()
+    ensures { (s : CsvScan) → AreOptions s.options → GivesNothingPastSlice s }
 {}
