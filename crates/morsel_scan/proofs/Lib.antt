@@ -27,3 +27,4 @@ pub mod FilesPassedLemmas
 pub mod AxisPieceLemmas
 pub mod AxisFaultLemmas
 pub mod AxisEndLemmas
+pub mod AxisRowLemmas

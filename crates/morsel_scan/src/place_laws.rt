@@ -1,7 +1,7 @@
 //! Laws of places: what stretches of the sources' bytes give, and that it is what a scan means.
 ghost use Rattle.morsel_grammar.specs.Options.{AreOptions};
 ghost use Rattle.morsel_scan.specs.Scans.{CsvScan};
-ghost use Rattle.morsel_scan.specs.CsvAxisLaws.{GivesScanRows, GivesScan, GivesPieces, ScansChained, GivesNothingAtEnd, GivesNothingPastSlice};
+ghost use Rattle.morsel_scan.specs.CsvAxisLaws.{HasEachByte, EndsEachRowOfFiles, GivesScanRows, GivesScan, GivesPieces, ScansChained, GivesNothingAtEnd, GivesNothingPastSlice};
 ghost use Rattle.morsel_scan.specs.StretchLaws.{CollectsParts, GivesOn, GivesFront, GivesAll, GivesMidst, GivesFaults};
 
 /// Places in two parts give what the one gives, and then the other.
@@ -68,4 +68,14 @@ pub fn nothing_is_given_after_the_last_row()
 /// No place gives anything from where the slice keeps no more, unless it has a fault.
 pub fn nothing_is_given_past_the_slice()
     ensures { (s : CsvScan) → AreOptions s.options → GivesNothingPastSlice s }
+{}
+
+/// Each byte of a scan's files has its place.
+pub fn each_byte_has_its_place()
+    ensures { (s : CsvScan) → AreOptions s.options → HasEachByte s }
+{}
+
+/// Places at which no row ends are of one record at most.
+pub fn places_at_which_no_row_ends_are_of_one_record()
+    ensures { (s : CsvScan) → EndsEachRowOfFiles s }
 {}
