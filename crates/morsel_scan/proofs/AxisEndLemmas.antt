@@ -1,9 +1,8 @@
 -- What the places of all files give, by the pieces of a scan; and what they give after the last piece.
-use Rattle.std.proofs.Common.{◌≡◌, ◌≢◌, ℕ, zero, suc, ◌+◌, ◌-◌, ◌<◌, ◌≤◌, ap, sym, subst, refl, ◌∙◌, inl, inr, arith, append_assoc, append-nil, length-append}
-use Rattle.std.specs.Prelude.{Bool, true, false, ◌⊎◌, ◌&&◌, if◌then◌else◌, nat_le, Option, Some, None, Result, Ok, Err, List, [], ◌∷◌, ◌++◌, length, take, drop, slice_get, slice_range, IsUtf8}
+use Rattle.std.proofs.Common.{◌≡◌, ℕ, zero, suc, ◌+◌, ◌-◌, ◌≤◌, ap, sym, subst, refl, ◌∙◌, inl, inr, arith, append_assoc, append-nil, length-append}
+use Rattle.std.specs.Prelude.{Bool, true, false, ◌&&◌, if◌then◌else◌, nat_le, Option, Some, None, Result, Ok, Err, List, [], ◌∷◌, ◌++◌, length, take, drop, slice_range}
 use Rattle.std.specs.List.{sum_by}
 use Rattle.std.specs.Str.{is_utf8}
-use Rattle.std.proofs.lemmas.List.{take_all, length-drop}
 use Rattle.std.proofs.lemmas.List.Sums.{sum_by-append}
 use Rattle.morsel_meaning.specs.declared.fault.ComputeKind.TheVariants as kinds
 use Rattle.morsel_meaning.specs.declared.fault.Fault.{Fault}
@@ -16,19 +15,19 @@ use Rattle.morsel_grammar.specs.Reading.{used_values}
 use Rattle.morsel_grammar.proofs.WholeRecordLemmas.{records_whole}
 use Rattle.morsel_cut.specs.RowCounts.{row_count}
 use Rattle.morsel_pipe.specs.Pieces.{Piece}
-use Rattle.morsel_scan.specs.Scans.{Scan, CsvScan}
+use Rattle.morsel_scan.specs.Scans.{CsvScan}
 use Rattle.morsel_scan.specs.ScanColumns.{used_columns}
-use Rattle.morsel_scan.specs.ScanRows.{Placed, followed_by, row_of_values, scanned, slice_keeps, total_rows}
+use Rattle.morsel_scan.specs.ScanRows.{Placed, followed_by, row_of_values, scanned, total_rows}
 use Rattle.morsel_scan.specs.CsvScans.{csv_sources, csv_scan_rows, piece_keeps, piece_rows}
-use Rattle.morsel_scan.specs.CsvPieces.{HasRowsUpTo, HaveRows, BeginsStretch, IsPieceOf}
+use Rattle.morsel_scan.specs.CsvPieces.{HasRowsUpTo, IsPieceOf}
 use Rattle.morsel_scan.specs.ScanLaws.{rows_of_pieces}
-use Rattle.morsel_scan.specs.StretchRows.{collected, Gives, HasFaultWithin}
-use Rattle.morsel_scan.specs.CsvAxis.{TextPart, text_parts, PartStart, is_row_part, rows_of_part, start_after, scanned_within, rows_made, record_gives, part_gives, AxisPart, axis_part, text_axis, file_axis, rows_counted, files_axis, last_of, gives_of, csv_keeps}
+use Rattle.morsel_scan.specs.StretchRows.{collected, Gives}
+use Rattle.morsel_scan.specs.CsvAxis.{TextPart, text_parts, PartStart, start_after, scanned_within, rows_made, record_gives, part_gives, AxisPart, text_axis, file_axis, rows_counted, files_axis, last_of, gives_of, csv_keeps}
 use Rattle.morsel_scan.specs.CsvAxisLaws.{GivesPieces, AreChained, ScansChained, GivesNothingAtEnd, GivesNothingPastSlice}
 use Rattle.morsel_scan.proofs.GatherLemmas.{followed_by-nothing, followed_by-end}
-use Rattle.morsel_scan.proofs.StretchLemmas.{Places, collected-append, slice-append, slice_all, gives_all}
+use Rattle.morsel_scan.proofs.StretchLemmas.{Places, collected-append, slice-append, slice_all}
 use Rattle.morsel_scan.proofs.PartLemmas.{parts-whole, start_past, start_past-records}
-use Rattle.morsel_scan.proofs.AxisLemmas.{Maker, length-last_of, bytes_of, length-gives_of, gives_of-append, text_axis-append, rows_counted-past, rows_counted-records}
+use Rattle.morsel_scan.proofs.AxisLemmas.{Maker, length-last_of, length-gives_of, gives_of-append, text_axis-append, rows_counted-records}
 use Rattle.morsel_scan.proofs.AxisFileLemmas.{file_start, bytes_of-file, bytes_of-files, rows_counted-file, MakeAlike, collected-files, made_sources-scanned, gives_scan_rows}
 use Rattle.morsel_scan.proofs.MidstLemmas.{IsMidst, midst-order, midst-slice, midst-later, GivesNothing, fault-midst}
 use Rattle.morsel_scan.proofs.PassedLemmas.{BeginsHere, size_of, file-cut}

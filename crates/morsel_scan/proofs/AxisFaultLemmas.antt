@@ -1,6 +1,6 @@
 -- Each fault of a text is that of one of its places.
-use Rattle.std.proofs.Common.{◌≡◌, ◌≢◌, ℕ, zero, suc, ◌+◌, ◌-◌, ◌<◌, ◌≤◌, ap, sym, subst, refl, ◌∙◌, inl, inr, arith, append_assoc, append-nil}
-use Rattle.std.specs.Prelude.{Bool, true, false, not, ◌⊎◌, ◌&&◌, if◌then◌else◌, Option, Some, None, Result, Ok, Err, List, [], ◌∷◌, ◌++◌, length}
+use Rattle.std.proofs.Common.{◌≡◌, ◌≢◌, ℕ, zero, suc, ◌+◌, ◌<◌, ◌≤◌, ap, sym, subst, refl, ◌∙◌, inl, inr, arith, append_assoc}
+use Rattle.std.specs.Prelude.{Bool, true, false, not, ◌⊎◌, if◌then◌else◌, Some, None, Result, Ok, Err, List, [], ◌∷◌, ◌++◌, length}
 use Rattle.std.specs.Str.{is_utf8}
 use Rattle.std.proofs.lemmas.List.{length-map}
 use Rattle.morsel_meaning.specs.declared.value.ColType.{ColType}
@@ -8,18 +8,16 @@ use Rattle.morsel_meaning.specs.declared.value.Field.{Field}
 use Rattle.morsel_meaning.specs.declared.fault.Fault.{Fault}
 use Rattle.morsel_meaning.specs.Values.{Row, kinds_of}
 use Rattle.morsel_grammar.specs.Options.{Options, AreOptions}
-use Rattle.morsel_grammar.specs.Grammar.{CsvRecord, Records}
+use Rattle.morsel_grammar.specs.Grammar.{CsvRecord}
 use Rattle.morsel_grammar.specs.Cells.{CsvCell}
 use Rattle.morsel_grammar.specs.Rows.{RowOf, NoRow, IsRow, Misfit, is_header, row_of}
-use Rattle.morsel_grammar.specs.Split.{record_at}
 use Rattle.morsel_grammar.specs.Reading.{Malformed, NotUtf8, Reading, reading, refuses, row_then, split_then}
 use Rattle.morsel_grammar.specs.Results.{flaw_fault, refusal_fault}
-use Rattle.morsel_grammar.proofs.FirstRecordLemmas.{IsTaken}
 use Rattle.morsel_grammar.proofs.JoinedLemmas.{reading-split, reading-record}
-use Rattle.morsel_cut.specs.RowCounts.{is_row, row_count}
+use Rattle.morsel_cut.specs.RowCounts.{is_row}
 use Rattle.morsel_cut.proofs.CountLemmas.{Agrees, record_agrees}
 use Rattle.morsel_pipe.specs.Pieces.{Piece}
-use Rattle.morsel_scan.specs.Scans.{Scan, CsvScan}
+use Rattle.morsel_scan.specs.Scans.{CsvScan}
 use Rattle.morsel_scan.specs.ScanRows.{Placed, placed, scanned}
 use Rattle.morsel_scan.specs.CsvScans.{piece_keeps, piece_source, piece_placed, HasRowFault, UnlessOutOfMemory, IsPieceFault}
 use Rattle.morsel_scan.specs.CsvPieces.{IsPieceOf}
@@ -28,10 +26,10 @@ use Rattle.morsel_scan.specs.CsvAxis.{text_parts, PartStart, is_row_part, awaits
 use Rattle.morsel_scan.proofs.CountLemmas.{counted}
 use Rattle.morsel_scan.proofs.ReadLemmas.{unless-map}
 use Rattle.morsel_scan.proofs.StretchLemmas.{Places}
-use Rattle.morsel_scan.proofs.PartLemmas.{HoldsByRecords, by_records, found_part, parts-none, parts-record}
+use Rattle.morsel_scan.proofs.PartLemmas.{by_records, found_part, parts-none, parts-record}
 use Rattle.morsel_scan.proofs.AxisLemmas.{Maker}
 use Rattle.morsel_scan.proofs.AxisFileLemmas.{MakeAlike}
-use Rattle.morsel_scan.proofs.MidstLemmas.{IsMidst, midst-order, fault-midst}
+use Rattle.morsel_scan.proofs.MidstLemmas.{midst-order, fault-midst}
 use Rattle.morsel_scan.proofs.AxisPieceLemmas.{piece_start, piece_stretch}
 
 -- one of these rows is made a fault
@@ -122,27 +120,29 @@ fault_among s make fit text =
     by_records o P fit (record {
       nothing = λ start fault is. absurd (nothing_read start.file start.position start.name fault is);
       none = λ text some none start fault is.
-      let read : reading o types start.awaits_header start.at text ≡ refuses start.awaits_header start.at Malformed =
-      reading-split o types start.awaits_header start.at text fit some ∙ ap (λ found. split_then o types start.awaits_header start.at text found (λ head place rest. reading o types head place rest)) none in
-      let flaw : Err (flaw_fault start.file start.at Malformed) ≡ Err fault = refused_only start.file start.position start.name start.at start.awaits_header fault (subst (λ r. IsTextFault make start.file start.name start.position r fault) read is) in
-      subst (λ parts. IsAmong (gives_of (text_axis s make start parts)) fault) (sym (parts-none o text fit some none))
-      (last_among (length text) (Err (flaw_fault start.file start.at Malformed)) [] fault (some_size text some) flaw);
+          let read : reading o types start.awaits_header start.at text ≡ refuses start.awaits_header start.at Malformed =
+          reading-split o types start.awaits_header start.at text fit some ∙ ap (λ found. split_then o types start.awaits_header start.at text found (λ head place rest. reading o types head place rest)) none in
+          let flaw : Err (flaw_fault start.file start.at Malformed) ≡ Err fault = refused_only start.file start.position start.name start.at start.awaits_header fault (subst (λ r. IsTextFault make start.file start.name start.position r fault) read is) in
+          subst (λ parts. IsAmong (gives_of (text_axis s make start parts)) fault) (sym (parts-none o text fit some none))
+          (last_among (length text) (Err (flaw_fault start.file start.at Malformed)) [] fault (some_size text some) flaw);
       first = λ r text next bytes taken later start fault is.
-      let after : PartStart = start_after (length s.scan.fields) start (found_part bytes r) in
-      let some : 0 < length bytes = let size = taken.size in let shorter = taken.shorter in omega arith in
-      subst (λ parts. IsAmong (gives_of (text_axis s make start parts)) fault) (sym (parts-record o r text next bytes fit taken))
-      (either (length bytes) (part_gives s make start bytes (Some r)) (gives_of (text_axis s make after (text_parts o next))) fault some
-      (IsTextFault make after.file after.name after.position (reading o types after.awaits_header after.at next) fault) (later after fault)
-      (part_fault s make start.file start.name start.at start.position start.awaits_header (is_utf8 bytes) r (λ head. reading o types head (start.at + length bytes) next) fault
-      (subst (λ x. IsTextFault make start.file start.name start.position x fault) (reading-record o types start.awaits_header start.at r text next bytes fit taken) is)));
+          let after : PartStart = start_after (length s.scan.fields) start (found_part bytes r) in
+          let some : 0 < length bytes = let size = taken.size in let shorter = taken.shorter in omega arith in
+          subst (λ parts. IsAmong (gives_of (text_axis s make start parts)) fault) (sym (parts-record o r text next bytes fit taken))
+          (either (length bytes) (part_gives s make start bytes (Some r)) (gives_of (text_axis s make after (text_parts o next))) fault some
+          (IsTextFault make after.file after.name after.position (reading o types after.awaits_header after.at next) fault) (later after fault)
+          (part_fault s make start.file start.name start.at start.position start.awaits_header (is_utf8 bytes) r (λ head. reading o types head (start.at + length bytes) next) fault
+          (subst (λ x. IsTextFault make start.file start.name start.position x fault) (reading-record o types start.awaits_header start.at r text next bytes fit taken) is)));
     }) text
   where
     nothing_read : (file position : ℕ) (name : List ℕ) (fault : Fault) → IsTextFault make file name position (record { rows = []; head = true; refusal = None }) fault → ⊥
     nothing_read file position name fault (inl refused) = cc
     nothing_read file position name fault (inr (before, row, after, is, made)) = none_among before row after is
+
     refused_only : (file position : ℕ) (name : List ℕ) (at : ℕ) (head : Bool) (fault : Fault) → IsTextFault make file name position (refuses head at Malformed) fault → ◌≡◌ {A = Result (List Row) Fault} (Err (flaw_fault file at Malformed)) (Err fault)
     refused_only file position name at head fault (inl refused) = let same : flaw_fault file at Malformed ≡ fault = cc in ap Err same
     refused_only file position name at head fault (inr (before, row, after, is, made)) = absurd (none_among before row after is)
+
     either : (n : ℕ) (given : Result (List Row) Fault) (places : Places) (fault : Fault) → 0 < n → (Q : Type 0) → (Q → IsAmong places fault) → (given ≡ Err fault) ⊎ Q → IsAmong (last_of n (Ok []) given ++ places) fault
     either n given places fault some Q more (inl here) = last_among n given places fault some here
     either n given places fault some Q more (inr later) = later_among (last_of n (Ok []) given) places fault (more later)

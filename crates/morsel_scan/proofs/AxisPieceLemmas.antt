@@ -1,31 +1,27 @@
 -- What the stretch of a piece gives is what is made of the piece by itself.
-use Rattle.std.proofs.Common.{◌≡◌, ◌≢◌, ℕ, zero, suc, ◌+◌, ◌-◌, ◌<◌, ◌≤◌, ap, sym, subst, refl, ◌∙◌, inl, inr, arith, append_assoc, append-nil, length-append}
-use Rattle.std.specs.Prelude.{Bool, true, false, ◌⊎◌, ◌&&◌, if◌then◌else◌, Option, Some, None, Result, Ok, Err, List, [], ◌∷◌, ◌++◌, length, take, drop, slice_get, slice_range}
-use Rattle.std.specs.List.{sum_by}
-use Rattle.std.proofs.lemmas.List.{take-append-drop, drop_at, drop-drop, length-drop, nil_from_length}
-use Rattle.morsel_meaning.specs.declared.fault.Fault.{Fault}
-use Rattle.morsel_meaning.specs.Values.{Row, kinds_of}
-use Rattle.morsel_grammar.specs.Options.{Options, AreOptions}
+use Rattle.std.proofs.Common.{◌≡◌, ℕ, zero, suc, ◌+◌, ◌-◌, ◌≤◌, ap, sym, subst, refl, ◌∙◌, inl, inr, arith, append_assoc, length-append}
+use Rattle.std.specs.Prelude.{Bool, false, ◌⊎◌, if◌then◌else◌, Some, None, Ok, List, [], ◌∷◌, ◌++◌, length, take, drop, slice_get, slice_range}
+use Rattle.std.proofs.lemmas.List.{take-append-drop, drop_at, drop-drop, nil_from_length}
+use Rattle.morsel_grammar.specs.Options.{AreOptions}
 use Rattle.morsel_grammar.specs.Grammar.{CsvRecord, Records}
 use Rattle.morsel_grammar.specs.Rows.{behind_header, mark_len, unmarked}
-use Rattle.morsel_grammar.specs.Reading.{Reading, reading, used_values}
-use Rattle.morsel_grammar.specs.Results.{refusal_fault}
+use Rattle.morsel_grammar.specs.Reading.{used_values}
 use Rattle.morsel_grammar.specs.GrammarRows.{AreWholeRecords, awaits_header_after}
 use Rattle.morsel_grammar.proofs.WholeRecordLemmas.{records_whole}
 use Rattle.morsel_cut.specs.RowCounts.{row_count}
 use Rattle.morsel_pipe.specs.Pieces.{Piece}
-use Rattle.morsel_scan.specs.Scans.{Scan, CsvScan}
+use Rattle.morsel_scan.specs.Scans.{CsvScan}
 use Rattle.morsel_scan.specs.ScanColumns.{used_columns}
-use Rattle.morsel_scan.specs.ScanRows.{Placed, placed, gathered, ended_by, followed_by, row_of_values, scanned, slice_keeps}
+use Rattle.morsel_scan.specs.ScanRows.{ended_by, followed_by, row_of_values, scanned, slice_keeps}
 use Rattle.morsel_scan.specs.CsvScans.{piece_keeps, piece_source, piece_rows}
-use Rattle.morsel_scan.specs.CsvPieces.{HasRowsUpTo, IsRowPlace, IsPieceOf}
+use Rattle.morsel_scan.specs.CsvPieces.{HasRowsUpTo, IsPieceOf}
 use Rattle.morsel_scan.specs.StretchRows.{collected}
 use Rattle.morsel_scan.specs.CsvAxis.{TextPart, text_parts, PartStart, scanned_within, AxisPart, text_axis, file_axis, rows_counted, files_axis, last_of, gives_of}
 use Rattle.morsel_scan.proofs.CountLemmas.{counted}
 use Rattle.morsel_scan.proofs.GatherLemmas.{followed_by-nothing}
 use Rattle.morsel_scan.proofs.StretchLemmas.{Places, collected-append, slice-append}
-use Rattle.morsel_scan.proofs.PartLemmas.{parts-front, start_past, start_at, start_past-records}
-use Rattle.morsel_scan.proofs.AxisLemmas.{Maker, length-last_of, bytes_of, length-gives_of, gives_of-append, text_axis-append, collected-text, rows_counted-records}
+use Rattle.morsel_scan.proofs.PartLemmas.{parts-front, start_past, start_past-records}
+use Rattle.morsel_scan.proofs.AxisLemmas.{Maker, length-last_of, length-gives_of, gives_of-append, text_axis-append, collected-text, rows_counted-records}
 use Rattle.morsel_scan.proofs.AxisFileLemmas.{file_start, mark_size, bytes_of-file, rows_counted-file, MakeAlike, gathered-made, within_alike}
 use Rattle.morsel_scan.proofs.MidstLemmas.{IsMidst, midst-order, midst-slice, midst-later, midst-first, GivesNothing}
 use Rattle.morsel_scan.proofs.PassedLemmas.{AreRowsUpTo, rows_upto, size_of, file-cut}
@@ -189,11 +185,11 @@ collected-stretch s make first names files piece fit is alike =
       omega (arith, one.0, two.0),
       two.1,
       ap collected (slice-append gives piece.from stretch.start piece.to one.0 two.0)
-      ∙ collected-append (slice_range gives piece.from stretch.start) (slice_range gives stretch.start piece.to)
-      ∙ ap (λ (x : Places). followed_by (collected x) (collected (slice_range gives stretch.start piece.to))) (midst-slice stretch.passed.is)
-      ∙ ap (λ x. followed_by x (collected (slice_range gives stretch.start piece.to))) stretch.passed.nothing
-      ∙ followed_by-nothing (collected (slice_range gives stretch.start piece.to)) ∙ ap collected (midst-slice stretch.is)
-      ∙ collected-piece s make piece is.records fit is.split is.rows alike,
+          ∙ collected-append (slice_range gives piece.from stretch.start) (slice_range gives stretch.start piece.to)
+          ∙ ap (λ (x : Places). followed_by (collected x) (collected (slice_range gives stretch.start piece.to))) (midst-slice stretch.passed.is)
+          ∙ ap (λ x. followed_by x (collected (slice_range gives stretch.start piece.to))) stretch.passed.nothing
+          ∙ followed_by-nothing (collected (slice_range gives stretch.start piece.to)) ∙ ap collected (midst-slice stretch.is)
+          ∙ collected-piece s make piece is.records fit is.split is.rows alike,
     )
 
 -- a scan makes the same of a piece's rows as the piece says of itself

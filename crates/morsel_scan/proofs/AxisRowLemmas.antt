@@ -1,17 +1,16 @@
 -- Where the rows of a scan's files stand: places at which none ends are of one record at most.
-use Rattle.std.proofs.Common.{◌≡◌, ◌≢◌, ℕ, zero, suc, ◌+◌, ◌-◌, ◌<◌, ◌≤◌, ap, sym, subst, refl, ◌∙◌, inl, inr, arith, append_assoc, append-nil, length-append}
-use Rattle.std.specs.Prelude.{Bool, true, false, ◌⊎◌, ◌&&◌, if◌then◌else◌, nat_lt, Option, Some, None, Ok, List, [], ◌∷◌, ◌++◌, length, take, drop, get_or, slice_range}
+use Rattle.std.proofs.Common.{◌≡◌, ℕ, zero, suc, ◌+◌, ◌-◌, ◌<◌, ◌≤◌, ap, sym, refl, ◌∙◌, inl, inr, arith, length-append}
+use Rattle.std.specs.Prelude.{Bool, true, false, ◌⊎◌, ◌&&◌, if◌then◌else◌, nat_lt, Option, Some, None, List, [], ◌∷◌, ◌++◌, length, take, drop, get_or, slice_range}
 use Rattle.std.specs.List.{sum_by, flat_map}
 use Rattle.std.proofs.lemmas.Bool.Decides.{nat_tests}
-use Rattle.std.proofs.lemmas.List.{length-drop, take_all, drop_all, take-append-drop, get_or-append-add}
+use Rattle.std.proofs.lemmas.List.{length-drop, drop_all, take-append-drop, get_or-append-add}
 use Rattle.std.proofs.lemmas.List.Sums.{sum_by-append, sum_by-cons}
-use Rattle.morsel_meaning.specs.Values.{Row}
 use Rattle.morsel_grammar.specs.Options.{AreOptions}
 use Rattle.morsel_grammar.specs.Grammar.{CsvRecord}
 use Rattle.morsel_grammar.specs.Rows.{unmarked}
 use Rattle.morsel_scan.specs.Scans.{CsvScan}
-use Rattle.morsel_scan.specs.Ahead.{one_if, EndsNoRow}
-use Rattle.morsel_scan.specs.CsvAxis.{TextPart, text_parts, PartStart, is_row_part, start_after, scanned_within, AxisPart, axis_part, text_axis, file_axis, rows_counted, files_axis, last_of, gives_of, longest_of, csv_keeps}
+use Rattle.morsel_scan.specs.Ahead.{one_if}
+use Rattle.morsel_scan.specs.CsvAxis.{TextPart, text_parts, PartStart, is_row_part, start_after, scanned_within, AxisPart, axis_part, text_axis, file_axis, rows_counted, files_axis, last_of, longest_of, csv_keeps}
 use Rattle.morsel_scan.specs.CsvAxisLaws.{HasEachByte, EndsEachRowOfFiles}
 use Rattle.morsel_scan.proofs.AxisLemmas.{Maker, length-last_of, bytes_of, length-gives_of}
 use Rattle.morsel_scan.proofs.AxisFileLemmas.{file_start, bytes_of-files}
@@ -126,6 +125,7 @@ part_rows n true later from to longest rest none here more last past =
         next : (a ≤ b) ⊎ (b < a) → (suc a ≤ suc b) ⊎ (suc b < suc a)
         next (inl is) = inl (omega (arith, is))
         next (inr is) = inr (omega (arith, is))
+
     by_place : (to ≤ n) ⊎ (n < to) → (n ≤ from) ⊎ (from < n) → sum_by one_if (slice_range (last_of n true true) from to) ≤ sum_by one_if (last_of n true true) → sum_by one_if (last_of n true true) ≡ n
         → n ≤ longest → length (last_of n true true) ≡ n → sum_by one_if (slice_range (last_of n true true) from to) + rest ≤ longest
     by_place (inl within) either one two few size = let nothing = past within in omega (arith, one, two, few, nothing)

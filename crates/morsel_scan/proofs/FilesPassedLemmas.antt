@@ -1,22 +1,21 @@
 -- What is passed of files without a row gives nothing.
-use Rattle.std.proofs.Common.{◌≡◌, ◌≢◌, ℕ, zero, suc, ◌+◌, ◌-◌, ◌<◌, ◌≤◌, ap, sym, subst, refl, ◌∙◌, inl, inr, arith, append_assoc, append-nil, length-append}
-use Rattle.std.specs.Prelude.{Bool, true, false, ◌⊎◌, Some, None, Result, Ok, Err, List, [], ◌∷◌, ◌++◌, length, take, drop, get_or, slice_get, slice_range, IsUtf8}
+use Rattle.std.proofs.Common.{◌≡◌, ℕ, zero, suc, ◌+◌, ◌-◌, ◌<◌, ◌≤◌, ap, sym, subst, refl, ◌∙◌, inl, inr, arith, length-append}
+use Rattle.std.specs.Prelude.{Bool, ◌⊎◌, Some, List, [], ◌∷◌, ◌++◌, length, take, drop, get_or, slice_get, slice_range, IsUtf8}
 use Rattle.std.specs.List.{sum_by}
 use Rattle.std.proofs.lemmas.List.{take_all, length-drop}
 use Rattle.std.proofs.lemmas.List.Sums.{sum_by-cons}
-use Rattle.morsel_meaning.specs.Values.{Row}
-use Rattle.morsel_grammar.specs.Options.{Options, AreOptions}
+use Rattle.morsel_grammar.specs.Options.{AreOptions}
 use Rattle.morsel_grammar.specs.Grammar.{CsvRecord, Records}
-use Rattle.morsel_grammar.specs.Rows.{behind_header, mark_len, unmarked}
+use Rattle.morsel_grammar.specs.Rows.{behind_header, unmarked}
 use Rattle.morsel_grammar.proofs.RecordLemmas.{one_list}
 use Rattle.morsel_cut.specs.RowCounts.{row_count}
 use Rattle.morsel_scan.specs.Scans.{CsvScan}
-use Rattle.morsel_scan.specs.CsvPieces.{HaveRows, HasRowsUpTo, IsRowPlace, IsFileStart, BeginsStretch, bytes_between}
+use Rattle.morsel_scan.specs.CsvPieces.{HaveRows, IsRowPlace, BeginsStretch, bytes_between}
 use Rattle.morsel_scan.specs.CsvAxis.{AxisPart, file_axis, rows_counted, files_axis, gives_of}
 use Rattle.morsel_scan.proofs.StretchLemmas.{Places}
-use Rattle.morsel_scan.proofs.AxisLemmas.{Maker, bytes_of, length-gives_of, gives_of-append}
+use Rattle.morsel_scan.proofs.AxisLemmas.{Maker, length-gives_of, gives_of-append}
 use Rattle.morsel_scan.proofs.AxisFileLemmas.{mark_size, bytes_of-file}
-use Rattle.morsel_scan.proofs.MidstLemmas.{IsMidst, GivesNothing, nothing-later, nothing-first, nothing-over, nothing-here}
+use Rattle.morsel_scan.proofs.MidstLemmas.{GivesNothing, nothing-later, nothing-first, nothing-over, nothing-here}
 use Rattle.morsel_scan.proofs.PassedLemmas.{AreRowsUpTo, rows_upto_end, BeginsHere, rows_rise, nothing_between}
 
 -- of these files the one of this number, counted from 0, has something at a place, so many rows being before it; the files before it are records to their ends
@@ -67,9 +66,11 @@ begin_stands s files place rows (inl (source, at, awaits_header, is)) =
 begin_stands s files place rows (inr is) =
     let found = get_some files is.source is.is_source in
     let one = is.place_is in
-    let none : rows + 0 ≡ rows = omega arith in
-    (is.source, stands_same s (BeginsHere s) files is.source place (sum_by length (take is.source files) + 0) rows (rows + 0) (omega (arith, one)) none
-    (stands_at s (BeginsHere s) files is.source 0 rows 0 found.0 found.1 is.rows_before (inr (refl, refl))))
+    let none : rows + 0 ≡ rows = omega arith in (
+      is.source,
+      stands_same s (BeginsHere s) files is.source place (sum_by length (take is.source files) + 0) rows (rows + 0) (omega (arith, one)) none
+          (stands_at s (BeginsHere s) files is.source 0 rows 0 found.0 found.1 is.rows_before (inr (refl, refl))),
+    )
 
 -- the bytes of a later file between two places
 between-later : (bytes : List ℕ) (files : List (List ℕ)) (n from to : ℕ) → bytes_between (bytes ∷ files) (suc n) from to ≡ bytes_between files n (from - length bytes) (to - length bytes)

@@ -28,3 +28,4 @@ pub mod AxisPieceLemmas
 pub mod AxisFaultLemmas
 pub mod AxisEndLemmas
 pub mod AxisRowLemmas
+mod AxisFacts

@@ -1,12 +1,11 @@
 -- What is passed of a file without a row gives nothing.
-use Rattle.std.proofs.Common.{◌≡◌, ◌≢◌, ℕ, zero, suc, ◌+◌, ◌-◌, ◌<◌, ◌≤◌, ap, sym, subst, refl, ◌∙◌, inl, inr, arith, append_assoc, append-nil, length-append, cond}
-use Rattle.std.specs.Prelude.{Bool, true, false, not, ◌⊎◌, ◌&&◌, ◌==◌, if◌then◌else◌, Result, Ok, Err, List, [], ◌∷◌, ◌++◌, length, take, drop, slice_range, IsUtf8}
+use Rattle.std.proofs.Common.{◌≡◌, ℕ, ◌+◌, ◌-◌, ◌≤◌, ap, sym, subst, refl, ◌∙◌, inl, inr, arith, append_assoc, append-nil, length-append}
+use Rattle.std.specs.Prelude.{Bool, true, false, ◌⊎◌, ◌&&◌, ◌==◌, if◌then◌else◌, Ok, List, [], ◌∷◌, ◌++◌, length, take, drop, slice_range, IsUtf8}
 use Rattle.std.proofs.lemmas.Str.{IsUtf8-past_char}
 use lib.Utf8.{encode}
 use Rattle.std.proofs.lemmas.List.{take-append-drop, take-append-le, drop_at, take_at, drop-drop}
 use Rattle.std.proofs.Math.Seq.{take-append_seam}
-use Rattle.morsel_meaning.specs.Values.{Row}
-use Rattle.morsel_grammar.specs.Options.{Options, AreOptions}
+use Rattle.morsel_grammar.specs.Options.{AreOptions}
 use Rattle.morsel_grammar.specs.Grammar.{CsvRecord, Records}
 use Rattle.morsel_grammar.specs.Rows.{is_header, behind_header, mark_len, unmarked}
 use Rattle.morsel_grammar.specs.GrammarRows.{AreWholeRecords, awaits_header_after}
@@ -16,13 +15,12 @@ use Rattle.morsel_cut.specs.RowCounts.{row_count}
 use Rattle.morsel_cut.proofs.CountLemmas.{adds_rows}
 use Rattle.morsel_scan.specs.Scans.{CsvScan}
 use Rattle.morsel_scan.specs.CsvPieces.{HasRowsUpTo}
-use Rattle.morsel_scan.specs.StretchRows.{collected}
 use Rattle.morsel_scan.specs.CsvAxis.{TextPart, text_parts, PartStart, AxisPart, text_axis, file_axis, last_of, gives_of}
 use Rattle.morsel_scan.proofs.StretchLemmas.{Places}
 use Rattle.morsel_scan.proofs.PartLemmas.{parts-whole, parts-front, start_past, start_past-records}
-use Rattle.morsel_scan.proofs.AxisLemmas.{Maker, length-last_of, bytes_of, length-gives_of, gives_of-append, text_axis-append, bytes_of-text, collected-nothing}
+use Rattle.morsel_scan.proofs.AxisLemmas.{Maker, length-last_of, length-gives_of, gives_of-append, text_axis-append, bytes_of-text, collected-nothing}
 use Rattle.morsel_scan.proofs.AxisFileLemmas.{file_start, mark_size}
-use Rattle.morsel_scan.proofs.MidstLemmas.{IsMidst, GivesNothing}
+use Rattle.morsel_scan.proofs.MidstLemmas.{GivesNothing}
 use Rattle.morsel_scan.proofs.StandLemmas.{nothing_given}
 
 encoded_mark : encode 65279 ≡ 239 ∷ 187 ∷ 191 ∷ []

@@ -1,36 +1,28 @@
 -- Places of files, file by file: what stands before them, and how many rows.
-use Rattle.std.proofs.Common.{◌≡◌, ◌≢◌, ℕ, zero, suc, ◌+◌, ◌-◌, ◌<◌, ◌≤◌, ap, sym, subst, refl, ◌∙◌, inl, inr, arith, append_assoc, append-nil, length-append, cond}
-use Rattle.std.specs.Prelude.{Bool, true, false, not, ◌⊎◌, ◌&&◌, ◌||◌, ◌==◌, if◌then◌else◌, Option, Some, None, Result, Ok, Err, List, [], ◌∷◌, ◌++◌, length, take, drop, get_or, slice_get, slice_range, IsUtf8}
-use Rattle.std.specs.List.{sum_by}
-use Rattle.std.specs.Str.{is_utf8}
+use Rattle.std.proofs.Common.{◌≡◌, ℕ, ◌+◌, ◌-◌, ◌<◌, ap, sym, subst, refl, ◌∙◌, arith, cond}
+use Rattle.std.specs.Prelude.{Bool, true, false, not, ◌||◌, ◌==◌, if◌then◌else◌, Some, Ok, Err, List, [], ◌∷◌, length, IsUtf8}
 use Rattle.std.proofs.lemmas.Str.{is_utf8-from_IsUtf8}
-use Rattle.std.proofs.lemmas.List.{length-map, take_all, drop-drop, drop_at, take-append-drop, append_cancel_left}
-use Rattle.std.proofs.lemmas.List.Sums.{sum_by-append, sum_by-cons}
+use Rattle.std.proofs.lemmas.List.{length-map}
+use Rattle.std.proofs.lemmas.List.Sums.{sum_by-cons}
 use Rattle.morsel_meaning.specs.declared.value.ColType.{ColType}
 use Rattle.morsel_meaning.specs.declared.value.Field.{Field}
 use Rattle.morsel_meaning.specs.declared.fault.ComputeKind.TheVariants as kinds
-use Rattle.morsel_meaning.specs.declared.fault.Fault.{Fault}
 use Rattle.morsel_meaning.specs.declared.fault.Fault.TheVariants as faults
-use Rattle.morsel_meaning.specs.Values.{Row, kinds_of}
-use Rattle.morsel_grammar.specs.Options.{Options, AreOptions}
+use Rattle.morsel_meaning.specs.Values.{kinds_of}
+use Rattle.morsel_grammar.specs.Options.{AreOptions}
 use Rattle.morsel_grammar.specs.Grammar.{CsvRecord, Comment, Fields, Records}
-use Rattle.morsel_grammar.specs.Rows.{RowOf, NoRow, is_empty, is_header, cells_of, row_or_misfit, row_of_nothing, row_of, behind_header, mark_len, unmarked}
-use Rattle.morsel_grammar.specs.GrammarRows.{AreWholeRecords, awaits_header_after}
-use Rattle.morsel_grammar.proofs.ByteLemmas.{other_byte, either_second}
+use Rattle.morsel_grammar.specs.Rows.{NoRow, is_empty, is_header, cells_of, row_or_misfit, row_of_nothing, row_of, behind_header}
+use Rattle.morsel_grammar.proofs.ByteLemmas.{either_second}
 use Rattle.morsel_grammar.proofs.FirstRecordLemmas.{record_taken, utf8_parts}
-use Rattle.morsel_grammar.proofs.WholeRecordLemmas.{records_behind, records_whole}
 use Rattle.morsel_cut.specs.RowCounts.{is_row, row_count}
 use Rattle.morsel_scan.specs.Scans.{CsvScan}
 use Rattle.morsel_scan.specs.ScanRows.{followed_by}
-use Rattle.morsel_scan.specs.CsvPieces.{HaveRows, HasRowsUpTo, IsRowPlace, IsFileStart, BeginsStretch, bytes_between}
 use Rattle.morsel_scan.specs.StretchRows.{collected}
-use Rattle.morsel_scan.specs.CsvAxis.{TextPart, text_parts, PartStart, start_after, record_gives, part_gives, AxisPart, text_axis, mark_axis, file_axis, last_of, gives_of}
+use Rattle.morsel_scan.specs.CsvAxis.{text_parts, PartStart, start_after, record_gives, part_gives, text_axis, gives_of}
 use Rattle.morsel_scan.proofs.GatherLemmas.{followed_by-nothing}
 use Rattle.morsel_scan.proofs.StretchLemmas.{Places}
-use Rattle.morsel_scan.proofs.PartLemmas.{found_part, parts-record, parts-whole, parts-front, start_past, start_at, start_past-records}
-use Rattle.morsel_scan.proofs.AxisLemmas.{Maker, length-last_of, bytes_of, length-gives_of, gives_of-append, text_axis-append, bytes_of-text, collected-sized, collected-nothing}
-use Rattle.morsel_scan.proofs.AxisFileLemmas.{file_start, mark_size}
-use Rattle.morsel_scan.proofs.MidstLemmas.{IsMidst, GivesNothing}
+use Rattle.morsel_scan.proofs.PartLemmas.{found_part, parts-record}
+use Rattle.morsel_scan.proofs.AxisLemmas.{Maker, collected-sized}
 
 no_row_of_nothing : (kinds : List ColType) → (length kinds == 1 || false) ≡ false → row_of_nothing kinds ≡ NoRow
 no_row_of_nothing [] none = refl

@@ -1,5 +1,5 @@
 -- What the places of a CSV scan's bytes give is what the scan means, and the stretch of a piece gives what is made of the piece by itself.
-use Rattle.std.specs.Prelude.{◌≡◌, ℕ, ◌<◌, ◌≤◌, Bool, false, Result, Ok, List, [], ◌∷◌, length, slice_range, IsUtf8}
+use Rattle.std.specs.Prelude.{◌≡◌, ℕ, ◌≤◌, false, Ok, List, [], ◌∷◌, length, slice_range, IsUtf8}
 use Rattle.std.specs.List.{sum_by}
 use Rattle.morsel_meaning.specs.declared.fault.Fault.{Fault}
 use Rattle.morsel_meaning.specs.Values.{Row}
@@ -9,7 +9,7 @@ use Rattle.morsel_scan.specs.ScanRows.{total_rows}
 use Rattle.morsel_scan.specs.CsvScans.{csv_sources, csv_scan_rows, piece_rows, IsPieceFault, UnlessOutOfMemory}
 use Rattle.morsel_scan.specs.CsvPieces.{HaveRows, BeginsStretch, bytes_between, IsPieceOf}
 use Rattle.morsel_scan.specs.ScanLaws.{rows_of_pieces}
-use Rattle.morsel_scan.specs.Ahead.{Axis, EndsEachRow, EndsNoRow}
+use Rattle.morsel_scan.specs.Ahead.{EndsEachRow}
 use Rattle.morsel_scan.specs.StretchRows.{collected, Gives, HasFaultWithin}
 use Rattle.morsel_scan.specs.CsvAxis.{csv_keeps, csv_axis}
 

@@ -17,19 +17,16 @@ pub fn stretches_follow_one_another()
 {}
 
 /// What the first places give are the first rows before the first fault.
-#[tactic(auto, using(crate::proofs::StretchLemmas::gives_front))]
 pub fn first_places_give_first_rows()
     ensures { GivesFront }
 {}
 
 /// All places give rows exactly where there is no fault, and these are then all before the first.
-#[tactic(auto, using(crate::proofs::StretchLemmas::gives_all))]
 pub fn all_places_give_all_rows()
     ensures { GivesAll }
 {}
 
 /// Some rows of a stretch have their place among the rows before the first fault.
-#[tactic(auto, using(crate::proofs::StretchLemmas::gives_midst))]
 pub fn a_part_of_a_stretch_has_its_place()
     ensures { GivesMidst }
 {}
