@@ -1,6 +1,6 @@
 -- What the places of all files give, by the pieces of a scan; and what they give after the last piece.
 use Rattle.std.proofs.Common.{◌≡◌, ℕ, zero, suc, ◌+◌, ◌-◌, ◌≤◌, ap, sym, subst, refl, ◌∙◌, inl, inr, arith, append_assoc, append-nil, length-append}
-use Rattle.std.specs.Prelude.{Bool, true, false, ◌&&◌, if◌then◌else◌, nat_le, Option, Some, None, Result, Ok, Err, List, [], ◌∷◌, ◌++◌, length, take, drop, slice_range}
+use Rattle.std.specs.Prelude.{Bool, true, false, ◌&&◌, if◌then◌else◌, nat_le, Option, Some, None, Result, Ok, Err, List, [], ◌∷◌, ◌++◌, length, take, drop, slice_range, IsUtf8}
 use Rattle.std.specs.List.{sum_by}
 use Rattle.std.specs.Str.{is_utf8}
 use Rattle.std.proofs.lemmas.List.Sums.{sum_by-append}
@@ -19,11 +19,11 @@ use Rattle.morsel_scan.specs.Scans.{CsvScan}
 use Rattle.morsel_scan.specs.ScanColumns.{used_columns}
 use Rattle.morsel_scan.specs.ScanRows.{Placed, followed_by, row_of_values, scanned, total_rows}
 use Rattle.morsel_scan.specs.CsvScans.{csv_sources, csv_scan_rows, piece_keeps, piece_rows}
-use Rattle.morsel_scan.specs.CsvPieces.{HasRowsUpTo, IsPieceOf}
+use Rattle.morsel_scan.specs.CsvPieces.{HaveRows, HasRowsUpTo, bytes_between, IsPieceOf}
 use Rattle.morsel_scan.specs.ScanLaws.{rows_of_pieces}
-use Rattle.morsel_scan.specs.StretchRows.{collected, Gives}
+use Rattle.morsel_scan.specs.StretchRows.{collected, Gives, HasFaultWithin}
 use Rattle.morsel_scan.specs.CsvAxis.{TextPart, text_parts, PartStart, start_after, scanned_within, rows_made, record_gives, part_gives, AxisPart, text_axis, file_axis, rows_counted, files_axis, last_of, gives_of, csv_keeps}
-use Rattle.morsel_scan.specs.CsvAxisLaws.{GivesPieces, AreChained, ScansChained, GivesNothingAtEnd, GivesNothingPastSlice}
+use Rattle.morsel_scan.specs.CsvAxisLaws.{GivesPieces, AreChained, ScansChained, IsAfterPieces, GivesNothingAtEnd, GivesNothingPastSlice}
 use Rattle.morsel_scan.proofs.GatherLemmas.{followed_by-nothing, followed_by-end}
 use Rattle.morsel_scan.proofs.StretchLemmas.{Places, collected-append, slice-append, slice_all}
 use Rattle.morsel_scan.proofs.PartLemmas.{parts-whole, start_past, start_past-records}
@@ -127,13 +127,29 @@ given_nothing gives from to end none =
       all = ap (λ n. collected (slice_range gives from n)) (sym end) ∙ ap collected (midst-slice none.is) ∙ none.nothing;
     }
 
-pub gives_nothing_at_end : (s : CsvScan) → AreOptions s.options → GivesNothingAtEnd s
-gives_nothing_at_end s fit = λ first head given rows names files opened text_of same begins have utf8.
-    let make : Maker = scanned_within s.scan (csv_keeps s first names files) in
+-- after all places there is none
+none_left : (gives : Places) (from : ℕ) → from ≡ length gives → Gives gives from (length gives) []
+none_left gives from end = record {
+  order = omega (arith, end);
+  within = omega arith;
+  all = ap (λ n. collected (slice_range gives n (length gives))) end ∙ ap collected (slice-nothing gives (length gives));
+}
+
+at_end : (s : CsvScan) (make : Maker) (first given rows : ℕ) (names files : List (List ℕ)) → AreOptions s.options → length names ≡ length files → IsAfterPieces s files given rows → HaveRows s files rows
+    → ((number : ℕ) → IsUtf8 (bytes_between files number given (sum_by length files)))
+    → (let gives = gives_of (files_axis s make first 0 names files) in Gives gives given (length gives) [])
+at_end s make first given rows names files fit same (inr end) have utf8 =
+    let parts : List AxisPart = files_axis s make first 0 names files in
+    none_left (gives_of parts) given (end ∙ sym (length-gives_of parts ∙ bytes_of-files s make first 0 names files fit same))
+at_end s make first given rows names files fit same (inl begins) have utf8 =
     let parts : List AxisPart = files_axis s make first 0 names files in
     let begin = begin_stands s files given rows begins in
     given_nothing (gives_of parts) given (sum_by length files) (sym (length-gives_of parts ∙ bytes_of-files s make first 0 names files fit same))
     (nothing_to_end s make first 0 names files begin.0 given rows fit same begin.1 have utf8)
+
+pub gives_nothing_at_end : (s : CsvScan) → AreOptions s.options → GivesNothingAtEnd s
+gives_nothing_at_end s fit = λ first head given rows names files opened text_of same ends have utf8.
+    at_end s (scanned_within s.scan (csv_keeps s first names files)) first given rows names files fit same ends have utf8
 
 -- each of the places gives no rows, or has a fault
 abbrev pub GiveNoRows : Places → Type 0
@@ -296,18 +312,25 @@ no_fault_left (Ok rows ∷ xs) (empty, none) sound =
     ap (λ (r : List Row). followed_by (Ok r) (collected xs)) empty ∙ followed_by-nothing (collected xs)
     ∙ no_fault_left xs none (λ fault before after is. sound fault (Ok rows ∷ before) after (ap (λ (x : Places). Ok rows ∷ x) is))
 
-pub gives_nothing_past_slice : (s : CsvScan) → AreOptions s.options → GivesNothingPastSlice s
-gives_nothing_past_slice s fit = λ first head given rows names files opened text_of same begins ends sound.
-    let keeps : ℕ → Bool = csv_keeps s first names files in
-    let make : Maker = scanned_within s.scan keeps in
+past_slice : (s : CsvScan) (make : Maker) (first given rows : ℕ) (names files : List (List ℕ)) → AreOptions s.options → length names ≡ length files → MakesNothing make (0 + rows) → IsAfterPieces s files given rows
+    → (let gives = gives_of (files_axis s make first 0 names files) in
+    ((fault : Fault) → HasFaultWithin gives given (length gives) fault → ⊥) → Gives gives given (length gives) [])
+past_slice s make first given rows names files fit same none (inr end) sound =
+    let parts : List AxisPart = files_axis s make first 0 names files in
+    none_left (gives_of parts) given (end ∙ sym (length-gives_of parts ∙ bytes_of-files s make first 0 names files fit same))
+past_slice s make first given rows names files fit same none (inl begins) sound =
     let gives : Places = gives_of (files_axis s make first 0 names files) in
     let begin = begin_stands s files given rows begins in
-    let none : MakesNothing make (0 + rows) = λ row from.
-    ap (λ t. if t && nat_le 4294967295 row.position then Err (faults.ComputeError kinds.TooManyRows 4294967295 0) else (if t then row_of_values s.scan row (used_values (used_columns s.scan) row.cells) else Ok None))
-    (ends row.position (omega arith)) in
     let more = no_more_given s make first 0 names files begin.0 given rows fit same begin.1 none in
     given_nothing gives given (length gives) refl (record {
       mid = more.mid;
       is = more.is;
       nothing = no_fault_left more.mid more.none (λ fault before after is. sound fault (fault-midst gives given (length gives) more.mid before after fault more.is is));
     })
+
+pub gives_nothing_past_slice : (s : CsvScan) → AreOptions s.options → GivesNothingPastSlice s
+gives_nothing_past_slice s fit = λ first head given rows names files opened text_of same ends keeps_none sound.
+    let none : MakesNothing (scanned_within s.scan (csv_keeps s first names files)) (0 + rows) = λ row from.
+    ap (λ t. if t && nat_le 4294967295 row.position then Err (faults.ComputeError kinds.TooManyRows 4294967295 0) else (if t then row_of_values s.scan row (used_values (used_columns s.scan) row.cells) else Ok None))
+    (keeps_none row.position (omega arith)) in
+    past_slice s (scanned_within s.scan (csv_keeps s first names files)) first given rows names files fit same none ends sound

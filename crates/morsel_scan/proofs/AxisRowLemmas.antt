@@ -187,7 +187,7 @@ length-rows_of (part ∷ parts) =
     length-append (last_of part.size part.counts part.counts) (rows_of parts) ∙ ap (λ n. n + length (rows_of parts)) (length-last_of part.size part.counts part.counts)
     ∙ ap (λ n. part.size + n) (length-rows_of parts) ∙ sym (sum_by-cons (λ (x : AxisPart). x.size) part parts)
 
-length-ends_of : (parts : List AxisPart) → length (ends_of parts) ≡ bytes_of parts
+pub length-ends_of : (parts : List AxisPart) → length (ends_of parts) ≡ bytes_of parts
 length-ends_of [] = refl
 length-ends_of (part ∷ parts) =
     length-append (last_of part.size false part.counts) (ends_of parts) ∙ ap (λ n. n + length (ends_of parts)) (length-last_of part.size false part.counts)

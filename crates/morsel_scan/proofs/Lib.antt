@@ -29,3 +29,4 @@ pub mod AxisFaultLemmas
 pub mod AxisEndLemmas
 pub mod AxisRowLemmas
 mod AxisFacts
+pub mod RowEndLemmas

@@ -1,7 +1,7 @@
 //! Laws of places: what stretches of the sources' bytes give, and that it is what a scan means.
 ghost use Rattle.morsel_grammar.specs.Options.{AreOptions};
 ghost use Rattle.morsel_scan.specs.Scans.{CsvScan};
-ghost use Rattle.morsel_scan.specs.CsvAxisLaws.{HasEachByte, EndsEachRowOfFiles, GivesScanRows, GivesScan, GivesPieces, ScansChained, GivesNothingAtEnd, GivesNothingPastSlice};
+ghost use Rattle.morsel_scan.specs.CsvAxisLaws.{HasEachByte, EndsEachRowOfFiles, GivesScanRows, GivesScan, GivesPieces, ScansChained, GivesNothingAtEnd, GivesNothingPastSlice, EndsNoMoreRows};
 ghost use Rattle.morsel_scan.specs.StretchLaws.{CollectsParts, GivesOn, GivesFront, GivesAll, GivesMidst, GivesFaults};
 
 /// Places in two parts give what the one gives, and then the other.
@@ -75,4 +75,9 @@ pub fn each_byte_has_its_place()
 /// Places at which no row ends are of one record at most.
 pub fn places_at_which_no_row_ends_are_of_one_record()
     ensures { (s : CsvScan) → EndsEachRowOfFiles s }
+{}
+
+/// No row ends between two places where no more rows come before the later one, and the file in which it is stands after files of records.
+pub fn no_row_ends_up_to_a_place_with_no_more_rows()
+    ensures { (s : CsvScan) → AreOptions s.options → EndsNoMoreRows s }
 {}
