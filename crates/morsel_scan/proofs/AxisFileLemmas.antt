@@ -1,10 +1,10 @@
 -- What the bytes of files give is what the scan makes of their rows.
-use Rattle.std.proofs.Common.{◌≡◌, ◌≢◌, ℕ, zero, suc, ◌+◌, ◌-◌, ◌<◌, ◌≤◌, ap, sym, subst, refl, ◌∙◌, arith, append_assoc, append-nil, length-append}
-use Rattle.std.specs.Prelude.{Bool, true, false, ◌&&◌, ◌==◌, if◌then◌else◌, nat_le, Option, Some, None, Result, Ok, Err, List, [], ◌∷◌, ◌++◌, length, drop}
+use Rattle.std.proofs.Common.{◌≡◌, ℕ, suc, ◌+◌, ◌<◌, ◌≤◌, ap, sym, refl, ◌∙◌, arith}
+use Rattle.std.specs.Prelude.{Bool, true, false, ◌&&◌, ◌==◌, if◌then◌else◌, nat_le, Option, Some, None, Result, Ok, Err, List, [], ◌∷◌, length}
 use Rattle.std.specs.List.{sum_by}
 use Rattle.std.proofs.lemmas.Bool.Decides.{nat_tests}
 use Rattle.std.proofs.lemmas.List.Sums.{sum_by-append, sum_by-cons}
-use Rattle.std.proofs.lemmas.List.{take-append-drop, length-drop}
+use Rattle.std.proofs.lemmas.List.{length-drop}
 use Rattle.morsel_meaning.specs.declared.fault.ComputeKind.TheVariants as kinds
 use Rattle.morsel_meaning.specs.declared.fault.Fault.{Fault}
 use Rattle.morsel_meaning.specs.declared.fault.Fault.TheVariants as faults
@@ -12,18 +12,16 @@ use Rattle.morsel_meaning.specs.Values.{Row, kinds_of}
 use Rattle.morsel_grammar.specs.Options.{AreOptions}
 use Rattle.morsel_grammar.specs.Cells.{CsvCell}
 use Rattle.morsel_grammar.specs.Rows.{mark_len, unmarked}
-use Rattle.morsel_grammar.specs.Reading.{Refusal, Reading, reading, used_values}
-use Rattle.morsel_grammar.specs.Results.{flaw_fault, refusal_fault}
+use Rattle.morsel_grammar.specs.Reading.{Refusal, Reading, reading}
+use Rattle.morsel_grammar.specs.Results.{refusal_fault}
 use Rattle.morsel_scan.specs.Scans.{Scan, CsvScan}
-use Rattle.morsel_scan.specs.ScanColumns.{used_columns}
-use Rattle.morsel_scan.specs.ScanRows.{Placed, placed, gathered_then, answer_first, gathered, ended_by, followed_by, row_of_values, scanned, SourceRows, scanned_source, scanned_sources, total_rows, slice_keeps}
-use Rattle.morsel_scan.specs.CsvScans.{csv_source, csv_sources, csv_scan_rows}
+use Rattle.morsel_scan.specs.ScanRows.{Placed, placed, gathered_then, gathered, ended_by, followed_by, scanned, SourceRows, scanned_source, scanned_sources, total_rows}
+use Rattle.morsel_scan.specs.CsvScans.{csv_sources}
 use Rattle.morsel_scan.specs.StretchRows.{collected}
-use Rattle.morsel_scan.specs.CsvAxis.{text_parts, PartStart, scanned_within, AxisPart, text_axis, mark_axis, file_axis, rows_counted, files_axis, last_of, gives_of, csv_keeps}
+use Rattle.morsel_scan.specs.CsvAxis.{text_parts, PartStart, scanned_within, AxisPart, text_axis, mark_axis, file_axis, rows_counted, files_axis, gives_of, csv_keeps}
 use Rattle.morsel_scan.specs.CsvAxisLaws.{GivesScanRows, GivesScan}
-use Rattle.morsel_scan.proofs.GatherLemmas.{followed_by-nothing, followed_by-end}
-use Rattle.morsel_scan.proofs.StretchLemmas.{Places, collected-append, followed_by-ok}
-use Rattle.morsel_scan.proofs.AxisLemmas.{Maker, bytes_of, bytes_of-text, length-gives_of, gives_of-append, collected-nothing, collected-text, made, rows_counted-read}
+use Rattle.morsel_scan.proofs.StretchLemmas.{collected-append, followed_by-ok}
+use Rattle.morsel_scan.proofs.AxisLemmas.{Maker, bytes_of, bytes_of-text, gives_of-append, collected-nothing, collected-text, made, rows_counted-read}
 
 -- where the records of a file begin
 abbrev pub file_start : CsvScan → ℕ → List ℕ → ℕ → List ℕ → PartStart
@@ -149,6 +147,7 @@ within_alike scan keeps row few =
   where
     low_false : (n : ℕ) → n < 4294967295 → nat_le 4294967295 n ≡ false
     low_false n few = grind (arith, nat_tests)
+
     by : (t : Bool) → (if t && false then Err (faults.ComputeError kinds.TooManyRows 4294967295 0) else scanned scan keeps row) ≡ scanned scan keeps row
     by true = refl
     by false = refl

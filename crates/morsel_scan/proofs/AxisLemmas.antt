@@ -1,10 +1,10 @@
 -- What the bytes of a text give is what a scan makes of the rows that are read of it.
-use Rattle.std.proofs.Common.{◌≡◌, ◌≢◌, ℕ, zero, suc, ◌+◌, ◌-◌, ◌<◌, ◌≤◌, ap, sym, subst, refl, ◌∙◌, arith, append_assoc, append-nil, length-append, cond}
+use Rattle.std.proofs.Common.{◌≡◌, ◌≢◌, ℕ, zero, suc, ◌+◌, ◌<◌, ap, sym, subst, refl, ◌∙◌, arith, length-append, cond}
 use Rattle.std.proofs.lemmas.List.{length-map}
-use Rattle.std.specs.Prelude.{Bool, true, false, not, ◌&&◌, ◌||◌, ◌==◌, if◌then◌else◌, Option, Some, None, Result, Ok, Err, List, [], ◌∷◌, ◌++◌, length, map, IsUtf8}
-use Rattle.std.specs.List.{sum_by, flat_map}
+use Rattle.std.specs.Prelude.{Bool, true, false, not, if◌then◌else◌, Option, Some, None, Result, Ok, Err, List, [], ◌∷◌, ◌++◌, length, map}
+use Rattle.std.specs.List.{sum_by}
 use Rattle.std.specs.Str.{is_utf8}
-use Rattle.std.proofs.lemmas.List.Sums.{sum_by-append, sum_by-cons}
+use Rattle.std.proofs.lemmas.List.Sums.{sum_by-cons}
 use Rattle.std.proofs.lemmas.List.Concat.{flat_map-append}
 use Rattle.morsel_meaning.specs.declared.value.ColType.{ColType}
 use Rattle.morsel_meaning.specs.declared.value.Field.{Field}
@@ -15,12 +15,10 @@ use Rattle.morsel_grammar.specs.Options.{Options, AreOptions}
 use Rattle.morsel_grammar.specs.Grammar.{CsvRecord, Records}
 use Rattle.morsel_grammar.specs.Cells.{CsvCell}
 use Rattle.morsel_grammar.specs.Rows.{RowOf, NoRow, IsRow, Misfit, is_header, row_of, behind_header}
-use Rattle.morsel_grammar.specs.Split.{record_at}
-use Rattle.morsel_grammar.specs.Reading.{Malformed, NotUtf8, Refusal, Reading, reading, refuses, row_then, record_then, split_then}
+use Rattle.morsel_grammar.specs.Reading.{NotUtf8, Refusal, Reading, reading, refuses, row_then, split_then}
 use Rattle.morsel_grammar.specs.Results.{flaw_fault, refusal_fault}
 use Rattle.morsel_grammar.specs.GrammarRows.{CellsOfGrammar, HasRows}
 use Rattle.morsel_grammar.proofs.FileLemmas.{reads_cells}
-use Rattle.morsel_grammar.proofs.FirstRecordLemmas.{IsTaken}
 use Rattle.morsel_grammar.proofs.JoinedLemmas.{reading-split, reading-record}
 use Rattle.morsel_cut.specs.RowCounts.{is_row, row_count}
 use Rattle.morsel_cut.proofs.CountLemmas.{Agrees, record_agrees, counts_rows}
@@ -28,9 +26,9 @@ use Rattle.morsel_scan.specs.Scans.{CsvScan}
 use Rattle.morsel_scan.specs.ScanRows.{Placed, placed, gathered_then, gathered, ended_by, followed_by}
 use Rattle.morsel_scan.specs.StretchRows.{collected}
 use Rattle.morsel_scan.specs.CsvAxis.{TextPart, text_parts, PartStart, is_row_part, awaits_header_past, rows_of_part, start_after, rows_made, record_gives, part_gives, AxisPart, axis_part, text_axis, rows_counted, last_of, gives_of}
-use Rattle.morsel_scan.proofs.GatherLemmas.{followed_by-nothing, followed_by-end}
-use Rattle.morsel_scan.proofs.StretchLemmas.{Places, collected-append}
-use Rattle.morsel_scan.proofs.PartLemmas.{HoldsByRecords, by_records, found_part, parts-none, parts-record, start_past, start_at, start_past-records}
+use Rattle.morsel_scan.proofs.GatherLemmas.{followed_by-nothing}
+use Rattle.morsel_scan.proofs.StretchLemmas.{Places}
+use Rattle.morsel_scan.proofs.PartLemmas.{by_records, found_part, parts-none, parts-record, start_past, start_past-records}
 
 -- what makes rows of a scan
 abbrev pub Maker : Type 0
@@ -67,12 +65,12 @@ bytes_of-text s make fit text =
     by_records s.options P fit (record {
       nothing = λ start. refl;
       none = λ text some none start. ap (λ parts. bytes_of (text_axis s make start parts)) (parts-none s.options text fit some none)
-      ∙ sum_by-cons (λ (x : AxisPart). x.size) (axis_part s make start (record { bytes = text; found = None })) [] ∙ one_size (length text);
+          ∙ sum_by-cons (λ (x : AxisPart). x.size) (axis_part s make start (record { bytes = text; found = None })) [] ∙ one_size (length text);
       first = λ r text next bytes taken later start.
-      let part : TextPart = found_part bytes r in
-      ap (λ parts. bytes_of (text_axis s make start parts)) (parts-record s.options r text next bytes fit taken)
-      ∙ sum_by-cons (λ (x : AxisPart). x.size) (axis_part s make start part) (text_axis s make (start_after (length s.scan.fields) start part) (text_parts s.options next))
-      ∙ ap (λ n. length bytes + n) (later (start_after (length s.scan.fields) start part)) ∙ sym (length-append bytes next) ∙ sym (ap length taken.split);
+          let part : TextPart = found_part bytes r in
+          ap (λ parts. bytes_of (text_axis s make start parts)) (parts-record s.options r text next bytes fit taken)
+          ∙ sum_by-cons (λ (x : AxisPart). x.size) (axis_part s make start part) (text_axis s make (start_after (length s.scan.fields) start part) (text_parts s.options next))
+          ∙ ap (λ n. length bytes + n) (later (start_after (length s.scan.fields) start part)) ∙ sym (length-append bytes next) ∙ sym (ap length taken.split);
     }) text
   where
     one_size : (n : ℕ) → n + 0 ≡ n
@@ -148,19 +146,19 @@ collected-text s make fit text =
     by_records o P fit (record {
       nothing = λ start. refl;
       none = λ text some none start.
-      ap (λ parts. collected (gives_of (text_axis s make start parts))) (parts-none o text fit some none)
-      ∙ collected-sized (length text) (Err (faults.Malformed start.file start.at)) [] (some_size text some)
-      ∙ ap (made make start.file start.name start.position)
-      (sym (reading-split o kinds start.awaits_header start.at text fit some ∙ ap (λ found. split_then o kinds start.awaits_header start.at text found (λ head place rest. reading o kinds head place rest)) none));
+          ap (λ parts. collected (gives_of (text_axis s make start parts))) (parts-none o text fit some none)
+          ∙ collected-sized (length text) (Err (faults.Malformed start.file start.at)) [] (some_size text some)
+          ∙ ap (made make start.file start.name start.position)
+          (sym (reading-split o kinds start.awaits_header start.at text fit some ∙ ap (λ found. split_then o kinds start.awaits_header start.at text found (λ head place rest. reading o kinds head place rest)) none));
       first = λ r text next bytes taken later start.
-      let part : TextPart = found_part bytes r in
-      let after : PartStart = start_after (length s.scan.fields) start part in
-      let some : 0 < length bytes = let size = taken.size in let shorter = taken.shorter in omega arith in
-      ap (λ parts. collected (gives_of (text_axis s make start parts))) (parts-record o r text next bytes fit taken)
-      ∙ collected-sized (length bytes) (part_gives s make start bytes (Some r)) (gives_of (text_axis s make after (text_parts o next))) some
-      ∙ ap (followed_by (part_gives s make start bytes (Some r))) (later after)
-      ∙ record_made s make start.file start.name start.at start.position start.awaits_header (is_utf8 bytes) r (λ head. reading o kinds head (start.at + length bytes) next)
-      ∙ ap (made make start.file start.name start.position) (sym (reading-record o kinds start.awaits_header start.at r text next bytes fit taken));
+          let part : TextPart = found_part bytes r in
+          let after : PartStart = start_after (length s.scan.fields) start part in
+          let some : 0 < length bytes = let size = taken.size in let shorter = taken.shorter in omega arith in
+          ap (λ parts. collected (gives_of (text_axis s make start parts))) (parts-record o r text next bytes fit taken)
+          ∙ collected-sized (length bytes) (part_gives s make start bytes (Some r)) (gives_of (text_axis s make after (text_parts o next))) some
+          ∙ ap (followed_by (part_gives s make start bytes (Some r))) (later after)
+          ∙ record_made s make start.file start.name start.at start.position start.awaits_header (is_utf8 bytes) r (λ head. reading o kinds head (start.at + length bytes) next)
+          ∙ ap (made make start.file start.name start.position) (sym (reading-record o kinds start.awaits_header start.at r text next bytes fit taken));
     }) text
 
 -- the rows of parts are counted on

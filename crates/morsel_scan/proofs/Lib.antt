@@ -22,3 +22,13 @@ pub mod AxisLemmas
 pub mod AxisFileLemmas
 pub mod SourceLemmas
 pub mod FlawLemmas
+pub mod MidstLemmas
+pub mod StandLemmas
+pub mod PassedLemmas
+pub mod FilesPassedLemmas
+pub mod AxisPieceLemmas
+pub mod AxisFaultLemmas
+pub mod AxisEndLemmas
+pub mod AxisRowLemmas
+mod AxisFacts
+pub mod RowEndLemmas

@@ -1,14 +1,14 @@
 -- What stretches of places give.
-use Rattle.std.specs.Prelude.{◌≡◌, ◌↔◌, ℕ, zero, suc, ◌+◌, ◌-◌, ◌<◌, ◌≤◌, Result, Ok, Err, Option, Some, None, List, [], ◌∷◌, ◌++◌, length, take, drop, slice_get, slice_range}
-use Rattle.std.proofs.Common.{sym, ap, subst, refl, ◌∙◌, append_assoc, append-nil, arith, length-append}
-use Rattle.std.proofs.lemmas.List.{take-append-drop, drop-drop, take_all, take_at, drop_at, take-append-le, length-take, length-drop}
+use Rattle.std.specs.Prelude.{◌≡◌, ℕ, suc, ◌+◌, ◌-◌, ◌<◌, ◌≤◌, Result, Ok, Err, Some, List, [], ◌∷◌, ◌++◌, length, take, drop, slice_get, slice_range}
+use Rattle.std.proofs.Common.{sym, ap, refl, ◌∙◌, append_assoc, append-nil, arith, length-append}
+use Rattle.std.proofs.lemmas.List.{take-append-drop, drop-drop, take_all, take-append-le}
 use Rattle.std.proofs.Math.Seq.{take-add, take-append_seam, drop-append_seam}
 use Rattle.morsel_meaning.specs.declared.fault.Fault.{Fault}
 use Rattle.morsel_meaning.specs.Values.{Row}
 use Rattle.morsel_scan.specs.ScanRows.{followed_by}
-use Rattle.morsel_scan.specs.StretchRows.{collected, Gives, before_fault, HasFaultWithin}
+use Rattle.morsel_scan.specs.StretchRows.{collected, Gives, before_fault}
 use Rattle.morsel_scan.specs.StretchLaws.{CollectsParts, GivesOn, GivesFront, GivesAll, GivesMidst, GivesFaults}
-use Rattle.morsel_scan.proofs.GatherLemmas.{followed_by-nothing, followed_by-end, followed_by-assoc}
+use Rattle.morsel_scan.proofs.GatherLemmas.{followed_by-nothing, followed_by-assoc}
 
 abbrev pub Places : Type 0
 Places = List (Result (List Row) Fault)
@@ -65,7 +65,7 @@ front-split gives m rows g =
 pub gives_front : GivesFront
 gives_front = λ gives to rows g. (before_fault (drop to gives), front-split gives to rows g)
 
-slice_all : (xs : Places) → slice_range xs 0 (length xs) ≡ xs
+pub slice_all : (xs : Places) → slice_range xs 0 (length xs) ≡ xs
 slice_all xs = from_front xs (length xs) ∙ take_all (length xs) xs (omega arith)
 
 pub gives_all : GivesAll

@@ -8,7 +8,6 @@ use Rattle.morsel_meaning.specs.declared.fault.Fault.TheVariants as faults
 use Rattle.morsel_meaning.specs.Values.{Row, kinds_of}
 use Rattle.morsel_grammar.specs.Options.{Options}
 use Rattle.morsel_grammar.specs.Grammar.{CsvRecord}
-use Rattle.morsel_grammar.specs.Cells.{CsvCell}
 use Rattle.morsel_grammar.specs.Rows.{RowOf, NoRow, IsRow, Misfit, is_header, row_of, mark_len, unmarked}
 use Rattle.morsel_grammar.specs.Split.{record_at}
 use Rattle.morsel_cut.specs.RowCounts.{is_row}

@@ -1,5 +1,5 @@
 -- What the places of a CSV scan's bytes give is what the scan means, and the stretch of a piece gives what is made of the piece by itself.
-use Rattle.std.specs.Prelude.{◌≡◌, ℕ, ◌<◌, ◌≤◌, Bool, false, Result, Ok, List, [], ◌∷◌, length, slice_range, IsUtf8}
+use Rattle.std.specs.Prelude.{◌≡◌, ◌⊎◌, ℕ, ◌+◌, ◌<◌, ◌≤◌, false, Ok, List, [], ◌∷◌, length, take, slice_range, IsUtf8}
 use Rattle.std.specs.List.{sum_by}
 use Rattle.morsel_meaning.specs.declared.fault.Fault.{Fault}
 use Rattle.morsel_meaning.specs.Values.{Row}
@@ -9,7 +9,7 @@ use Rattle.morsel_scan.specs.ScanRows.{total_rows}
 use Rattle.morsel_scan.specs.CsvScans.{csv_sources, csv_scan_rows, piece_rows, IsPieceFault, UnlessOutOfMemory}
 use Rattle.morsel_scan.specs.CsvPieces.{HaveRows, BeginsStretch, bytes_between, IsPieceOf}
 use Rattle.morsel_scan.specs.ScanLaws.{rows_of_pieces}
-use Rattle.morsel_scan.specs.Ahead.{Axis, EndsEachRow, EndsNoRow}
+use Rattle.morsel_scan.specs.Ahead.{EndsNoRow, EndsEachRow}
 use Rattle.morsel_scan.specs.StretchRows.{collected, Gives, HasFaultWithin}
 use Rattle.morsel_scan.specs.CsvAxis.{csv_keeps, csv_axis}
 
@@ -49,16 +49,20 @@ ScansChained s = (first head given : ℕ) (names files : List (List ℕ)) (opene
     → (let gives = (csv_axis s first names files opened head text_of).gives in
     Gives gives given (length gives) [] → rows_of_pieces s pieces ≡ csv_scan_rows s first names files)
 
+-- a place at which a piece may end, after so many rows: a stretch may begin there, or all files end
+abbrev pub IsAfterPieces : CsvScan → List (List ℕ) → ℕ → ℕ → Type 0
+IsAfterPieces s files place rows = BeginsStretch s files place rows ⊎ (place ≡ sum_by length files)
+
 -- no place gives anything after the last row, where the bytes that follow are UTF-8 and records up to the files' ends
 abbrev pub GivesNothingAtEnd : CsvScan → Type 0
 GivesNothingAtEnd s = (first head given rows : ℕ) (names files : List (List ℕ)) (opened : List ℕ) (text_of : List Row → List ℕ) → length names ≡ length files
-    → BeginsStretch s files given rows → HaveRows s files rows → ((number : ℕ) → IsUtf8 (bytes_between files number given (sum_by length files)))
+    → IsAfterPieces s files given rows → HaveRows s files rows → ((number : ℕ) → IsUtf8 (bytes_between files number given (sum_by length files)))
     → (let gives = (csv_axis s first names files opened head text_of).gives in Gives gives given (length gives) [])
 
 -- no place gives anything from where the slice keeps no more, unless it has a fault
 abbrev pub GivesNothingPastSlice : CsvScan → Type 0
 GivesNothingPastSlice s = (first head given rows : ℕ) (names files : List (List ℕ)) (opened : List ℕ) (text_of : List Row → List ℕ) → length names ≡ length files
-    → BeginsStretch s files given rows → ((position : ℕ) → rows ≤ position → csv_keeps s first names files position ≡ false)
+    → IsAfterPieces s files given rows → ((position : ℕ) → rows ≤ position → csv_keeps s first names files position ≡ false)
     → (let gives = (csv_axis s first names files opened head text_of).gives in
     ((fault : Fault) → HasFaultWithin gives given (length gives) fault → ⊥) → Gives gives given (length gives) [])
 
@@ -66,3 +70,11 @@ GivesNothingPastSlice s = (first head given rows : ℕ) (names files : List (Lis
 abbrev pub EndsEachRowOfFiles : CsvScan → Type 0
 EndsEachRowOfFiles s = (first head : ℕ) (names files : List (List ℕ)) (opened : List ℕ) (text_of : List Row → List ℕ)
     → EndsEachRow (csv_axis s first names files opened head text_of)
+
+-- no row ends between a place and a later one, where no more rows come before a place at which a stretch may begin and that is not after the later one;
+-- the files before the one in which the later place stands are records to their ends, and there are bytes after it
+abbrev pub EndsNoMoreRows : CsvScan → Type 0
+EndsNoMoreRows s = (first head given later rows source earlier : ℕ) (names files : List (List ℕ)) (opened : List ℕ) (text_of : List Row → List ℕ) → length names ≡ length files
+    → BeginsStretch s files given rows → HaveRows s (take source files) earlier → later ≤ sum_by length (take (source + 1) files) → later < sum_by length files
+    → ((place more : ℕ) → BeginsStretch s files place more → place ≤ later → more ≤ rows)
+    → EndsNoRow (csv_axis s first names files opened head text_of) given later
