@@ -146,7 +146,7 @@ separator_no_eol o b fit is = other_byte b o.eol (λ same. fit.apart (sym (same_
 separator_no_return : (o : Options) (b : ℕ) → AreOptions o → (b == o.separator) ≡ true → (b == 13) ≡ false
 separator_no_return o b fit is = other_byte b 13 (λ same. fit.separator_no_return (sym (same_byte b o.separator is) ∙ same))
 
-quote_no_eol : (o : Options) (b : ℕ) → AreOptions o → is_quote o.quote b ≡ true → (b == o.eol) ≡ false
+pub quote_no_eol : (o : Options) (b : ℕ) → AreOptions o → is_quote o.quote b ≡ true → (b == o.eol) ≡ false
 quote_no_eol o b fit is = not_so (b == o.eol) (λ same. true_not_false (is_quote o.quote b) is (is_quote-stop o b fit (either_second (b == o.separator) (b == o.eol) same)))
 
 quote_no_return : (o : Options) (b : ℕ) → AreOptions o → is_quote o.quote b ≡ true → (b == 13) ≡ false

@@ -69,7 +69,7 @@ pub quiet_after : (o : Options) (place : CutPlace) (bytes : List ℕ) → o.comm
 quiet_after o place [] none = refl
 quiet_after o place (b ∷ bs) none = ap (λ (s : CutState). state_after (cut_step o) s bs) (quiet_step o place b none) ∙ quiet_after o (place_step o place b) bs none
 
-quiet_last : (o : Options) (test : CutPlace → Bool) (place : CutPlace) (bytes : List ℕ) → o.comment ≡ None
+pub quiet_last : (o : Options) (test : CutPlace → Bool) (place : CutPlace) (bytes : List ℕ) → o.comment ≡ None
     → last_place (cut_step o) (λ (s : CutState). test s.place) (lone place) bytes ≡ last_place (place_step o) test place bytes
 quiet_last o test place [] none = refl
 quiet_last o test place (b ∷ bs) none =

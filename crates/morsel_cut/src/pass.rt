@@ -1,10 +1,14 @@
-//! Runs of bytes at once, without a comment prefix: up to the next quote only the last byte counts, and the last eol byte.
+//! Runs of bytes at once, without a comment prefix: 64 bytes at a time, and where these have a quote in an unlikely place, up to
+//! the next quote. Up to a quote only the last byte counts, and the last eol byte.
 ghost use Rattle.std.specs.Prelude.{◌≡◌, ◌≢◌, ◌+◌, ◌<◌, ◌≤◌, ◌^◌, ℕ, true, false, [], ◌∷◌, length, take, slice_index};
+ghost use Rattle.morsel_grammar.specs.Options.{AreOptions};
 ghost use Rattle.morsel_grammar.specs.Split.{is_quote};
 ghost use Rattle.morsel_grammar.specs.Machine.{joined_place};
 ghost use Rattle.morsel_cut.specs.Places.{cut_place, sign_options, IsOutside};
 ghost use Rattle.morsel_cut.specs.Runs.{RunsTo, up_to_last};
 
+use crate::blocks::block_of;
+use crate::marks::{LANES, bits_up_to_highest};
 use crate::step::{ByteAt, Signs};
 use memchr::{memchr, memrchr};
 
@@ -100,9 +104,43 @@ fn plain_run(from: ByteAt, bytes: &[u8], signs: Signs) -> Run
     }
 }
 
-/// What the front of a text does, and how many bytes it has.
+/// What the blocks of 64 bytes do that a text begins with, and how many bytes these are.
+fn blocks_run(from: ByteAt, text: &[u8], signs: Signs) -> (Run, usize)
+    requires fit { AreOptions (sign_options signs) }
+    ensures within { result.1 ≤ length text.now }
+    ensures run { RunsTo (sign_options signs) (cut_place from) (take result.1 text.now) result.0 }
+{
+    let mut place = from;
+    let mut end = 0;
+    let mut at = 0;
+    while text.len() - at >= LANES {
+        let Some(block) = block_of(place, &text[at..], signs) else {
+            return (
+                Run {
+                    place,
+                    end,
+                    begin: end,
+                },
+                at,
+            );
+        };
+        end = later_place(end, at, bits_up_to_highest(block.ends));
+        place = block.place;
+        at += LANES;
+    }
+    (
+        Run {
+            place,
+            end,
+            begin: end,
+        },
+        at,
+    )
+}
+
+/// What the front of a text does up to the next quote, and how many bytes it has.
 #[inline(always)]
-fn front_run(from: ByteAt, text: &[u8], signs: Signs) -> (Run, usize)
+fn stretch_run(from: ByteAt, text: &[u8], signs: Signs) -> (Run, usize)
     requires some { 0 < length text.now }
     requires apart { signs.separator ≢ signs.eol }
     ensures some { 0 < result.1 }
@@ -127,9 +165,24 @@ fn front_run(from: ByteAt, text: &[u8], signs: Signs) -> (Run, usize)
     (one_byte(from, text[0], signs), 1)
 }
 
+/// What the front of a text does, and how many bytes it has.
+fn front_run(from: ByteAt, text: &[u8], signs: Signs) -> (Run, usize)
+    requires some { 0 < length text.now }
+    requires fit { AreOptions (sign_options signs) }
+    ensures some { 0 < result.1 }
+    ensures within { result.1 ≤ length text.now }
+    ensures run { RunsTo (sign_options signs) (cut_place from) (take result.1 text.now) result.0 }
+{
+    let (run, len) = blocks_run(from, text, signs);
+    if len > 0 {
+        return (run, len);
+    }
+    stretch_run(from, text, signs)
+}
+
 /// What a text does.
 pub fn whole_run(from: ByteAt, text: &[u8], signs: Signs) -> Run
-    requires apart { signs.separator ≢ signs.eol }
+    requires fit { AreOptions (sign_options signs) }
     ensures run { RunsTo (sign_options signs) (cut_place from) text.now result }
     ensures ends { result.end ≤ length text.now }
     ensures begins { result.begin ≤ length text.now }

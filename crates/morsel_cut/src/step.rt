@@ -11,6 +11,7 @@ ghost use Rattle.std.specs.Prelude.{◌≡◌, ◌↔◌, IsTrue};
 ghost use Rattle.morsel_grammar.specs.Split.{is_quote};
 ghost use Rattle.morsel_grammar.specs.Machine.{is_after_eol, begins_record, plain_step, first_step, closed_step, place_step};
 ghost use Rattle.morsel_cut.specs.Places.{cut_place, options_with, sign_options, IsOutside};
+ghost use Rattle.morsel_cut.specs.Blocks.{IsAmongFields, in_plain, in_quotes, after_quote};
 ghost use Rattle.morsel_cut.specs.Cutting.{cut_options};
 
 use morsel_grammar::CsvOptions;
@@ -80,12 +81,45 @@ impl ByteAt {
         )
     }
 
+    /// Whether a field without quotes has begun and goes on.
+    #[inline(always)]
+    pub fn is_in_plain(self) -> bool
+        ensures { result ≡ in_plain (cut_place self) }
+    {
+        matches!(self, ByteAt::InPlain)
+    }
+
     /// Whether the last quote was an opening one.
     #[inline(always)]
     pub fn is_in_quotes(self) -> bool
-        ensures { IsTrue result ↔ (self ≡ ByteAt.InQuotes) }
+        ensures value { result ≡ in_quotes (cut_place self) }
+        ensures place { IsTrue result ↔ (self ≡ ByteAt.InQuotes) }
     {
         matches!(self, ByteAt::InQuotes)
+    }
+
+    /// Whether the last byte is a quote in quotes, which closes or is the first of two.
+    #[inline(always)]
+    pub fn is_after_quote(self) -> bool
+        ensures { result ≡ after_quote (cut_place self) }
+    {
+        matches!(self, ByteAt::AfterQuote)
+    }
+
+    /// Whether the next byte is one of a field, or begins or follows one.
+    #[inline(always)]
+    pub fn is_among_fields(self) -> bool
+        ensures { IsTrue result ↔ IsAmongFields (cut_place self) }
+    {
+        matches!(
+            self,
+            ByteAt::AfterMark
+                | ByteAt::AfterEol
+                | ByteAt::AfterSeparator
+                | ByteAt::InPlain
+                | ByteAt::InQuotes
+                | ByteAt::AfterQuote
+        )
     }
 }
 

@@ -16,10 +16,10 @@ returns-then-len-gt0-clause-first c =
 
 pub returns-then-len-gt0-2-clause-place : goal.returns-then-len-gt0-2-clause-place
 returns-then-len-gt0-2-clause-place c =
-    quotes_place (sign_options c.args.signs) c.args.from c.args.text.now c.unquoted_len-len.result (c.is_in_quotes.ensures.0 c.if-is_in_quotes.true)
+    quotes_place (sign_options c.args.signs) c.args.from c.args.text.now c.unquoted_len-len.result (c.is_in_quotes.ensures.place.0 c.if-is_in_quotes.true)
     c.unquoted_len-len.ensures.unquoted
 
 pub returns-then-len-gt0-2-clause-first : goal.returns-then-len-gt0-2-clause-first
 returns-then-len-gt0-2-clause-first c =
-    quotes_size (sign_options c.args.signs) c.args.from c.args.text.now c.unquoted_len-len.result (c.is_in_quotes.ensures.0 c.if-is_in_quotes.true)
+    quotes_size (sign_options c.args.signs) c.args.from c.args.text.now c.unquoted_len-len.result (c.is_in_quotes.ensures.place.0 c.if-is_in_quotes.true)
     c.unquoted_len-len.ensures.within c.unquoted_len-len.ensures.unquoted
