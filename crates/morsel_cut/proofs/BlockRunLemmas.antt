@@ -13,7 +13,7 @@ use Rattle.morsel_cut.specs.Places.{cut_place}
 use Rattle.morsel_cut.specs.Runs.{RunsTo}
 use Rattle.morsel_cut.specs.Blocks.{IsAmongFields, DoesBlock, tests_after, count_after, has_blank, AreCounted}
 use Rattle.morsel_cut.specs.declared.step.ByteAt.{ByteAt}
-use Rattle.morsel_cut.specs.declared.pass.Run.{Run}
+use Rattle.morsel_cut.specs.declared.pass.PlaceRun.{PlaceRun}
 use Rattle.morsel_cut.specs.declared.blocks.Block.{Block}
 use Rattle.morsel_cut.proofs.BitLemmas.{HasBits, same_bits}
 use Rattle.morsel_cut.proofs.MarkLemmas.{last_tests, ones_tests}
@@ -80,7 +80,7 @@ among_past AfterReturn among = tt
 among_past InComment among = tt
 among_past BrokenQuote among = tt
 
-abbrev pub run_to : ByteAt → ℕ → Run
+abbrev pub run_to : ByteAt → ℕ → PlaceRun
 run_to place end = record { place = place; end = end; begin = end }
 
 -- up to the highest bit there are as many bits as bytes up to the last end

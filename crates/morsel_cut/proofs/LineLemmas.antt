@@ -17,10 +17,10 @@ use Rattle.morsel_grammar.proofs.RunLemmas.{lone}
 use Rattle.morsel_grammar.proofs.StateLemmas.{state_after-append}
 use Rattle.morsel_grammar.proofs.WholeCutLemmas.{start_whole}
 use Rattle.morsel_grammar.proofs.WholeRecordLemmas.{records_behind}
-use Rattle.morsel_cut.specs.Places.{options_with, sign_options}
+use Rattle.morsel_cut.specs.Places.{options_with, delimiter_options}
 use Rattle.morsel_cut.specs.Cutting.{cut_options}
 use Rattle.morsel_cut.specs.FirstEnds.{record_size, is_blank}
-use Rattle.morsel_cut.specs.declared.step.Signs.{Signs}
+use Rattle.morsel_cut.specs.declared.step.Delimiters.{Delimiters}
 use Rattle.morsel_cut.specs.RowCounts.{is_row, row_count, TakesRows}
 use Rattle.morsel_cut.specs.Blocks.{count_after, has_blank, AreCounted}
 use Rattle.morsel_cut.proofs.PassLemmas.{quiet_start, quiet_after, quiet_last}
@@ -107,11 +107,11 @@ counted_rows o columns (r ∷ records) (b ∷ bs) fit quiet may ends (line, rest
     omega (arith, parts, more, counts, sum_by-cons (λ (x : CsvRecord). cond (is_row columns x) 1 0) r records)
 
 -- what is counted by the bytes of the options
-pub counted_by : (o : Options) (signs : Signs) (columns : ℕ) (lines : List ℕ) (count : ℕ) → o.comment ≡ None → options_with signs o.comment ≡ cut_options o
-    → AreCounted (sign_options signs) columns lines count → AreCounted o columns lines count
-counted_by o signs columns lines count quiet same counted =
-    let with_comment : AreCounted (options_with signs o.comment) columns lines count =
-    subst (λ (c : Option (List ℕ)). AreCounted (options_with signs c) columns lines count) (sym quiet) counted in
+pub counted_by : (o : Options) (delimiters : Delimiters) (columns : ℕ) (lines : List ℕ) (count : ℕ) → o.comment ≡ None → options_with delimiters o.comment ≡ cut_options o
+    → AreCounted (delimiter_options delimiters) columns lines count → AreCounted o columns lines count
+counted_by o delimiters columns lines count quiet same counted =
+    let with_comment : AreCounted (options_with delimiters o.comment) columns lines count =
+    subst (λ (c : Option (List ℕ)). AreCounted (options_with delimiters c) columns lines count) (sym quiet) counted in
     let cut : AreCounted (cut_options o) columns lines count = subst (λ (p : Options). AreCounted p columns lines count) same with_comment in
     record { ends = cut.ends; count_is = cut.count_is; blanks = cut.blanks }
 

@@ -8,11 +8,11 @@ ghost use Rattle.std.specs.Simd.Lanes.{mask_l};
 ghost use Rattle.morsel_grammar.specs.Options.{AreOptions};
 ghost use Rattle.morsel_grammar.specs.Split.{is_quote};
 ghost use Rattle.morsel_grammar.specs.Machine.{InQuotes, AfterQuote, plain_step};
-ghost use Rattle.morsel_cut.specs.Places.{cut_place, sign_options};
+ghost use Rattle.morsel_cut.specs.Places.{cut_place, delimiter_options};
 ghost use Rattle.morsel_cut.specs.Blocks.{IsAmongFields, DoesBlock};
 
 use crate::marks::{LANES, byte_marks, one_on, prefix_xor, quote_marks, spread};
-use crate::step::{ByteAt, Signs};
+use crate::step::{ByteAt, Delimiters};
 
 /// What 64 bytes do.
 #[derive(Clone, Copy, Debug)]
@@ -25,8 +25,8 @@ pub struct Block {
 
 /// The place after a byte of which it is known whether it is in quotes, and whether it is a quote that closes.
 #[inline(always)]
-fn place_after(is_inside: bool, closes: bool, last: u8, signs: Signs) -> ByteAt
-    ensures { cut_place result ≡ (if is_inside then InQuotes else (if closes then AfterQuote else plain_step (sign_options signs) last)) }
+fn place_after(is_inside: bool, closes: bool, last: u8, delimiters: Delimiters) -> ByteAt
+    ensures { cut_place result ≡ (if is_inside then InQuotes else (if closes then AfterQuote else plain_step (delimiter_options delimiters) last)) }
 {
     if is_inside {
         return ByteAt::InQuotes;
@@ -34,20 +34,26 @@ fn place_after(is_inside: bool, closes: bool, last: u8, signs: Signs) -> ByteAt
     if closes {
         return ByteAt::AfterQuote;
     }
-    signs.plain_step(last)
+    delimiters.plain_step(last)
 }
 
 /// What 64 bytes do among which there are quotes, or which begin in quotes or after one.
 #[inline(always)]
-fn quoted_block(from: ByteAt, lane: &[u8], signs: Signs, quotes: u64, eols: u64) -> Option<Block>
+fn quoted_block(
+    from: ByteAt,
+    lane: &[u8],
+    delimiters: Delimiters,
+    quotes: u64,
+    eols: u64,
+) -> Option<Block>
     requires room { LANES ≤ length lane.now }
-    requires fit { AreOptions (sign_options signs) }
+    requires fit { AreOptions (delimiter_options delimiters) }
     requires among { IsAmongFields (cut_place from) }
-    requires quotes { quotes ≡ mask_l (map (is_quote signs.quote) (take LANES lane.now)) }
-    requires eols { eols ≡ mask_l (map (λ b. b == signs.eol) (take LANES lane.now)) }
-    ensures { IfSome result (λ block. DoesBlock (sign_options signs) (cut_place from) (take LANES lane.now) block) }
+    requires quotes { quotes ≡ mask_l (map (is_quote delimiters.quote) (take LANES lane.now)) }
+    requires eols { eols ≡ mask_l (map (λ b. b == delimiters.eol) (take LANES lane.now)) }
+    ensures { IfSome result (λ block. DoesBlock (delimiter_options delimiters) (cut_place from) (take LANES lane.now) block) }
 {
-    let stops = byte_marks(lane, signs.separator) | eols;
+    let stops = byte_marks(lane, delimiters.separator) | eols;
     let near = stops | quotes;
     let inside = prefix_xor(quotes) ^ spread(from.is_in_quotes());
     let closing = quotes & !inside;
@@ -62,28 +68,28 @@ fn quoted_block(from: ByteAt, lane: &[u8], signs: Signs, quotes: u64, eols: u64)
             inside >> 63 == 1,
             closing >> 63 == 1,
             lane[LANES - 1],
-            signs,
+            delimiters,
         ),
     })
 }
 
 /// What the first 64 bytes do. `None` says nothing of them: they are for the machine that takes one byte after the other.
 #[inline(always)]
-pub fn block_of(from: ByteAt, lane: &[u8], signs: Signs) -> Option<Block>
+pub fn block_of(from: ByteAt, lane: &[u8], delimiters: Delimiters) -> Option<Block>
     requires room { LANES ≤ length lane.now }
-    requires fit { AreOptions (sign_options signs) }
-    ensures { IfSome result (λ block. DoesBlock (sign_options signs) (cut_place from) (take LANES lane.now) block) }
+    requires fit { AreOptions (delimiter_options delimiters) }
+    ensures { IfSome result (λ block. DoesBlock (delimiter_options delimiters) (cut_place from) (take LANES lane.now) block) }
 {
-    let quotes = quote_marks(lane, signs.quote);
-    let eols = byte_marks(lane, signs.eol);
+    let quotes = quote_marks(lane, delimiters.quote);
+    let eols = byte_marks(lane, delimiters.eol);
     if quotes == 0 && from.is_outside() {
         return Some(Block {
             ends: eols,
-            place: signs.plain_step(lane[LANES - 1]),
+            place: delimiters.plain_step(lane[LANES - 1]),
         });
     }
     if !from.is_among_fields() {
         return None;
     }
-    quoted_block(from, lane, signs, quotes, eols)
+    quoted_block(from, lane, delimiters, quotes, eols)
 }

@@ -5,7 +5,7 @@ ghost use Rattle.morsel_cut.specs.RowCounts.{row_count, TakesRows};
 
 use crate::lines::count_lines;
 use crate::record::{is_row, record_size};
-use crate::step::Signs;
+use crate::step::Delimiters;
 use morsel_grammar::CsvOptions;
 
 /// How many rows of so many columns the records of `bytes` are, which follow the header.
@@ -55,7 +55,7 @@ fn line_rows(text: &[u8], columns: usize, options: &CsvOptions) -> (usize, usize
     let None = options.comment() else {
         return (0, 0);
     };
-    count_lines(text, columns, Signs::of(options))
+    count_lines(text, columns, Delimiters::of(options))
 }
 
 /// One where the test holds, and else none.

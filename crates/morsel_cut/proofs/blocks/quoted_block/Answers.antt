@@ -4,13 +4,13 @@ use Rattle.std.proofs.lemmas.Nat.{xor_lt}
 use Rattle.std.specs.Int.RustNames.{bit_and, bit_xor}
 use Rattle.std.specs.Prelude.{if◌then◌else◌}
 use Rattle.morsel_grammar.specs.Machine.{InQuotes, AfterQuote, plain_step}
-use Rattle.morsel_cut.specs.Places.{cut_place, sign_options}
+use Rattle.morsel_cut.specs.Places.{cut_place, delimiter_options}
 use Rattle.morsel_cut.proofs.BlockLemmas.{masks_are, quoted_does}
 use Rattle.morsel_cut.proofs.blocks.quoted_block.Goals as goal
 
 pub returns : goal.returns
 returns c =
-    let o = sign_options c.args.signs in
+    let o = delimiter_options c.args.delimiters in
     let p = cut_place c.args.from in
     let lane = c.args.lane.now in
     let bytes = take 64 lane in

@@ -1,23 +1,23 @@
 use Rattle.std.proofs.Common.{◌≤◌, ◌-◌, ◌+◌, length, take, drop, arith, refl, inl, inr}
 use Rattle.std.proofs.lemmas.List.{length-take-le}
-use Rattle.morsel_cut.specs.Places.{cut_place, sign_options}
+use Rattle.morsel_cut.specs.Places.{cut_place, delimiter_options}
 use Rattle.morsel_cut.proofs.BlockRunLemmas.{MayCount, CountsTo, counts_on, counts_few, counts_within, counted_to}
 use Rattle.morsel_cut.proofs.lines.count_lines.Goals as goal
 use Rattle.morsel_cut.proofs.lines.count_lines.Goals.{else-columns-ne1-via-then-columns-ne1+else-not-is_without_blanks, else-columns-ne1-via-else-columns-ne1}
 
 pub returns-in_default-clause-lines : goal.returns-in_default-clause-lines
 returns-in_default-clause-lines c =
-    counted_to (sign_options c.args.signs) c.args.columns c.args.text.now c.loop-at.at c.loop-at.place c.loop-at.end c.loop-at.count
+    counted_to (delimiter_options c.args.delimiters) c.args.columns c.args.text.now c.loop-at.at c.loop-at.place c.loop-at.end c.loop-at.count
     c.loop-at.invariant.within c.loop-at.invariant.counts
 
 pub returns-then-not-is_without_blanks-clause-lines : goal.returns-then-not-is_without_blanks-clause-lines
 returns-then-not-is_without_blanks-clause-lines c =
-    counted_to (sign_options c.args.signs) c.args.columns c.args.text.now c.loop-at.at c.loop-at.place c.loop-at.end c.loop-at.count
+    counted_to (delimiter_options c.args.delimiters) c.args.columns c.args.text.now c.loop-at.at c.loop-at.place c.loop-at.end c.loop-at.count
     c.loop-at.invariant.within c.loop-at.invariant.counts
 
 pub loop-at-preserved : goal.loop-at-preserved
 loop-at-preserved c =
-    let o = sign_options c.args.signs in
+    let o = delimiter_options c.args.delimiters in
     let columns = c.args.columns in
     let text = c.args.text.now in
     let at = c.loop-at.at in
@@ -38,5 +38,5 @@ loop-at-preserved c =
 
 pub returns-clause-lines : goal.returns-clause-lines
 returns-clause-lines c =
-    counted_to (sign_options c.args.signs) c.args.columns c.args.text.now c.loop-at.at c.loop-at.place c.loop-at.end c.loop-at.count
+    counted_to (delimiter_options c.args.delimiters) c.args.columns c.args.text.now c.loop-at.at c.loop-at.place c.loop-at.end c.loop-at.count
     c.loop-at.invariant.within c.loop-at.invariant.counts

@@ -1,5 +1,5 @@
 use Rattle.std.proofs.Common.{◌≤◌, ◌-◌, length, take}
-use Rattle.morsel_cut.specs.Places.{sign_options}
+use Rattle.morsel_cut.specs.Places.{delimiter_options}
 use Rattle.morsel_cut.proofs.BlockRunLemmas.{CountsTo}
 use Rattle.morsel_cut.proofs.lines.count_lines.Given as goal
 
@@ -8,7 +8,7 @@ invariant-loop-at l = record {
   within : l.at ≤ length l.text;
   few : l.count ≤ l.end;
   low : l.end ≤ l.at;
-  counts : CountsTo (sign_options l.signs) l.columns (take l.at l.text) l.place l.end l.count;
+  counts : CountsTo (delimiter_options l.delimiters) l.columns (take l.at l.text) l.place l.end l.count;
 }
 
 abbrev pub decreases-loop-at : goal.decreases-loop-at
