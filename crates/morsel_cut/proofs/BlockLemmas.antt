@@ -1,5 +1,5 @@
 -- What the masks of 64 bytes tell of quotes is what is told of them one after the other.
-use Rattle.std.proofs.Common.{◌≡◌, ◌⊎◌, inl, inr, refl, ℕ, zero, suc, ◌+◌, ◌-◌, ◌*◌, ◌/◌, ◌%◌, ◌^◌, ◌<◌, ◌≤◌, ◌∙◌, sym, ap, ap₂, arith, Bool, true, false, cond, not, ◌&&◌, ◌||◌, ◌==◌, eqb, List, [], ◌∷◌, length, get_or, map, add-one, lt_of_le_of_lt}
+use Rattle.std.proofs.Common.{◌≡◌, refl, ℕ, zero, suc, ◌+◌, ◌-◌, ◌*◌, ◌/◌, ◌%◌, ◌^◌, ◌<◌, ◌∙◌, sym, ap, ap₂, arith, Bool, true, false, cond, not, ◌&&◌, ◌||◌, ◌==◌, eqb, List, [], ◌∷◌, length, get_or, map, add-one, lt_of_le_of_lt}
 use Rattle.std.proofs.lemmas.Nat.{or_lt, and_le_l}
 use Rattle.std.proofs.lemmas.Nat.Bits.{bit_at-zero, bit_at_xor, bit_at_ones}
 use Rattle.std.proofs.lemmas.Simd.{bit_mask_l}
@@ -11,7 +11,7 @@ use Rattle.morsel_grammar.specs.Options.{Options, AreOptions}
 use Rattle.morsel_grammar.specs.Split.{is_quote}
 use Rattle.morsel_grammar.specs.Machine.{CutPlace, AfterMark, AfterEol, AfterSeparator, InPlain, InQuotes, AfterQuote, state_after, place_step, plain_step, is_after_eol}
 use Rattle.morsel_cut.specs.Places.{cut_place, IsOutside}
-use Rattle.morsel_cut.specs.Blocks.{in_plain, in_quotes, after_quote, IsAmongFields, tests_after, ones_below, DoesBlock, has_blank}
+use Rattle.morsel_cut.specs.Blocks.{is_in_plain, is_in_quotes, is_after_quote, IsAmongFields, tests_after, ones_below, DoesBlock, has_blank}
 use Rattle.morsel_cut.specs.declared.step.ByteAt.{ByteAt}
 use Rattle.morsel_cut.proofs.RunLemmas.{AreUnquoted, outside_after, outside_step, plain_outside, ends_at_eol}
 use Rattle.morsel_cut.proofs.MarkLemmas.{Is, and_is, or_is, not_is, same_is, has, mask_is, mask_from_bits, shifted_is, none_marked}
@@ -199,9 +199,9 @@ quoted_does o p place bytes separators eols quotes turns opening following fit a
     let next = state_after (place_step o) p bytes in
     let last = told_last o t bytes masks.size in
     let fits_ends : bit_and eols (18446744073709551615 - turns) < 2 ^ 64 = lt_of_le_of_lt (and_le_l _ _) masks.fits_eols in
-    let inside : eqb (turns / 9223372036854775808) 1 ≡ in_quotes next =
+    let inside : eqb (turns / 9223372036854775808) 1 ≡ is_in_quotes next =
     top_is turns _ masks.fits_turns (masks.turns_are 63 (omega arith)) ∙ ap (λ (x : Told). x.inside) last ∙ all.tells.inside in
-    let closed : eqb (bit_and quotes (18446744073709551615 - turns) / 9223372036854775808) 1 ≡ after_quote next =
+    let closed : eqb (bit_and quotes (18446744073709551615 - turns) / 9223372036854775808) 1 ≡ is_after_quote next =
     top_is _ _ (lt_of_le_of_lt (and_le_l _ _) masks.fits_quotes)
     (and_is (mask_is (quote_test o) bytes quotes 63 masks.quotes_are) (not_is masks.fits_turns (omega arith) (masks.turns_are 63 (omega arith))))
     ∙ sym (closed_next o t bytes 63 (omega (arith, masks.size))) ∙ ap (λ (x : Told). x.closed) last ∙ all.tells.closed in
@@ -217,10 +217,10 @@ quoted_does o p place bytes separators eols quotes turns opening following fit a
 
 pub masks_are : (o : Options) (p : CutPlace) (bytes : List ℕ) (separators eols quotes ladder all opening following : ℕ) (in_quotes_is after_quote_is before_is : Bool) → length bytes ≡ 64
     → separators ≡ mask_l (map (λ (b : ℕ). b == o.separator) bytes) → eols ≡ mask_l (map (λ (b : ℕ). b == o.eol) bytes) → quotes ≡ mask_l (map (is_quote o.quote) bytes)
-    → ((k : ℕ) → k < 64 → bit_at ladder k ≡ ones_below quotes (k + 1) % 2) → all ≡ (if in_quotes_is then 18446744073709551615 else 0) → in_quotes_is ≡ in_quotes p
-    → bit_at opening 0 ≡ (if before_is then 1 else 0) → before_is ≡ not (in_plain p)
+    → ((k : ℕ) → k < 64 → bit_at ladder k ≡ ones_below quotes (k + 1) % 2) → all ≡ (if in_quotes_is then 18446744073709551615 else 0) → in_quotes_is ≡ is_in_quotes p
+    → bit_at opening 0 ≡ (if before_is then 1 else 0) → before_is ≡ not (is_in_plain p)
     → ((j : ℕ) → j + 1 < 64 → bit_at opening (j + 1) ≡ bit_at (bit_or (bit_or separators eols) quotes) j)
-    → bit_at following 0 ≡ (if after_quote_is then 1 else 0) → after_quote_is ≡ after_quote p
+    → bit_at following 0 ≡ (if after_quote_is then 1 else 0) → after_quote_is ≡ is_after_quote p
     → ((j : ℕ) → j + 1 < 64 → bit_at following (j + 1) ≡ bit_at (bit_and quotes (18446744073709551615 - bit_xor ladder all)) j)
     → separators < 2 ^ 64 → eols < 2 ^ 64 → quotes < 2 ^ 64 → bit_xor ladder all < 2 ^ 64 → opening < 2 ^ 64 → following < 2 ^ 64
     → AreMasks o (told_at p) bytes separators eols quotes (bit_xor ladder all) opening following

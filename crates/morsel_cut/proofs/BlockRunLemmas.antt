@@ -4,14 +4,13 @@ use Rattle.std.proofs.lemmas.List.{length-take-le, take_rest, take-append-drop, 
 use Rattle.std.proofs.Math.Seq.{take-add}
 use Rattle.std.specs.Prelude.{if◌then◌else◌}
 use Rattle.std.specs.Int.RustNames.{count_ones}
-use Rattle.std.specs.Simd.Lanes.{mask_l}
 use Rattle.morsel_grammar.specs.Options.{Options}
 use Rattle.morsel_grammar.specs.Split.{is_quote}
 use Rattle.morsel_grammar.specs.Machine.{CutPlace, AtOpening, InMarkOne, InMarkTwo, AfterMark, AfterEol, AfterSeparator, InPlain, InQuotes, AfterQuote, AfterReturn, InComment, BrokenQuote, state_after, last_place, place_or_later, joined_place, place_step, first_step, plain_step, closed_step, is_after_eol, begins_record}
 use Rattle.morsel_grammar.proofs.StateLemmas.{state_after-append, last_place-append, last_place-within, last_place-holds, last_place-none_later}
 use Rattle.morsel_cut.specs.Places.{cut_place}
 use Rattle.morsel_cut.specs.Runs.{RunsTo}
-use Rattle.morsel_cut.specs.Blocks.{IsAmongFields, DoesBlock, tests_after, count_after, has_blank, AreCounted}
+use Rattle.morsel_cut.specs.Blocks.{IsAmongFields, DoesBlock, count_after, has_blank, AreCountedLines}
 use Rattle.morsel_cut.specs.declared.step.ByteAt.{ByteAt}
 use Rattle.morsel_cut.specs.declared.pass.PlaceRun.{PlaceRun}
 use Rattle.morsel_cut.specs.declared.blocks.Block.{Block}
@@ -236,7 +235,7 @@ only_after_eol BrokenQuote is = cc
 
 -- those up to the last end
 pub counted_to : (o : Options) (columns : ℕ) (text : List ℕ) (at : ℕ) (place : ByteAt) (end count : ℕ) → at ≤ length text → CountsTo o columns (take at text) place end count
-    → 0 < end → AreCounted o columns (take end text) count
+    → 0 < end → AreCountedLines o columns (take end text) count
 counted_to o columns text at place end count within counts some =
     let bytes = take at text in
     let step = place_step o in
@@ -256,7 +255,7 @@ counted_to o columns text at place end count within counts some =
     let parts : count_after step is_after_eol AfterEol bytes
     ≡ count_after step is_after_eol AfterEol (take end bytes) + count_after step is_after_eol (state_after step AfterEol (take end bytes)) (drop end bytes) =
     ap (count_after step is_after_eol AfterEol) (sym whole) ∙ count_after-append step is_after_eol AfterEol (take end bytes) (drop end bytes) in
-    subst (λ (x : List ℕ). AreCounted o columns x count) same (record {
+    subst (λ (x : List ℕ). AreCountedLines o columns x count) same (record {
       ends = only_after_eol (state_after step AfterEol (take end bytes)) holds;
       count_is = omega (arith, counts.count_is, parts, none);
       blanks = (may_parts o columns AfterEol (take end bytes) (drop end bytes) (subst (MayCount o columns AfterEol) (sym whole) counts.may)).0;

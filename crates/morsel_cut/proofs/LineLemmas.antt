@@ -1,19 +1,18 @@
 -- Records up to an end are as many as ends, and each is a row where none is blank.
-use Rattle.std.proofs.Common.{◌≡◌, ℕ, zero, suc, ◌+◌, ◌<◌, ◌≤◌, ◌∙◌, sym, ap, refl, arith, subst, inl, inr, cond, Bool, true, false, ◌==◌, List, [], ◌∷◌, ◌++◌, length, take, drop, length-append, append_assoc}
+use Rattle.std.proofs.Common.{◌≡◌, ℕ, suc, ◌+◌, ◌<◌, ◌∙◌, sym, ap, arith, subst, inl, inr, cond, Bool, true, false, ◌==◌, List, [], ◌∷◌, ◌++◌, length, take, drop, length-append, append_assoc}
 use Rattle.std.proofs.lemmas.List.{drop-drop, take-append-drop}
 use Rattle.std.proofs.lemmas.List.Sums.{sum_by-append, sum_by-cons}
 use Rattle.std.proofs.lemmas.Bool.{eq-eqb}
-use Rattle.std.specs.Prelude.{Option, Some, None, not, ◌||◌, ◌⊎◌, if◌then◌else◌, is_some}
+use Rattle.std.specs.Prelude.{Option, Some, None, not, ◌||◌, if◌then◌else◌, is_some}
 use Rattle.morsel_grammar.specs.Options.{Options, AreOptions}
 use Rattle.morsel_grammar.specs.Grammar.{CsvRecord, Records}
 use Rattle.morsel_grammar.specs.GrammarRows.{AreWholeRecords}
 use Rattle.morsel_grammar.specs.Split.{comment_body, record_at}
-use Rattle.morsel_grammar.specs.Machine.{CutPlace, CutState, AfterEol, state_after, last_place, place_step, first_state, last_end, cut_step, cut_after, is_after_eol}
+use Rattle.morsel_grammar.specs.Machine.{CutPlace, CutState, AfterEol, state_after, last_place, place_step, first_state, last_end, cut_after, is_after_eol}
 use Rattle.morsel_grammar.specs.Cuts.{EndsAtFirst, FollowsFound}
 use Rattle.morsel_grammar.proofs.ByteLemmas.{either_first, either_second}
 use Rattle.morsel_grammar.proofs.RecordLemmas.{record_at-written}
 use Rattle.morsel_grammar.proofs.RecordRunLemmas.{record-follows}
-use Rattle.morsel_grammar.proofs.RunLemmas.{lone}
 use Rattle.morsel_grammar.proofs.StateLemmas.{state_after-append}
 use Rattle.morsel_grammar.proofs.WholeCutLemmas.{start_whole}
 use Rattle.morsel_grammar.proofs.WholeRecordLemmas.{records_behind}
@@ -22,7 +21,7 @@ use Rattle.morsel_cut.specs.Cutting.{cut_options}
 use Rattle.morsel_cut.specs.FirstEnds.{record_size, is_blank}
 use Rattle.morsel_cut.specs.declared.step.Delimiters.{Delimiters}
 use Rattle.morsel_cut.specs.RowCounts.{is_row, row_count, TakesRows}
-use Rattle.morsel_cut.specs.Blocks.{count_after, has_blank, AreCounted}
+use Rattle.morsel_cut.specs.Blocks.{count_after, has_blank, AreCountedLines}
 use Rattle.morsel_cut.proofs.PassLemmas.{quiet_start, quiet_after, quiet_last}
 use Rattle.morsel_cut.proofs.SizeLemmas.{has_first}
 use Rattle.morsel_cut.proofs.RowLemmas.{HasCounted}
@@ -108,15 +107,15 @@ counted_rows o columns (r ∷ records) (b ∷ bs) fit quiet may ends (line, rest
 
 -- what is counted by the bytes of the options
 pub counted_by : (o : Options) (delimiters : Delimiters) (columns : ℕ) (lines : List ℕ) (count : ℕ) → o.comment ≡ None → options_with delimiters o.comment ≡ cut_options o
-    → AreCounted (delimiter_options delimiters) columns lines count → AreCounted o columns lines count
+    → AreCountedLines (delimiter_options delimiters) columns lines count → AreCountedLines o columns lines count
 counted_by o delimiters columns lines count quiet same counted =
-    let with_comment : AreCounted (options_with delimiters o.comment) columns lines count =
-    subst (λ (c : Option (List ℕ)). AreCounted (options_with delimiters c) columns lines count) (sym quiet) counted in
-    let cut : AreCounted (cut_options o) columns lines count = subst (λ (p : Options). AreCounted p columns lines count) same with_comment in
+    let with_comment : AreCountedLines (options_with delimiters o.comment) columns lines count =
+    subst (λ (c : Option (List ℕ)). AreCountedLines (options_with delimiters c) columns lines count) (sym quiet) counted in
+    let cut : AreCountedLines (cut_options o) columns lines count = subst (λ (p : Options). AreCountedLines p columns lines count) same with_comment in
     record { ends = cut.ends; count_is = cut.count_is; blanks = cut.blanks }
 
 -- the rows of the records up to an end, and then those of what follows
-pub takes_lines : (o : Options) (columns : ℕ) (text : List ℕ) (len rows : ℕ) (all : List CsvRecord) → AreOptions o → o.comment ≡ None → AreCounted o columns (take len text) rows
+pub takes_lines : (o : Options) (columns : ℕ) (text : List ℕ) (len rows : ℕ) (all : List CsvRecord) → AreOptions o → o.comment ≡ None → AreCountedLines o columns (take len text) rows
     → Records o text all → TakesRows o columns text all len rows
 takes_lines o columns text len rows all fit quiet lines are =
     let front = take len text in

@@ -1,10 +1,10 @@
 -- Quotes told by their number: where each stands as it mostly does, what is told of a byte is what the machine knows of it.
-use Rattle.std.proofs.Common.{◌≡◌, ℕ, zero, suc, ◌<◌, ◌∙◌, sym, ap, ap₂, refl, arith, subst, Bool, true, false, not, ◌&&◌, ◌||◌, ◌==◌, List, [], ◌∷◌, length, get_or}
+use Rattle.std.proofs.Common.{◌≡◌, ℕ, zero, suc, ◌∙◌, sym, ap, ap₂, refl, arith, subst, Bool, true, false, not, ◌&&◌, ◌||◌, ◌==◌, List, [], ◌∷◌, length, get_or}
 use Rattle.std.specs.Prelude.{if◌then◌else◌}
 use Rattle.morsel_grammar.specs.Options.{Options, AreOptions}
 use Rattle.morsel_grammar.specs.Split.{is_quote}
 use Rattle.morsel_grammar.specs.Machine.{CutPlace, AfterMark, AfterEol, AfterSeparator, InPlain, InQuotes, AfterQuote, AfterReturn, BrokenQuote, state_after, place_step, plain_step, is_after_eol}
-use Rattle.morsel_cut.specs.Blocks.{in_plain, in_quotes, after_quote, IsAmongFields, tests_after}
+use Rattle.morsel_cut.specs.Blocks.{is_in_plain, is_in_quotes, is_after_quote, IsAmongFields, tests_after}
 use Rattle.morsel_cut.proofs.BlankLemmas.{separator_no_eol, quote_no_eol}
 
 -- what the bytes before a place tell of it
@@ -48,18 +48,18 @@ ends_told o inside (b ∷ bs) = (b == o.eol && not (turned (is_quote o.quote b) 
 -- what is told is what the machine knows
 pub record Tells (p : CutPlace) (t : Told) : Type 0 where
   pub among : IsAmongFields p
-  pub inside : t.inside ≡ in_quotes p
-  pub closed : t.closed ≡ after_quote p
-  pub before : in_quotes p ≡ false → t.before ≡ not (in_plain p)
+  pub inside : t.inside ≡ is_in_quotes p
+  pub closed : t.closed ≡ is_after_quote p
+  pub before : is_in_quotes p ≡ false → t.before ≡ not (is_in_plain p)
 
 -- a place after a byte, and what is told of it
 record Moves (q s e : Bool) (plain next : CutPlace) (inside : Bool) : Type 0 where
   among : IsAmongFields next
-  inside_is : turned q inside ≡ in_quotes next
-  closed_is : (q && not (turned q inside)) ≡ after_quote next
-  before_is : in_quotes next ≡ false → ((s || e) || q) ≡ not (in_plain next)
+  inside_is : turned q inside ≡ is_in_quotes next
+  closed_is : (q && not (turned q inside)) ≡ is_after_quote next
+  before_is : is_in_quotes next ≡ false → ((s || e) || q) ≡ not (is_in_plain next)
   ends_is : (e && not (turned q inside)) ≡ is_after_eol next
-  last_is : in_quotes next ≡ false → after_quote next ≡ false → next ≡ plain
+  last_is : is_in_quotes next ≡ false → is_after_quote next ≡ false → next ≡ plain
 
 abbrev plain_by : (is_separator is_eol : Bool) → CutPlace
 plain_by s e = if s then AfterSeparator else (if e then AfterEol else InPlain)
@@ -130,8 +130,8 @@ closed_place false true e r before other apart sound = plain_moves true e apart
 closed_place false false true r before other apart sound = plain_moves false true apart
 closed_place false false false r before other apart sound = cc
 
-moves : (p : CutPlace) (q s e r before : Bool) → IsAmongFields p → (in_quotes p ≡ false → before ≡ not (in_plain p)) → (q ≡ true → e ≡ false) → (s && e) ≡ false
-    → fault_by q s e (record { before = before; inside = in_quotes p; closed = after_quote p }) ≡ false → Moves q s e (plain_by s e) (next_by p q s e r) (in_quotes p)
+moves : (p : CutPlace) (q s e r before : Bool) → IsAmongFields p → (is_in_quotes p ≡ false → before ≡ not (is_in_plain p)) → (q ≡ true → e ≡ false) → (s && e) ≡ false
+    → fault_by q s e (record { before = before; inside = is_in_quotes p; closed = is_after_quote p }) ≡ false → Moves q s e (plain_by s e) (next_by p q s e r) (is_in_quotes p)
 moves AfterMark q s e r before among told other apart sound = first_moves q s e other apart
 moves AfterEol q s e r before among told other apart sound = first_moves q s e other apart
 moves AfterSeparator q s e r before among told other apart sound = first_moves q s e other apart
@@ -144,7 +144,7 @@ moves p q s e r before among told other apart sound = absurd among
 pub record Steps (o : Options) (p : CutPlace) (t : Told) (b : ℕ) : Type 0 where
   pub tells : Tells (place_step o p b) (told_step o t b)
   pub ends : (b == o.eol && not (turned (is_quote o.quote b) t.inside)) ≡ is_after_eol (place_step o p b)
-  pub last : in_quotes (place_step o p b) ≡ false → after_quote (place_step o p b) ≡ false → place_step o p b ≡ plain_step o b
+  pub last : is_in_quotes (place_step o p b) ≡ false → is_after_quote (place_step o p b) ≡ false → place_step o p b ≡ plain_step o b
 
 not_both : (s e : Bool) → (s ≡ true → e ≡ false) → (s && e) ≡ false
 not_both true e apart = apart refl
@@ -157,10 +157,10 @@ steps o p t b fit tells sound =
     let e = b == o.eol in
     let r = b == 13 && o.eol == 10 in
     let made : Bool → Bool → Told = λ i c. record { before = t.before; inside = i; closed = c } in
-    let sound_here : fault_by q s e (made (in_quotes p) (after_quote p)) ≡ false = ap₂ (λ (i c : Bool). fault_by q s e (made i c)) (sym tells.inside) (sym tells.closed) ∙ sound in
+    let sound_here : fault_by q s e (made (is_in_quotes p) (is_after_quote p)) ≡ false = ap₂ (λ (i c : Bool). fault_by q s e (made i c)) (sym tells.inside) (sym tells.closed) ∙ sound in
     let m = moves p q s e r t.before tells.among tells.before (quote_no_eol o b fit) (not_both s e (separator_no_eol o b fit)) sound_here in
     let next = next_is o p b tells.among in
-    let inside : turned q t.inside ≡ turned q (in_quotes p) = ap (turned q) tells.inside in
+    let inside : turned q t.inside ≡ turned q (is_in_quotes p) = ap (turned q) tells.inside in
     record {
       tells = subst (λ (n : CutPlace). Tells n (told_step o t b)) (sym next) (record {
         among = m.among;
@@ -169,14 +169,14 @@ steps o p t b fit tells sound =
         before = m.before_is;
       });
       ends = ap (λ (i : Bool). e && not i) inside ∙ m.ends_is ∙ ap is_after_eol (sym next);
-      last = subst (λ (n : CutPlace). in_quotes n ≡ false → after_quote n ≡ false → n ≡ plain_step o b) (sym next) m.last_is;
+      last = subst (λ (n : CutPlace). is_in_quotes n ≡ false → is_after_quote n ≡ false → n ≡ plain_step o b) (sym next) m.last_is;
     }
 
 -- bytes that are no faults
 pub record StepsAll (o : Options) (p : CutPlace) (t : Told) (bytes : List ℕ) : Type 0 where
   pub tells : Tells (state_after (place_step o) p bytes) (told_after o t bytes)
   pub ends : ends_told o t.inside bytes ≡ tests_after (place_step o) is_after_eol p bytes
-  pub last : (n : ℕ) → length bytes ≡ suc n → in_quotes (state_after (place_step o) p bytes) ≡ false → after_quote (state_after (place_step o) p bytes) ≡ false
+  pub last : (n : ℕ) → length bytes ≡ suc n → is_in_quotes (state_after (place_step o) p bytes) ≡ false → is_after_quote (state_after (place_step o) p bytes) ≡ false
       → state_after (place_step o) p bytes ≡ plain_step o (get_or bytes n 0)
 
 both_so : (t u : Bool) → (not t && u) ≡ true → (t ≡ false) × (u ≡ true)
@@ -196,11 +196,11 @@ steps_all o p t (b ∷ bs) fit tells sound =
     }
   where
     last_of : (o : Options) (p : CutPlace) (b : ℕ) (bs : List ℕ)
-        → (in_quotes (place_step o p b) ≡ false → after_quote (place_step o p b) ≡ false → place_step o p b ≡ plain_step o b)
-        → ((n : ℕ) → length bs ≡ suc n → in_quotes (state_after (place_step o) (place_step o p b) bs) ≡ false
-        → after_quote (state_after (place_step o) (place_step o p b) bs) ≡ false → state_after (place_step o) (place_step o p b) bs ≡ plain_step o (get_or bs n 0))
-        → (n : ℕ) → suc (length bs) ≡ suc n → in_quotes (state_after (place_step o) (place_step o p b) bs) ≡ false
-        → after_quote (state_after (place_step o) (place_step o p b) bs) ≡ false → state_after (place_step o) (place_step o p b) bs ≡ plain_step o (get_or (b ∷ bs) n 0)
+        → (is_in_quotes (place_step o p b) ≡ false → is_after_quote (place_step o p b) ≡ false → place_step o p b ≡ plain_step o b)
+        → ((n : ℕ) → length bs ≡ suc n → is_in_quotes (state_after (place_step o) (place_step o p b) bs) ≡ false
+        → is_after_quote (state_after (place_step o) (place_step o p b) bs) ≡ false → state_after (place_step o) (place_step o p b) bs ≡ plain_step o (get_or bs n 0))
+        → (n : ℕ) → suc (length bs) ≡ suc n → is_in_quotes (state_after (place_step o) (place_step o p b) bs) ≡ false
+        → is_after_quote (state_after (place_step o) (place_step o p b) bs) ≡ false → state_after (place_step o) (place_step o p b) bs ≡ plain_step o (get_or (b ∷ bs) n 0)
     last_of o p b [] first later zero size = first
     last_of o p b [] first later (suc n) size = absurd (omega arith)
     last_of o p b (c ∷ cs) first later zero size = absurd (omega arith)
@@ -208,14 +208,14 @@ steps_all o p t (b ∷ bs) fit tells sound =
 
 -- what the machine knows, as what is told
 abbrev pub told_at : CutPlace → Told
-told_at p = record { before = not (in_plain p); inside = in_quotes p; closed = after_quote p }
+told_at p = record { before = not (is_in_plain p); inside = is_in_quotes p; closed = is_after_quote p }
 
 pub tells_at : (p : CutPlace) → IsAmongFields p → Tells p (told_at p)
 tells_at p among = record { among = among; inside = refl; closed = refl; before = λ out. refl }
 
 -- the place is known by what is told of it, and by the last byte
-pub known_place : (p plain : CutPlace) → IsAmongFields p → (in_quotes p ≡ false → after_quote p ≡ false → p ≡ plain)
-    → (if in_quotes p then InQuotes else (if after_quote p then AfterQuote else plain)) ≡ p
+pub known_place : (p plain : CutPlace) → IsAmongFields p → (is_in_quotes p ≡ false → is_after_quote p ≡ false → p ≡ plain)
+    → (if is_in_quotes p then InQuotes else (if is_after_quote p then AfterQuote else plain)) ≡ p
 known_place AfterMark plain among is = sym (is refl refl)
 known_place AfterEol plain among is = sym (is refl refl)
 known_place AfterSeparator plain among is = sym (is refl refl)

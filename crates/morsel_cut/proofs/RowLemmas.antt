@@ -6,7 +6,7 @@ use Rattle.std.proofs.Common.{length-append}
 use Rattle.std.proofs.lemmas.List.Sums.{sum_by-cons}
 use Rattle.std.specs.Prelude.{Some, ◌⊎◌, if◌then◌else◌}
 use Rattle.morsel_grammar.specs.Options.{Options, AreOptions}
-use Rattle.morsel_grammar.specs.Grammar.{CsvRecord, Comment, Fields, IsRecord, Records}
+use Rattle.morsel_grammar.specs.Grammar.{CsvRecord, IsRecord, Records}
 use Rattle.morsel_grammar.specs.Split.{record_at}
 use Rattle.morsel_grammar.specs.Rows.{is_header, behind_header}
 use Rattle.morsel_grammar.specs.GrammarRows.{awaits_header_after}

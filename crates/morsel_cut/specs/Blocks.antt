@@ -23,19 +23,19 @@ count_after step test s [] = 0
 count_after step test s (b ∷ bs) = (if test (step s b) then 1 else 0) + count_after step test (step s b) bs
 
 -- in a field without quotes
-abbrev pub in_plain : CutPlace → Bool
-in_plain InPlain = true
-in_plain place = false
+abbrev pub is_in_plain : CutPlace → Bool
+is_in_plain InPlain = true
+is_in_plain place = false
 
 -- in quotes
-abbrev pub in_quotes : CutPlace → Bool
-in_quotes InQuotes = true
-in_quotes place = false
+abbrev pub is_in_quotes : CutPlace → Bool
+is_in_quotes InQuotes = true
+is_in_quotes place = false
 
 -- after a quote in quotes
-abbrev pub after_quote : CutPlace → Bool
-after_quote AfterQuote = true
-after_quote place = false
+abbrev pub is_after_quote : CutPlace → Bool
+is_after_quote AfterQuote = true
+is_after_quote place = false
 
 -- in or before a field, or after one, and nowhere else
 abbrev pub IsAmongFields : CutPlace → Type 0
@@ -59,7 +59,7 @@ has_blank o place [] = false
 has_blank o place (b ∷ bs) = (is_after_eol place && (b == o.eol || b == 13)) || has_blank o (place_step o place b) bs
 
 -- records up to an end, and how many they are; where there is not one column alone, none of them is blank
-pub record AreCounted (o : Options) (columns : ℕ) (lines : List ℕ) (count : ℕ) : Type 0 where
+pub record AreCountedLines (o : Options) (columns : ℕ) (lines : List ℕ) (count : ℕ) : Type 0 where
   pub ends : state_after (place_step o) AfterEol lines ≡ AfterEol
   pub count_is : count ≡ count_after (place_step o) is_after_eol AfterEol lines
   pub blanks : (columns ≡ 1) ⊎ (has_blank o AfterEol lines ≡ false)

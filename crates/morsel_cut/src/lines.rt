@@ -4,7 +4,7 @@ ghost use Rattle.std.specs.Simd.Lanes.{mask_l};
 ghost use Rattle.morsel_grammar.specs.Options.{AreOptions};
 ghost use Rattle.morsel_grammar.specs.Machine.{is_after_eol, place_step};
 ghost use Rattle.morsel_cut.specs.Places.{cut_place, delimiter_options};
-ghost use Rattle.morsel_cut.specs.Blocks.{tests_after, has_blank, AreCounted};
+ghost use Rattle.morsel_cut.specs.Blocks.{tests_after, has_blank, AreCountedLines};
 
 use crate::blocks::block_of;
 use crate::marks::{LANES, bits_up_to_highest, byte_marks, one_on};
@@ -28,7 +28,7 @@ pub fn count_lines(text: &[u8], columns: usize, delimiters: Delimiters) -> (usiz
     requires fit { AreOptions (delimiter_options delimiters) }
     ensures within { result.0 ≤ length text.now }
     ensures few { result.1 ≤ result.0 }
-    ensures lines { 0 < result.0 → AreCounted (delimiter_options delimiters) columns (take result.0 text.now) result.1 }
+    ensures lines { 0 < result.0 → AreCountedLines (delimiter_options delimiters) columns (take result.0 text.now) result.1 }
 {
     let mut place = ByteAt::AfterEol;
     let mut end = 0;

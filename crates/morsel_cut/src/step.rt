@@ -11,7 +11,7 @@ ghost use Rattle.std.specs.Prelude.{◌≡◌, ◌↔◌, IsTrue};
 ghost use Rattle.morsel_grammar.specs.Split.{is_quote};
 ghost use Rattle.morsel_grammar.specs.Machine.{is_after_eol, begins_record, plain_step, first_step, closed_step, place_step};
 ghost use Rattle.morsel_cut.specs.Places.{cut_place, options_with, delimiter_options, IsOutside};
-ghost use Rattle.morsel_cut.specs.Blocks.{IsAmongFields, in_plain, in_quotes, after_quote};
+ghost use Rattle.morsel_cut.specs.Blocks.{IsAmongFields, is_in_plain, is_in_quotes, is_after_quote};
 ghost use Rattle.morsel_cut.specs.Cutting.{cut_options};
 
 use morsel_grammar::CsvOptions;
@@ -84,7 +84,7 @@ impl ByteAt {
     /// Whether a field without quotes has begun and goes on.
     #[inline(always)]
     pub fn is_in_plain(self) -> bool
-        ensures { result ≡ in_plain (cut_place self) }
+        ensures { result ≡ is_in_plain (cut_place self) }
     {
         matches!(self, ByteAt::InPlain)
     }
@@ -92,7 +92,7 @@ impl ByteAt {
     /// Whether the last quote was an opening one.
     #[inline(always)]
     pub fn is_in_quotes(self) -> bool
-        ensures value { result ≡ in_quotes (cut_place self) }
+        ensures value { result ≡ is_in_quotes (cut_place self) }
         ensures place { IsTrue result ↔ (self ≡ ByteAt.InQuotes) }
     {
         matches!(self, ByteAt::InQuotes)
@@ -101,7 +101,7 @@ impl ByteAt {
     /// Whether the last byte is a quote in quotes, which closes or is the first of two.
     #[inline(always)]
     pub fn is_after_quote(self) -> bool
-        ensures { result ≡ after_quote (cut_place self) }
+        ensures { result ≡ is_after_quote (cut_place self) }
     {
         matches!(self, ByteAt::AfterQuote)
     }

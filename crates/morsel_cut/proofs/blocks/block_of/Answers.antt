@@ -1,4 +1,4 @@
-use Rattle.std.proofs.Common.{◌∙◌, ℕ, sym, ap, arith, take}
+use Rattle.std.proofs.Common.{◌∙◌, sym, ap, arith, take}
 use Rattle.std.proofs.lemmas.List.{length-take-le, get_or-take}
 use Rattle.morsel_grammar.specs.Machine.{plain_step}
 use Rattle.morsel_cut.specs.Places.{cut_place, delimiter_options}

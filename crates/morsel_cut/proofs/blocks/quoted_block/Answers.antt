@@ -1,4 +1,4 @@
-use Rattle.std.proofs.Common.{◌∙◌, ◌-◌, ◌/◌, ◌<◌, ◌^◌, ℕ, sym, ap, arith, not, take, eqb, lt_of_le_of_lt}
+use Rattle.std.proofs.Common.{◌∙◌, ◌-◌, ◌/◌, ◌<◌, ◌^◌, ℕ, sym, ap, arith, not, take, eqb}
 use Rattle.std.proofs.lemmas.List.{length-take-le, get_or-take}
 use Rattle.std.proofs.lemmas.Nat.{xor_lt}
 use Rattle.std.specs.Int.RustNames.{bit_and, bit_xor}

@@ -1,7 +1,7 @@
 use Rattle.std.proofs.Common.{◌≤◌, ◌-◌, ◌+◌, length, take, drop, arith, refl, inl, inr}
 use Rattle.std.proofs.lemmas.List.{length-take-le}
 use Rattle.morsel_cut.specs.Places.{cut_place, delimiter_options}
-use Rattle.morsel_cut.proofs.BlockRunLemmas.{MayCount, CountsTo, counts_on, counts_few, counts_within, counted_to}
+use Rattle.morsel_cut.proofs.BlockRunLemmas.{MayCount, counts_on, counts_few, counts_within, counted_to}
 use Rattle.morsel_cut.proofs.lines.count_lines.Goals as goal
 use Rattle.morsel_cut.proofs.lines.count_lines.Goals.{else-columns-ne1-via-then-columns-ne1+else-not-is_without_blanks, else-columns-ne1-via-else-columns-ne1}
 
