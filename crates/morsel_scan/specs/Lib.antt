@@ -10,3 +10,4 @@ pub mod AheadLaws
 pub mod Filters
 pub mod Decoding
 pub mod Nodes
+pub mod ScanFlaws
