@@ -4,7 +4,7 @@ use Rattle.morsel_meaning.specs.declared.fault.Fault.{Fault}
 use Rattle.morsel_meaning.specs.declared.fault.Fault.TheVariants as faults
 use Rattle.morsel_meaning.specs.declared.value.Field.{Field}
 use Rattle.morsel_outside.specs.Outside.{Outside}
-use Rattle.morsel_engine.specs.Run.{Query, IsFirstRefused, Caused}
+use Rattle.morsel_engine.specs.Run.{ScanQuery, IsFirstRefused, Caused}
 use Rattle.morsel_engine.specs.Complete.{IsValid, NoneRises}
 use Rattle.morsel_engine.proofs.EndLemmas.{rows_or_place}
 
@@ -12,7 +12,7 @@ valid_not_refused : (held : Option (List (List ℕ))) (file : ℕ) (schema : Lis
 valid_not_refused None file schema at valid refused = valid
 valid_not_refused (Some files) file schema at valid refused = rows_or_place schema _ valid.0 refused.0 at valid.1 refused.1
 
-pub completes : (old new : Outside) (q : Query) (result : Result ℕ Fault) → Caused old q result new → IsValid new.held (length old.sizes) q.schema → NoneRises old new
+pub completes : (old new : Outside) (q : ScanQuery) (result : Result ℕ Fault) → Caused old q result new → IsValid new.held (length old.sizes) q.schema → NoneRises old new
     → IsOkUnless result faults.OutOfMemory
 completes old new q (Ok count) caused valid none = tt
 completes old new q (Err faults.OutOfMemory) caused valid none = refl

@@ -9,7 +9,7 @@ use Rattle.morsel_meaning.specs.Values.{Row, names_of}
 use Rattle.morsel_outside.specs.Outside.{with_last, IsSized}
 use Rattle.morsel_outside.specs.Calls.{Holds}
 use Rattle.morsel_ndjson.specs.Ndjson.{ndjson}
-use Rattle.morsel_engine.specs.Scan.{Scanned, scan_of}
+use Rattle.morsel_engine.specs.Scan.{Scanned, scan_of_file}
 use Rattle.morsel_engine.specs.FileRows.{ScansFile}
 use Rattle.morsel_engine.specs.Run.{HasAllRows, IsFirstRefused, IsFrontOfText}
 use Rattle.morsel_engine.proofs.GrammarLemmas.{scans_file}
@@ -41,26 +41,26 @@ pub file_is-read : (held : Option (List (List ℕ))) (file : ℕ) (bytes text : 
 file_is-read None file bytes text is same h = tt
 file_is-read (Some files) file bytes text is same h = is ∙ whole_range bytes text same (rw is at h)
 
-pub has_rows-text : (held : Option (List (List ℕ))) (file : ℕ) (schema : List Field) (text : List ℕ) (rows : List Row) → FileIs held file text → scan_of schema text ≡ record { rows = rows; refused = None } → HasAllRows held file schema rows
+pub has_rows-text : (held : Option (List (List ℕ))) (file : ℕ) (schema : List Field) (text : List ℕ) (rows : List Row) → FileIs held file text → scan_of_file schema text ≡ record { rows = rows; refused = None } → HasAllRows held file schema rows
 has_rows-text None file schema text rows is h = tt
 has_rows-text (Some files) file schema text rows is h =
     subst (λ (t : List ℕ). ScansFile schema t rows None) (sym is) (subst (λ (s : Scanned). ScansFile schema text s.rows s.refused) h (scans_file schema text))
 
-pub is_refused_at-text : (held : Option (List (List ℕ))) (file : ℕ) (schema : List Field) (text : List ℕ) (at : ℕ) → FileIs held file text → (scan_of schema text).refused ≡ Some at → IsFirstRefused held file schema at
+pub is_refused_at-text : (held : Option (List (List ℕ))) (file : ℕ) (schema : List Field) (text : List ℕ) (at : ℕ) → FileIs held file text → (scan_of_file schema text).refused ≡ Some at → IsFirstRefused held file schema at
 is_refused_at-text None file schema text at is h = tt
 is_refused_at-text (Some files) file schema text at is h =
-    let rows = (scan_of schema text).rows in
+    let rows = (scan_of_file schema text).rows in
     (rows, subst (λ (t : List ℕ). ScansFile schema t rows (Some at)) (sym is) (subst (λ (r : Option ℕ). ScansFile schema text rows r) h (scans_file schema text)))
 
 -- nothing is a front of any text
 pub is_front-nil : (held : Option (List (List ℕ))) (file : ℕ) (schema : List Field) → IsFrontOfText held file schema []
 is_front-nil None file schema = tt
 is_front-nil (Some files) file schema =
-    let bytes = get_or files file [] in ((scan_of schema bytes).rows, (scan_of schema bytes).refused, 0, scans_file schema bytes, refl)
+    let bytes = get_or files file [] in ((scan_of_file schema bytes).rows, (scan_of_file schema bytes).refused, 0, scans_file schema bytes, refl)
 
-pub is_front-text : (held : Option (List (List ℕ))) (file : ℕ) (schema : List Field) (text : List ℕ) (n : ℕ) → FileIs held file text → IsFrontOfText held file schema (take n (ndjson (names_of schema) (scan_of schema text).rows))
+pub is_front-text : (held : Option (List (List ℕ))) (file : ℕ) (schema : List Field) (text : List ℕ) (n : ℕ) → FileIs held file text → IsFrontOfText held file schema (take n (ndjson (names_of schema) (scan_of_file schema text).rows))
 is_front-text None file schema text n is = tt
 is_front-text (Some files) file schema text n is =
-    let rows = (scan_of schema text).rows in
-    let refused = (scan_of schema text).refused in
+    let rows = (scan_of_file schema text).rows in
+    let refused = (scan_of_file schema text).refused in
     (rows, refused, n, subst (λ (t : List ℕ). ScansFile schema t rows refused) (sym is) (scans_file schema text), refl)

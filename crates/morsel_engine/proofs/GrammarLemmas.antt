@@ -5,18 +5,18 @@ use Rattle.std.proofs.lemmas.List.{length-map, take-map}
 use Rattle.std.proofs.lemmas.Bool.Decides.{nat_tests}
 use Rattle.morsel_meaning.specs.declared.value.Field.{Field}
 use Rattle.morsel_meaning.specs.Values.{Row, kinds_of}
-use Rattle.morsel_grammar.specs.Options.{AreOptions, standard}
+use Rattle.morsel_grammar.specs.Dialect.{IsDialect, standard}
 use Rattle.morsel_grammar.specs.Cells.{CsvCell}
 use Rattle.morsel_grammar.specs.Rows.{mark_len, unmarked}
 use Rattle.morsel_grammar.specs.Reading.{Read, Refusal, used_values, used_rows, value_then, reading}
 use Rattle.morsel_grammar.proofs.FileLemmas.{places_rows}
 use Rattle.morsel_grammar.proofs.UsedRowLemmas.{read_of-rows}
-use Rattle.morsel_engine.specs.Scan.{Scanned, refused_place, row_places, limited, row_limit, is_compressed, read_file, scan_of}
+use Rattle.morsel_engine.specs.Scan.{Scanned, refused_place, row_places, limited, row_limit, is_compressed, read_file, scan_of_file}
 use Rattle.morsel_engine.specs.FileRows.{RowsOfFile, EndAtLimit, Ends, ScansFile}
-use Rattle.morsel_engine.proofs.LimitLemmas.{limited-within, scan_of-plain}
+use Rattle.morsel_engine.proofs.LimitLemmas.{limited-within, scan_of_file-plain}
 
 -- commas, double quotes and line feeds do not contradict each other
-pub standard_fits : AreOptions standard
+pub standard_fits : IsDialect standard
 standard_fits = record {
   separator_ascii = omega arith;
   separator_no_line_feed = λ is. cc;
@@ -101,12 +101,12 @@ ends-limited limit fields bytes plain = either (nat_le (length (read_file fields
         rw e (inr (inr (ends_beyond limit fields bytes plain h)))
 
 -- a scan gives what the grammar says
-pub scans_file : (fields : List Field) (bytes : List ℕ) → ScansFile fields bytes (scan_of fields bytes).rows (scan_of fields bytes).refused
+pub scans_file : (fields : List Field) (bytes : List ℕ) → ScansFile fields bytes (scan_of_file fields bytes).rows (scan_of_file fields bytes).refused
 scans_file fields bytes = either (is_compressed bytes) refl
   where
     P : Scanned → Type 0
     P s = ScansFile fields bytes s.rows s.refused
 
-    either : (t : Bool) → is_compressed bytes ≡ t → P (scan_of fields bytes)
+    either : (t : Bool) → is_compressed bytes ≡ t → P (scan_of_file fields bytes)
     either true e = rw e (inl (e, refl, refl))
-    either false e = subst P (sym (scan_of-plain fields bytes e)) (ends-limited row_limit fields bytes e)
+    either false e = subst P (sym (scan_of_file-plain fields bytes e)) (ends-limited row_limit fields bytes e)

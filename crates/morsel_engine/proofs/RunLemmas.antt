@@ -18,9 +18,9 @@ use Rattle.morsel_outside.proofs.SinkLemmas.{with_piece-with_sink}
 use Rattle.morsel_outside.proofs.TransferLemmas.{AreTransfers, only_transfers}
 use Rattle.morsel_ndjson.specs.Ndjson.{ndjson}
 use Rattle.morsel_engine.specs.FileRows.{ScansFile}
-use Rattle.morsel_engine.specs.Scan.{Scanned, scan_of, IsRefusal, IsScan}
+use Rattle.morsel_engine.specs.Scan.{Scanned, scan_of_file, IsRefusal, IsScan}
 use Rattle.morsel_engine.specs.Stages.{OpensSource, MakesSink, ReadsWhole, ReadFails, WritesText, WritesTable, Gained}
-use Rattle.morsel_engine.specs.Run.{Query, Runs, ReadsAtMostOnce, NoReadFailed, HasOneFileMore, HasBegun, HasCause, HasAllRows, IsFirstRefused, IsFrontOfText, AsksAtMostOnce, AsksEachByte}
+use Rattle.morsel_engine.specs.Run.{ScanQuery, Runs, ReadsAtMostOnce, NoReadFailed, HasOneFileMore, HasBegun, HasCause, HasAllRows, IsFirstRefused, IsFrontOfText, AsksAtMostOnce, AsksEachByte}
 use Rattle.morsel_engine.proofs.AskLemmas.{asks_each_byte-whole, asks_at_most_once-whole, asks_at_most_once-nothing}
 use Rattle.morsel_engine.proofs.EndLemmas.{refuses_within}
 use Rattle.morsel_engine.proofs.FileLemmas.{FileIs, file_is-opened, file_is-read, has_rows-text, is_refused_at-text, is_front-nil, is_front-text}
@@ -28,7 +28,7 @@ use Rattle.morsel_engine.proofs.GrammarLemmas.{scans_file}
 use Rattle.morsel_engine.proofs.StageLemmas.{are_transfers, reads_nothing}
 
 -- after the opening and the making: the text of the sink, what was read and written, and what stayed as it was
-pub record Begun (old : Outside) (q : Query) (bytes text : List ℕ) (events : List IoEvent) (now : Outside) : Type 0 where
+pub record Begun (old : Outside) (q : ScanQuery) (bytes text : List ℕ) (events : List IoEvent) (now : Outside) : Type 0 where
   pub begun : HasBegun old q now
   pub size : get_or now.sizes (length old.sizes) 0 ≡ length bytes
   pub held : now.held ≡ with_last old.held bytes
@@ -42,15 +42,15 @@ last_size : (sizes : List ℕ) (size : ℕ) → get_or (sizes ++ size ∷ []) (l
 last_size sizes size = get_or-append_seam sizes size [] 0
 
 -- a file was opened, and then no other
-opened_sizes : (old now : Outside) (q : Query) (bytes : List ℕ) (actions : List Action) → flat_map opened_by actions ≡ []
+opened_sizes : (old now : Outside) (q : ScanQuery) (bytes : List ℕ) (actions : List Action) → flat_map opened_by actions ≡ []
     → Does old (Opening q.file bytes ∷ actions) now → now.sizes ≡ old.sizes ++ length bytes ∷ []
 opened_sizes old now q bytes actions none does = does.sizes ∙ ap (λ (files : List (List ℕ)). old.sizes ++ map length (bytes ∷ files)) none
 
-opened_held : (old now : Outside) (q : Query) (bytes : List ℕ) (actions : List Action) → flat_map opened_by actions ≡ []
+opened_held : (old now : Outside) (q : ScanQuery) (bytes : List ℕ) (actions : List Action) → flat_map opened_by actions ≡ []
     → Does old (Opening q.file bytes ∷ actions) now → now.held ≡ with_last old.held bytes
 opened_held old now q bytes actions none does = does.held ∙ ap (λ (files : List (List ℕ)). with_more old.held (bytes ∷ files)) none
 
-opens_one : (old now : Outside) (q : Query) (bytes : List ℕ) (actions : List Action) → flat_map opened_by actions ≡ []
+opens_one : (old now : Outside) (q : ScanQuery) (bytes : List ℕ) (actions : List Action) → flat_map opened_by actions ≡ []
     → Does old (Opening q.file bytes ∷ actions) now → HasOneFileMore old now
 opens_one old now q bytes actions none does = record {
   bytes = bytes;
@@ -59,7 +59,7 @@ opens_one old now q bytes actions none does = record {
 }
 
 -- reads and writes after the opening and the making
-begins : (old now : Outside) (q : Query) (bytes text : List ℕ) (actions : List Action) → AreTransfers actions → flat_map text_by actions ≡ text
+begins : (old now : Outside) (q : ScanQuery) (bytes text : List ℕ) (actions : List Action) → AreTransfers actions → flat_map text_by actions ≡ text
     → Does old (Opening q.file bytes ∷ Making q.out ∷ actions) now → Begun old q bytes text (flat_map event_of actions) now
 begins old now q bytes text actions transfers is does =
     let only = only_transfers actions transfers in
@@ -88,7 +88,7 @@ reads_none old now same = record {
 }
 
 -- the opening ran out of memory, or failed
-pub runs-not_opened : (old now : Outside) (q : Query) (fault : Fault) → OpensSource old q.file (Err fault) now → Runs old q (Err fault) now
+pub runs-not_opened : (old now : Outside) (q : ScanQuery) (fault : Fault) → OpensSource old q.file (Err fault) now → Runs old q (Err fault) now
 runs-not_opened old now q faults.OutOfMemory h = subst (Runs old q (Err faults.OutOfMemory)) (sym h) (record {
   answers = tt;
   caused = tt;
@@ -123,7 +123,7 @@ runs-not_opened old now q (faults.ReadFault file) (zeroth, does) =
 runs-not_opened old now q fault h = absurd h
 
 -- the making of the sink ran out of memory, or failed
-pub runs-not_made : (old mid now : Outside) (q : Query) (file : ℕ) (bytes : List ℕ) (fault : Fault) → IsNextFile old q.file file bytes mid → MakesSink mid q.out (Err fault) now → Runs old q (Err fault) now
+pub runs-not_made : (old mid now : Outside) (q : ScanQuery) (file : ℕ) (bytes : List ℕ) (fault : Fault) → IsNextFile old q.file file bytes mid → MakesSink mid q.out (Err fault) now → Runs old q (Err fault) now
 runs-not_made old mid now q file bytes faults.OutOfMemory o h =
     let does = o.does in
     subst (Runs old q (Err faults.OutOfMemory)) (sym h) (record {
@@ -156,7 +156,7 @@ runs-not_made old mid now q file bytes faults.WriteFault o h =
 runs-not_made old mid now q file bytes fault o h = absurd h
 
 -- a fault after the opening and the making
-stops : (old now : Outside) (q : Query) (bytes text : List ℕ) (events : List IoEvent) (fault : Fault) → Begun old q bytes text events now
+stops : (old now : Outside) (q : ScanQuery) (bytes text : List ℕ) (events : List IoEvent) (fault : Fault) → Begun old q bytes text events now
     → IsFrontOfText (with_last old.held bytes) (length old.sizes) q.schema text
     → AsksAtMostOnce (length old.sizes) (length bytes) events
     → NoReadFailed old now ⊎ (Rises old.read_faults now.read_faults × (now.failed ≡ length old.sizes))
@@ -175,28 +175,28 @@ stops old now q bytes text events fault b front once reads cause = record {
 }
 
 -- the source was opened and the sink made; the file has these bytes
-pub record IsSunk (old : Outside) (q : Query) (bytes : List ℕ) (now : Outside) : Type 0 where
+pub record IsSunk (old : Outside) (q : ScanQuery) (bytes : List ℕ) (now : Outside) : Type 0 where
   pub is : FileIs (with_last old.held bytes) (length old.sizes) bytes
   pub does : Does old (Opening q.file bytes ∷ Making q.out ∷ []) now
 
 -- the file was read too, and this is its text
-pub record IsFetched (old : Outside) (q : Query) (bytes text : List ℕ) (now : Outside) : Type 0 where
+pub record IsFetched (old : Outside) (q : ScanQuery) (bytes text : List ℕ) (now : Outside) : Type 0 where
   pub is : FileIs (with_last old.held bytes) (length old.sizes) text
   pub same : length text ≡ length bytes
   pub does : Does old (Opening q.file bytes ∷ Making q.out ∷ ReadingRange (length old.sizes) 0 (length bytes) ∷ []) now
 
-pub is_sunk : (old mid now : Outside) (q : Query) (file : ℕ) (bytes : List ℕ) → IsNextFile old q.file file bytes mid → MakesSink mid q.out (Ok tt) now → IsSunk old q bytes now
+pub is_sunk : (old mid now : Outside) (q : ScanQuery) (file : ℕ) (bytes : List ℕ) → IsNextFile old q.file file bytes mid → MakesSink mid q.out (Ok tt) now → IsSunk old q bytes now
 is_sunk old mid now q file bytes o h = record {
   is = file_is-opened old.held bytes old.sizes (subst (λ held. IsSized held (old.sizes ++ length bytes ∷ [])) o.does.held (subst (λ sizes. IsSized mid.held sizes) o.does.sizes o.sized));
   does = does-append old mid now (Opening q.file bytes ∷ []) (Making q.out ∷ []) o.does h;
 }
 
 -- what is told of the file once the sink is made
-sunk : (old now : Outside) (q : Query) (bytes : List ℕ) → IsSunk old q bytes now → Begun old q bytes [] [] now
+sunk : (old now : Outside) (q : ScanQuery) (bytes : List ℕ) → IsSunk old q bytes now → Begun old q bytes [] [] now
 sunk old now q bytes s = begins old now q bytes [] [] tt refl s.does
 
 -- the reading ran out of memory, or failed
-pub runs-not_read : (old mid now : Outside) (q : Query) (bytes : List ℕ) (fault : Fault) → IsSunk old q bytes mid → ReadFails mid (length old.sizes) fault now → Runs old q (Err fault) now
+pub runs-not_read : (old mid now : Outside) (q : ScanQuery) (bytes : List ℕ) (fault : Fault) → IsSunk old q bytes mid → ReadFails mid (length old.sizes) fault now → Runs old q (Err fault) now
 runs-not_read old mid now q bytes faults.OutOfMemory s h =
     subst (Runs old q (Err faults.OutOfMemory)) (sym h) (
     stops old mid q bytes [] [] faults.OutOfMemory (sunk old mid q bytes s) (is_front-nil (with_last old.held bytes) (length old.sizes) q.schema)
@@ -210,7 +210,7 @@ runs-not_read old mid now q bytes (faults.ReadFault file) s (zeroth, h) =
     (asks_at_most_once-whole (length old.sizes) (length bytes) [] tt) (inr (does.read_faults, does.failed)) (zeroth, does.read_faults, does.failed, inr b.begun)
 runs-not_read old mid now q bytes fault s h = absurd h
 
-pub is_fetched : (old mid now : Outside) (q : Query) (bytes text : List ℕ) → IsSunk old q bytes mid → ReadsWhole mid (length old.sizes) text now → IsFetched old q bytes text now
+pub is_fetched : (old mid now : Outside) (q : ScanQuery) (bytes text : List ℕ) → IsSunk old q bytes mid → ReadsWhole mid (length old.sizes) text now → IsFetched old q bytes text now
 is_fetched old mid now q bytes text s r =
     let b = sunk old mid q bytes s in
     let same : length text ≡ length bytes = r.size ∙ b.size in
@@ -222,19 +222,19 @@ is_fetched old mid now q bytes text s r =
     }
 
 -- what is told of the file once it is read
-fetched : (old now : Outside) (q : Query) (bytes text : List ℕ) → IsFetched old q bytes text now → Begun old q bytes [] (ReadAt (length old.sizes) 0 (length bytes) ∷ []) now
+fetched : (old now : Outside) (q : ScanQuery) (bytes text : List ℕ) → IsFetched old q bytes text now → Begun old q bytes [] (ReadAt (length old.sizes) 0 (length bytes) ∷ []) now
 fetched old now q bytes text f = begins old now q bytes [] (ReadingRange (length old.sizes) 0 (length bytes) ∷ []) tt refl f.does
 
 -- a record of the text that is refused is within the file
-place_within_file : (old now : Outside) (q : Query) (bytes text : List ℕ) (at : ℕ) → IsFetched old q bytes text now → (scan_of q.schema text).refused ≡ Some at
+place_within_file : (old now : Outside) (q : ScanQuery) (bytes text : List ℕ) (at : ℕ) → IsFetched old q bytes text now → (scan_of_file q.schema text).refused ≡ Some at
     → at < get_or now.sizes (length old.sizes) 0
 place_within_file old now q bytes text at f refused =
     let b = fetched old now q bytes text f in
-    let within = refuses_within q.schema text (scan_of q.schema text).rows at (subst (λ r. ScansFile q.schema text (scan_of q.schema text).rows r) refused (scans_file q.schema text)) in
+    let within = refuses_within q.schema text (scan_of_file q.schema text).rows at (subst (λ r. ScansFile q.schema text (scan_of_file q.schema text).rows r) refused (scans_file q.schema text)) in
     let size = b.size in let same = f.same in omega arith
 
 -- the text has a record that is refused, or memory ran out
-pub runs-refused : (old now : Outside) (q : Query) (bytes text : List ℕ) (fault : Fault) → IsFetched old q bytes text now → IsRefusal q.schema text fault → Runs old q (Err fault) now
+pub runs-refused : (old now : Outside) (q : ScanQuery) (bytes text : List ℕ) (fault : Fault) → IsFetched old q bytes text now → IsRefusal q.schema text fault → Runs old q (Err fault) now
 runs-refused old now q bytes text fault f h =
     stops old now q bytes [] (ReadAt (length old.sizes) 0 (length bytes) ∷ []) fault (fetched old now q bytes text f) (is_front-nil (with_last old.held bytes) (length old.sizes) q.schema)
     (asks_at_most_once-whole (length old.sizes) (length bytes) [] tt) (inl (f.does.read_faults, f.does.failed)) (cause fault h)
@@ -251,11 +251,11 @@ runs-refused old now q bytes text fault f h =
     cause fault h = absurd h
 
 -- what is told once a text is written
-pub record IsWritten (old : Outside) (q : Query) (bytes piece : List ℕ) (actions : List Action) (now : Outside) : Type 0 where
+pub record IsWritten (old : Outside) (q : ScanQuery) (bytes piece : List ℕ) (actions : List Action) (now : Outside) : Type 0 where
   pub begun : Begun old q bytes piece (ReadAt (length old.sizes) 0 (length bytes) ∷ flat_map event_of actions) now
   pub well : NoReadFailed old now
 
-is_written : (old mid now : Outside) (q : Query) (bytes text piece : List ℕ) → IsFetched old q bytes text mid → (w : Gained mid piece now) → IsWritten old q bytes piece w.actions now
+is_written : (old mid now : Outside) (q : ScanQuery) (bytes text piece : List ℕ) → IsFetched old q bytes text mid → (w : Gained mid piece now) → IsWritten old q bytes piece w.actions now
 is_written old mid now q bytes text piece f w =
     let does = does-append old mid now (Opening q.file bytes ∷ Making q.out ∷ ReadingRange (length old.sizes) 0 (length bytes) ∷ []) w.actions f.does w.does in
     let calm = reads_nothing w.actions w.writings in
@@ -265,18 +265,18 @@ is_written old mid now q bytes text piece f w =
     }
 
 -- the beginning of the text was written
-runs-stopped : (old mid now : Outside) (q : Query) (bytes text : List ℕ) (table : Table) (n : ℕ) (fault : Fault) → IsFetched old q bytes text mid → IsScan q.schema text table
+runs-stopped : (old mid now : Outside) (q : ScanQuery) (bytes text : List ℕ) (table : Table) (n : ℕ) (fault : Fault) → IsFetched old q bytes text mid → IsScan q.schema text table
     → Gained mid (take n (ndjson (names_of table.schema) table.rows)) now → HasCause old q fault now → Runs old q (Err fault) now
 runs-stopped old mid now q bytes text table n fault f s w cause =
     let is = is_written old mid now q bytes text _ f w in
-    let front : take n (ndjson (names_of q.schema) (scan_of q.schema text).rows) ≡ take n (ndjson (names_of table.schema) table.rows) =
+    let front : take n (ndjson (names_of q.schema) (scan_of_file q.schema text).rows) ≡ take n (ndjson (names_of table.schema) table.rows) =
     ap (λ rows. take n (ndjson (names_of q.schema) rows)) (ap (λ (x : Scanned). x.rows) s.rows) ∙ ap (λ fields. take n (ndjson (names_of fields) table.rows)) (sym s.schema) in
     stops old now q bytes (take n (ndjson (names_of table.schema) table.rows)) (ReadAt (length old.sizes) 0 (length bytes) ∷ flat_map event_of w.actions) fault is.begun
     (subst (λ (t : List ℕ). IsFrontOfText (with_last old.held bytes) (length old.sizes) q.schema t) front (is_front-text (with_last old.held bytes) (length old.sizes) q.schema text n f.is))
     (asks_at_most_once-whole (length old.sizes) (length bytes) w.actions w.writings) (inl is.well) cause
 
 -- the writing ran out of memory, or failed
-runs-not_written : (old mid now : Outside) (q : Query) (bytes text : List ℕ) (table : Table) (fault : Fault) → IsFetched old q bytes text mid → IsScan q.schema text table
+runs-not_written : (old mid now : Outside) (q : ScanQuery) (bytes text : List ℕ) (table : Table) (fault : Fault) → IsFetched old q bytes text mid → IsScan q.schema text table
     → WritesText mid (ndjson (names_of table.schema) table.rows) (Err fault) now → Runs old q (Err fault) now
 runs-not_written old mid now q bytes text table faults.OutOfMemory f s (n, w) = runs-stopped old mid now q bytes text table n faults.OutOfMemory f s w tt
 runs-not_written old mid now q bytes text table faults.WriteFault f s (n, w, rises) =
@@ -286,7 +286,7 @@ runs-not_written old mid now q bytes text table faults.WriteFault f s (n, w, ris
 runs-not_written old mid now q bytes text table fault f s h = absurd h
 
 -- all was written
-runs-whole : (old mid now : Outside) (q : Query) (bytes text : List ℕ) (table : Table) → IsFetched old q bytes text mid → IsScan q.schema text table
+runs-whole : (old mid now : Outside) (q : ScanQuery) (bytes text : List ℕ) (table : Table) → IsFetched old q bytes text mid → IsScan q.schema text table
     → Gained mid (ndjson (names_of table.schema) table.rows) now → now.write_faults ≡ mid.write_faults → Runs old q (Ok (length table.rows)) now
 runs-whole old mid now q bytes text table f s w well =
     let is = is_written old mid now q bytes text _ f w in
@@ -324,7 +324,7 @@ runs-whole old mid now q bytes text table f s w well =
     }
 
 -- all was written, or the beginning of it
-pub runs-written : (old mid now : Outside) (q : Query) (bytes text : List ℕ) (table : Table) (result : Result ℕ Fault) → IsFetched old q bytes text mid → IsScan q.schema text table
+pub runs-written : (old mid now : Outside) (q : ScanQuery) (bytes text : List ℕ) (table : Table) (result : Result ℕ Fault) → IsFetched old q bytes text mid → IsScan q.schema text table
     → WritesTable mid table result now → Runs old q result now
 runs-written old mid now q bytes text table (Ok count) f s (counted, w, well) = subst (λ n. Runs old q (Ok n) now) (sym counted) (runs-whole old mid now q bytes text table f s w well)
 runs-written old mid now q bytes text table (Err fault) f s h = runs-not_written old mid now q bytes text table fault f s h

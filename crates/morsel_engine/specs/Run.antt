@@ -14,13 +14,13 @@ use Rattle.morsel_ndjson.specs.Ndjson.{ndjson}
 use Rattle.morsel_engine.specs.FileRows.{ScansFile}
 
 -- a scan of one CSV file into NDJSON
-pub record Query : Type 0 where
+pub record ScanQuery : Type 0 where
   pub file : List ℕ
   pub schema : List Field
   pub out : List ℕ
 
 -- the names that a run asks for, in order
-abbrev pub names_asked : Query → List Asked
+abbrev pub names_asked : ScanQuery → List Asked
 names_asked q = Open q.file ∷ Make q.out ∷ []
 
 -- the file has these rows, all of them, where its bytes are told
@@ -58,17 +58,17 @@ abbrev pub NoReadFailed : Outside → Outside → Type 0
 NoReadFailed old new = (new.read_faults ≡ old.read_faults) × (new.failed ≡ old.failed)
 
 -- the file was opened and then the sink made, and no other file or sink
-pub record HasBegun (old : Outside) (q : Query) (new : Outside) : Type 0 where
+pub record HasBegun (old : Outside) (q : ScanQuery) (new : Outside) : Type 0 where
   pub opened : HasOneFileMore old new
   pub asked : new.asked ≡ old.asked ++ names_asked q
   pub one_sink : new.sinks ≡ old.sinks + 1
 
 -- the file could not be opened, and no other name was asked for
-abbrev pub StopsAtOpening : Outside → Query → Outside → Type 0
+abbrev pub StopsAtOpening : Outside → ScanQuery → Outside → Type 0
 StopsAtOpening old q new = (new.sizes ≡ old.sizes) × (new.sinks ≡ old.sinks) × (new.asked ≡ old.asked ++ Open q.file ∷ [])
 
 -- the file was opened, the sink has the text of its rows, and nothing else was made or printed
-pub record Answers (old : Outside) (q : Query) (count : ℕ) (new : Outside) : Type 0 where
+pub record Answers (old : Outside) (q : ScanQuery) (count : ℕ) (new : Outside) : Type 0 where
   pub rows : List Row
   pub of_file : HasAllRows new.held (length old.sizes) q.schema rows
   pub counted : count ≡ length rows
@@ -83,7 +83,7 @@ pub record Answers (old : Outside) (q : Query) (count : ℕ) (new : Outside) : T
   pub every_byte : AsksEachByte (length old.sizes) (get_or new.sizes (length old.sizes) 0) events
 
 -- when each fault may be answered: a refused record, and a read fault of an opened file, only where the sink was made
-abbrev pub HasCause : Outside → Query → Fault → Outside → Type 0
+abbrev pub HasCause : Outside → ScanQuery → Fault → Outside → Type 0
 HasCause old q OutOfMemory new = Unit {0}
 HasCause old q (ReadFault file) new = (file ≡ 0) × Rises old.read_faults new.read_faults × (new.failed ≡ length old.sizes)
     × (StopsAtOpening old q new ⊎ HasBegun old q new)
@@ -93,13 +93,13 @@ HasCause old q (Malformed file at) new = (file ≡ 0) × HasBegun old q new
 HasCause old q fault new = ⊥
 
 -- no sink was made, or one whose text is the beginning of the rows' text
-abbrev pub MadeSome : Outside → Query → Outside → Type 0
+abbrev pub MadeSome : Outside → ScanQuery → Outside → Type 0
 MadeSome old q new = (new.made ≡ old.made)
     ⊎ (HasBegun old q new × (text : List ℕ)
     × IsFrontOfText new.held (length old.sizes) q.schema text × (new.made ≡ with_sink old.made q.out text))
 
 -- no name was asked for; or the file's; or the file was opened, and the sink's was asked for too
-abbrev pub AsksSome : Outside → Query → Outside → Type 0
+abbrev pub AsksSome : Outside → ScanQuery → Outside → Type 0
 AsksSome old q new = (new.asked ≡ old.asked)
     ⊎ (new.asked ≡ old.asked ++ Open q.file ∷ [])
     ⊎ (HasOneFileMore old new × (new.asked ≡ old.asked ++ names_asked q))
@@ -111,28 +111,28 @@ pub record ReadsAtMostOnce (old : Outside) (new : Outside) : Type 0 where
   pub once : AsksAtMostOnce (length old.sizes) (get_or new.sizes (length old.sizes) 0) events
 
 -- what else a run may change: at most one file more is open, at most one sink more was made, and a read fault can only be of that file
-pub record Keeps (old : Outside) (q : Query) (new : Outside) : Type 0 where
+pub record Keeps (old : Outside) (q : ScanQuery) (new : Outside) : Type 0 where
   pub files : ((new.sizes ≡ old.sizes) × (new.held ≡ old.held)) ⊎ HasOneFileMore old new
   pub sinks : (new.sinks ≡ old.sinks) ⊎ HasBegun old q new
   pub reads : NoReadFailed old new ⊎ (Rises old.read_faults new.read_faults × (new.failed ≡ length old.sizes))
 
 -- what a number of rows says
-abbrev pub Answered : Outside → Query → Result ℕ Fault → Outside → Type 0
+abbrev pub Answered : Outside → ScanQuery → Result ℕ Fault → Outside → Type 0
 Answered old q (Ok count) new = Answers old q count new
 Answered old q (Err fault) new = Unit {0}
 
 -- what a fault says
-abbrev pub Caused : Outside → Query → Result ℕ Fault → Outside → Type 0
+abbrev pub Caused : Outside → ScanQuery → Result ℕ Fault → Outside → Type 0
 Caused old q (Ok count) new = Unit {0}
 Caused old q (Err fault) new = HasCause old q fault new
 
 -- what a fault leaves
-abbrev pub AfterFault : Outside → Query → Result ℕ Fault → Outside → Type 0
+abbrev pub AfterFault : Outside → ScanQuery → Result ℕ Fault → Outside → Type 0
 AfterFault old q (Ok count) new = Unit {0}
 AfterFault old q (Err fault) new = MadeSome old q new
 
 -- what a run answers, why, and what it leaves
-pub record Runs (old : Outside) (q : Query) (result : Result ℕ Fault) (new : Outside) : Type 0 where
+pub record Runs (old : Outside) (q : ScanQuery) (result : Result ℕ Fault) (new : Outside) : Type 0 where
   pub answers : Answered old q result new
   pub caused : Caused old q result new
   pub after_fault : AfterFault old q result new

@@ -4,7 +4,7 @@ use Rattle.morsel_meaning.specs.declared.value.Field.{Field}
 use Rattle.morsel_meaning.specs.declared.fault.Fault.{Fault}
 use Rattle.morsel_meaning.specs.declared.fault.Fault.TheVariants.{OutOfMemory, Malformed}
 use Rattle.morsel_meaning.specs.Values.{Row, Table, kinds_of}
-use Rattle.morsel_grammar.specs.Options.{standard}
+use Rattle.morsel_grammar.specs.Dialect.{standard}
 use Rattle.morsel_grammar.specs.Rows.{mark_len, unmarked}
 use Rattle.morsel_grammar.specs.Reading.{Read, Refusal, reading, read_of}
 
@@ -44,16 +44,16 @@ read_file fields bytes = read_of (replicate (length fields) true)
     (reading standard (kinds_of fields) true (mark_len bytes) (unmarked bytes))
 
 -- what a scan of a file gives; a compressed file is refused at its beginning
-abbrev pub scan_of : List Field → List ℕ → Scanned
-scan_of fields bytes = if is_compressed bytes then record { rows = []; refused = Some 0 } else limited row_limit (read_file fields bytes)
+abbrev pub scan_of_file : List Field → List ℕ → Scanned
+scan_of_file fields bytes = if is_compressed bytes then record { rows = []; refused = Some 0 } else limited row_limit (read_file fields bytes)
 
 -- why a text is not scanned
 abbrev pub IsRefusal : List Field → List ℕ → Fault → Type 0
 IsRefusal fields text OutOfMemory = Unit {0}
-IsRefusal fields text (Malformed file at) = (file ≡ 0) × ((scan_of fields text).refused ≡ Some at)
+IsRefusal fields text (Malformed file at) = (file ≡ 0) × ((scan_of_file fields text).refused ≡ Some at)
 IsRefusal fields text fault = ⊥
 
 -- the table of all rows of a text
 pub record IsScan (fields : List Field) (text : List ℕ) (table : Table) : Type 0 where
   pub schema : table.schema ≡ fields
-  pub rows : scan_of fields text ≡ record { rows = table.rows; refused = None }
+  pub rows : scan_of_file fields text ≡ record { rows = table.rows; refused = None }

@@ -12,7 +12,7 @@ use Rattle.morsel_outside.specs.Actions.{Printing, FailedPrinting, Rises, Does}
 use Rattle.morsel_outside.proofs.ActionLemmas.{with_more-nil, rises_since, rises_by-no_lower}
 use Rattle.morsel_outside.proofs.DoesLemmas.{printing-change, failed_printing-change}
 use Rattle.morsel_ndjson.specs.Ndjson.{ndjson}
-use Rattle.morsel_engine.specs.Run.{Query, HasOneFileMore, HasBegun, StopsAtOpening, Runs, Answers, HasCause, MadeSome, AsksSome, ReadsAtMostOnce, Keeps, HasAllRows, IsFrontOfText}
+use Rattle.morsel_engine.specs.Run.{ScanQuery, HasOneFileMore, HasBegun, StopsAtOpening, Runs, Answers, HasCause, MadeSome, AsksSome, ReadsAtMostOnce, Keeps, HasAllRows, IsFrontOfText}
 use Rattle.morsel_prog.specs.Words.{Command, ScanFile}
 use Rattle.morsel_prog.specs.Program.{query_of, RunsWords, ReportsFault, Reports, AnswersWords, TellsFault, CausesWords, LeavesAfterFault, AsksNames, ReadsOnce, KeepsRest}
 
@@ -64,11 +64,11 @@ not_zero ran new fault status (inr (inr h)) z = let e = h.0 in omega arith
 opens_kept : (old ran new : Outside) → HasOneFileMore old ran → HasOneFileMore old (printed_on ran new)
 opens_kept old ran new one = record { bytes = one.bytes; sizes = one.sizes; held = one.held }
 
-begun_kept : (old ran new : Outside) (q : Query) → HasBegun old q ran → HasBegun old q (printed_on ran new)
+begun_kept : (old ran new : Outside) (q : ScanQuery) → HasBegun old q ran → HasBegun old q (printed_on ran new)
 begun_kept old ran new q begun = record { opened = opens_kept old ran new begun.opened; asked = begun.asked; one_sink = begun.one_sink }
 
 -- a report leaves an answer as it is
-answers_kept : (old ran new : Outside) (q : Query) (count : ℕ) → new.write_faults ≡ ran.write_faults → Answers old q count ran → Answers old q count (printed_on ran new)
+answers_kept : (old ran new : Outside) (q : ScanQuery) (count : ℕ) → new.write_faults ≡ ran.write_faults → Answers old q count ran → Answers old q count (printed_on ran new)
 answers_kept old ran new q count well a = record {
   rows = a.rows;
   of_file = a.of_file;
@@ -94,7 +94,7 @@ answers_words old new (Some (ScanFile file schema out)) status ran (Ok count) ru
 answers_words old new (Some (ScanFile file schema out)) status ran (Ok count) runs (inr (inl h)) z = absurd (not_zero _ new faults.WriteFault status h.2 z)
 answers_words old new (Some (ScanFile file schema out)) status ran (Ok count) runs (inr (inr h)) z = absurd (not_zero ran new faults.OutOfMemory status h z)
 
-asks_kept : (old ran new : Outside) (q : Query) → AsksSome old q ran → AsksSome old q (printed_on ran new)
+asks_kept : (old ran new : Outside) (q : ScanQuery) → AsksSome old q ran → AsksSome old q (printed_on ran new)
 asks_kept old ran new q (inl none) = inl none
 asks_kept old ran new q (inr (inl first)) = inr (inl first)
 asks_kept old ran new q (inr (inr both)) = inr (inr (opens_kept old ran new both.0, both.1))
@@ -122,7 +122,7 @@ files_kept : (old ran new : Outside) → ((ran.sizes ≡ old.sizes) × (ran.held
 files_kept old ran new (inl same) = inl same
 files_kept old ran new (inr one) = inr (opens_kept old ran new one)
 
-sinks_kept : (old ran new : Outside) (q : Query) → (ran.sinks ≡ old.sinks) ⊎ HasBegun old q ran → (ran.sinks ≡ old.sinks) ⊎ HasBegun old q (printed_on ran new)
+sinks_kept : (old ran new : Outside) (q : ScanQuery) → (ran.sinks ≡ old.sinks) ⊎ HasBegun old q ran → (ran.sinks ≡ old.sinks) ⊎ HasBegun old q (printed_on ran new)
 sinks_kept old ran new q (inl same) = inl same
 sinks_kept old ran new q (inr begun) = inr (begun_kept old ran new q begun)
 
@@ -147,12 +147,12 @@ front_whole None file schema rows h = tt
 front_whole (Some files) file schema rows h =
     let text = ndjson (names_of schema) rows in (rows, None, length text, h, sym (take_all (length text) text (omega arith)))
 
-made_kept : (old ran new : Outside) (q : Query) → MadeSome old q ran → MadeSome old q (printed_on ran new)
+made_kept : (old ran new : Outside) (q : ScanQuery) → MadeSome old q ran → MadeSome old q (printed_on ran new)
 made_kept old ran new q (inl none) = inl none
 made_kept old ran new q (inr (begun, text, front, made)) = inr (begun_kept old ran new q begun, text, front, made)
 
 -- what a run leaves, whatever it answered
-made_some : (old ran : Outside) (q : Query) (answer : Result ℕ Fault) → Runs old q answer ran → MadeSome old q ran
+made_some : (old ran : Outside) (q : ScanQuery) (answer : Result ℕ Fault) → Runs old q answer ran → MadeSome old q ran
 made_some old ran q (Err fault) runs = runs.after_fault
 made_some old ran q (Ok count) runs =
     let a = runs.answers in inr (record { opened = a.opened; asked = a.asked; one_sink = a.one_sink }, ndjson (names_of q.schema) a.rows, front_whole ran.held (length old.sizes) q.schema a.rows a.of_file, a.made)
@@ -179,11 +179,11 @@ rises_reported old ran new fault status r (inr (inl h)) = rises_since _ _ _ r.no
 rises_reported old ran new fault status r (inr (inr h)) = subst (λ (o : Outside). Rises old.write_faults o.write_faults) (sym h.1) r
 
 -- a cause that held after the run holds after its report
-stops_kept : (old ran new : Outside) (q : Query) → StopsAtOpening old q ran ⊎ HasBegun old q ran → StopsAtOpening old q (printed_on ran new) ⊎ HasBegun old q (printed_on ran new)
+stops_kept : (old ran new : Outside) (q : ScanQuery) → StopsAtOpening old q ran ⊎ HasBegun old q ran → StopsAtOpening old q (printed_on ran new) ⊎ HasBegun old q (printed_on ran new)
 stops_kept old ran new q (inl stops) = inl stops
 stops_kept old ran new q (inr begun) = inr (begun_kept old ran new q begun)
 
-cause_reported : (old ran new : Outside) (q : Query) (fault told : Fault) (status : ℕ) → HasCause old q fault ran → ReportsFault ran told status new → HasCause old q fault new
+cause_reported : (old ran new : Outside) (q : ScanQuery) (fault told : Fault) (status : ℕ) → HasCause old q fault ran → ReportsFault ran told status new → HasCause old q fault new
 cause_reported old ran new q faults.OutOfMemory told status h reports = tt
 cause_reported old ran new q (faults.ReadFault file) told status (zeroth, rises, failed, stops) reports =
     let is = reported_fault ran new told status reports in

@@ -7,12 +7,12 @@ use Rattle.morsel_meaning.specs.Faults.{fault_line, fault_status}
 use Rattle.morsel_outside.specs.Outside.{Outside, with_last}
 use Rattle.morsel_outside.specs.Actions.{Printing, FailedPrinting, Rises, Does}
 use Rattle.morsel_engine.specs.Complete.{NoneRises}
-use Rattle.morsel_engine.specs.Run.{Query, Runs, Answers, HasCause, MadeSome, AsksSome, ReadsAtMostOnce, NoReadFailed, Keeps}
+use Rattle.morsel_engine.specs.Run.{ScanQuery, Runs, Answers, HasCause, MadeSome, AsksSome, ReadsAtMostOnce, NoReadFailed, Keeps}
 use Rattle.morsel_prog.specs.Complete.{IsValidCommand, IsDone}
 use Rattle.morsel_prog.specs.Words.{Command, ScanFile}
 
 -- the scan of a command
-abbrev pub query_of : List ℕ → List Field → List ℕ → Query
+abbrev pub query_of : List ℕ → List Field → List ℕ → ScanQuery
 query_of file schema out = record { file = file; schema = schema; out = out }
 
 -- the run of a command; words that are no command touch nothing
