@@ -30,3 +30,4 @@ pub mod AxisEndLemmas
 pub mod AxisRowLemmas
 mod AxisFacts
 pub mod RowEndLemmas
+pub mod UnreadLemmas

@@ -1,12 +1,11 @@
 -- Where rows end: how many end before a place, and that a stretch may begin where one ends.
 use Rattle.std.proofs.Common.{◌≡◌, ◌≢◌, ℕ, zero, suc, ◌+◌, ◌-◌, ◌<◌, ◌≤◌, ap, sym, subst, refl, ◌∙◌, inl, inr, arith, append_assoc, append-nil, length-append, cond, true≢false}
-use Rattle.std.specs.Prelude.{Bool, true, false, ◌⊎◌, Option, Some, None, List, [], ◌∷◌, ◌++◌, length, take, drop, get_or, slice_get}
-use Rattle.std.specs.List.{sum_by, flat_map}
+use Rattle.std.specs.Prelude.{Bool, true, false, ◌⊎◌, Some, None, List, [], ◌∷◌, ◌++◌, length, take, drop, get_or, slice_get}
+use Rattle.std.specs.List.{sum_by}
 use Rattle.std.proofs.lemmas.List.{take_at, get_or_append_left, get_or-append_right}
 use Rattle.std.proofs.lemmas.List.Sums.{sum_by-append, sum_by-cons}
 use Rattle.std.proofs.lemmas.List.Concat.{flat_map-append}
 use Rattle.std.proofs.Math.Seq.{take-add, take-append_seam, drop-append_seam}
-use Rattle.morsel_meaning.specs.Values.{Row}
 use Rattle.morsel_grammar.specs.Options.{Options, AreOptions}
 use Rattle.morsel_grammar.specs.Grammar.{CsvRecord, IsRecord, Records}
 use Rattle.morsel_grammar.specs.Rows.{behind_header, mark_len, unmarked}
@@ -15,13 +14,13 @@ use Rattle.morsel_grammar.proofs.FirstRecordLemmas.{IsTaken}
 use Rattle.morsel_grammar.proofs.WholeRecordLemmas.{record_again, records_whole}
 use Rattle.morsel_cut.specs.RowCounts.{row_count}
 use Rattle.morsel_scan.specs.Scans.{CsvScan}
-use Rattle.morsel_scan.specs.CsvPieces.{HaveRows, HasRowsUpTo, IsRowPlace, IsFileStart, BeginsStretch}
-use Rattle.morsel_scan.specs.Ahead.{one_if, EndsNoRow}
+use Rattle.morsel_scan.specs.CsvPieces.{HaveRows, BeginsStretch}
+use Rattle.morsel_scan.specs.Ahead.{one_if}
 use Rattle.morsel_scan.specs.CsvAxis.{text_parts, PartStart, start_after, scanned_within, AxisPart, axis_part, text_axis, file_axis, rows_counted, files_axis, last_of, csv_keeps}
 use Rattle.morsel_scan.specs.CsvAxisLaws.{EndsNoMoreRows}
-use Rattle.morsel_scan.proofs.PartLemmas.{HoldsByRecords, by_records, found_part, parts-none, parts-record, parts-whole, start_past}
-use Rattle.morsel_scan.proofs.AxisLemmas.{Maker, length-last_of, bytes_of, text_axis-append, bytes_of-text, rows_counted-records}
-use Rattle.morsel_scan.proofs.AxisFileLemmas.{file_start, mark_size, bytes_of-file, bytes_of-files, rows_counted-file}
+use Rattle.morsel_scan.proofs.PartLemmas.{by_records, found_part, parts-none, parts-record, parts-whole, start_past}
+use Rattle.morsel_scan.proofs.AxisLemmas.{Maker, length-last_of, text_axis-append, bytes_of-text, rows_counted-records}
+use Rattle.morsel_scan.proofs.AxisFileLemmas.{file_start, mark_size, bytes_of-file, rows_counted-file}
 use Rattle.morsel_scan.proofs.PassedLemmas.{BeginsHere}
 use Rattle.morsel_scan.proofs.FilesPassedLemmas.{StandsIn, begin_stands}
 use Rattle.morsel_scan.proofs.AxisRowLemmas.{ends_of, length-ends_of}
@@ -47,20 +46,20 @@ ends_counted s make fit text =
     by_records s.options P fit (record {
       nothing = λ start. refl;
       none = λ text some none start.
-      subst (λ parts. sum_by one_if (ends_of (text_axis s make start parts)) ≡ rows_counted (text_axis s make start parts)) (sym (parts-none s.options text fit some none))
-      (let sum = sum_by-append one_if (last_of (length text) false false) [] in let zero_is = sum_false (length text) in
-      let count : rows_counted (text_axis s make start (record { bytes = text; found = None } ∷ [])) ≡ 0 = refl in omega (arith, sum, zero_is, count));
+          subst (λ parts. sum_by one_if (ends_of (text_axis s make start parts)) ≡ rows_counted (text_axis s make start parts)) (sym (parts-none s.options text fit some none))
+          (let sum = sum_by-append one_if (last_of (length text) false false) [] in let zero_is = sum_false (length text) in
+          let count : rows_counted (text_axis s make start (record { bytes = text; found = None } ∷ [])) ≡ 0 = refl in omega (arith, sum, zero_is, count));
       first = λ r text next bytes taken later start.
-      let after : PartStart = start_after (length s.scan.fields) start (found_part bytes r) in
-      let one : AxisPart = axis_part s make start (found_part bytes r) in
-      let rest : List AxisPart = text_axis s make after (text_parts s.options next) in
-      let some : 0 < length bytes = let size = taken.size in let shorter = taken.shorter in omega arith in
-      let sum = sum_by-append one_if (last_of (length bytes) false one.counts) (ends_of rest) in
-      let last = sum_last (length bytes) one.counts some in
-      let more = later after in
-      let count = sum_by-cons (λ (x : AxisPart). cond x.counts 1 0) one rest in
-      subst (λ parts. sum_by one_if (ends_of (text_axis s make start parts)) ≡ rows_counted (text_axis s make start parts)) (sym (parts-record s.options r text next bytes fit taken))
-      (omega (arith, sum, last, more, count));
+          let after : PartStart = start_after (length s.scan.fields) start (found_part bytes r) in
+          let one : AxisPart = axis_part s make start (found_part bytes r) in
+          let rest : List AxisPart = text_axis s make after (text_parts s.options next) in
+          let some : 0 < length bytes = let size = taken.size in let shorter = taken.shorter in omega arith in
+          let sum = sum_by-append one_if (last_of (length bytes) false one.counts) (ends_of rest) in
+          let last = sum_last (length bytes) one.counts some in
+          let more = later after in
+          let count = sum_by-cons (λ (x : AxisPart). cond x.counts 1 0) one rest in
+          subst (λ parts. sum_by one_if (ends_of (text_axis s make start parts)) ≡ rows_counted (text_axis s make start parts)) (sym (parts-record s.options r text next bytes fit taken))
+          (omega (arith, sum, last, more, count));
     }) text
 
 ends_of_file : (s : CsvScan) (make : Maker) (file : ℕ) (name : List ℕ) (position : ℕ) (bytes : List ℕ) → AreOptions s.options
@@ -225,13 +224,13 @@ text_ends s make fit text =
     by_records s.options P fit (record {
       nothing = λ start i is. absurd (true≢false (sym is));
       none = λ text some none start i is.
-      absurd (true≢false (sym is ∙ ap (λ parts. get_or (ends_of (text_axis s make start parts)) i false) (parts-none s.options text fit some none) ∙ get_false (length text) i));
+          absurd (true≢false (sym is ∙ ap (λ parts. get_or (ends_of (text_axis s make start parts)) i false) (parts-none s.options text fit some none) ∙ get_false (length text) i));
       first = λ r text next bytes taken later start i is.
-      let after : PartStart = start_after (length s.scan.fields) start (found_part bytes r) in
-      let one : AxisPart = axis_part s make start (found_part bytes r) in
-      let rest : List Bool = ends_of (text_axis s make after (text_parts s.options next)) in
-      let found : get_or (last_of (length bytes) false one.counts ++ rest) i false ≡ true = sym (ap (λ parts. get_or (ends_of (text_axis s make start parts)) i false) (parts-record s.options r text next bytes fit taken)) ∙ is in
-      by_place r text next bytes i one.counts rest taken found (λ k at. later after k at) (less_or_not i (length bytes));
+          let after : PartStart = start_after (length s.scan.fields) start (found_part bytes r) in
+          let one : AxisPart = axis_part s make start (found_part bytes r) in
+          let rest : List Bool = ends_of (text_axis s make after (text_parts s.options next)) in
+          let found : get_or (last_of (length bytes) false one.counts ++ rest) i false ≡ true = sym (ap (λ parts. get_or (ends_of (text_axis s make start parts)) i false) (parts-record s.options r text next bytes fit taken)) ∙ is in
+          by_place r text next bytes i one.counts rest taken found (λ k at. later after k at) (less_or_not i (length bytes));
     }) text
   where
     by_place : (r : CsvRecord) (text next bytes : List ℕ) (i : ℕ) (b : Bool) (rest : List Bool) → IsTaken s.options r text next bytes → get_or (last_of (length bytes) false b ++ rest) i false ≡ true
@@ -256,16 +255,23 @@ begins_file s bytes files place i has is = by has.ends
     by : (AreWholeRecords s.options has.front has.records) ⊎ (has.rest ≡ []) → BeginsAfter s (bytes ∷ files) (place + 1)
     by (inl whole) =
         let size = has.size in
-        inl (0, row_count (length s.scan.fields) (behind_header s.options.has_header has.records), inl (awaits_header_after s.options.has_header has.records, record {
-          front = has.front;
-          rest = has.rest;
-          records = has.records;
-          split = has.split;
-          whole = whole;
-          place = omega (arith, size, is);
-          rows_are = refl;
-          header_is = refl;
-        }))
+        inl (
+          0,
+          row_count (length s.scan.fields) (behind_header s.options.has_header has.records),
+          inl (
+            awaits_header_after s.options.has_header has.records,
+            record {
+              front = has.front;
+              rest = has.rest;
+              records = has.records;
+              split = has.split;
+              whole = whole;
+              place = omega (arith, size, is);
+              rows_are = refl;
+              header_is = refl;
+            },
+          ),
+        )
     by (inr none) =
         let size = has.size in
         let mark = mark_size bytes in
@@ -385,16 +391,21 @@ stands_begin s files i place rows is =
   where
     by : (bytes : List ℕ) → slice_get files i ≡ Some bytes → i < length files → (earlier : ℕ) → HaveRows s (take i files) earlier → (at within : ℕ)
         → place ≡ sum_by length (take i files) + at → rows ≡ earlier + within → BeginsHere s bytes at within → BeginsStretch s files place rows
-    by bytes is_source less earlier before at within place_is rows_are (inl (awaits_header, has)) = inl (i, at, awaits_header, record {
-      bytes = bytes;
-      is_source = is_source;
-      earlier = earlier;
-      rows_before = before;
-      within = within;
-      rows_within = has;
-      rows_are = rows_are;
-      place_is = place_is;
-    })
+    by bytes is_source less earlier before at within place_is rows_are (inl (awaits_header, has)) = inl (
+      i,
+      at,
+      awaits_header,
+      record {
+        bytes = bytes;
+        is_source = is_source;
+        earlier = earlier;
+        rows_before = before;
+        within = within;
+        rows_within = has;
+        rows_are = rows_are;
+        place_is = place_is;
+      },
+    )
     by bytes is_source less earlier before at within place_is rows_are (inr (begin, none)) =
         let same : earlier ≡ rows = omega (arith, rows_are, none) in inr (record {
           source = i;

@@ -1,7 +1,7 @@
 //! Laws of places: what stretches of the sources' bytes give, and that it is what a scan means.
 ghost use Rattle.morsel_grammar.specs.Options.{AreOptions};
 ghost use Rattle.morsel_scan.specs.Scans.{CsvScan};
-ghost use Rattle.morsel_scan.specs.CsvAxisLaws.{HasEachByte, EndsEachRowOfFiles, GivesScanRows, GivesScan, GivesPieces, ScansChained, GivesNothingAtEnd, GivesNothingPastSlice, EndsNoMoreRows};
+ghost use Rattle.morsel_scan.specs.CsvAxisLaws.{HasEachByte, EndsEachRowOfFiles, GivesScanRows, GivesScan, GivesPieces, ScansChained, GivesNothingAtEnd, GivesNothingPastSlice, GivesNothingOfGrammar, EndsNoMoreRows};
 ghost use Rattle.morsel_scan.specs.StretchLaws.{CollectsParts, GivesOn, GivesFront, GivesAll, GivesMidst, GivesFaults};
 
 /// Places in two parts give what the one gives, and then the other.
@@ -65,6 +65,11 @@ pub fn nothing_is_given_after_the_last_row()
 /// No place gives anything from where the slice keeps no more, unless it has a fault.
 pub fn nothing_is_given_past_the_slice()
     ensures { (s : CsvScan) → AreOptions s.options → GivesNothingPastSlice s }
+{}
+
+/// No place of files of the grammar gives anything from where the slice keeps no more.
+pub fn nothing_is_given_past_the_slice_of_valid_files()
+    ensures { (s : CsvScan) → AreOptions s.options → GivesNothingOfGrammar s }
 {}
 
 /// Each byte of a scan's files has its place.
