@@ -31,3 +31,4 @@ pub mod AxisRowLemmas
 mod AxisFacts
 pub mod RowEndLemmas
 pub mod UnreadLemmas
+pub mod TextLemmas

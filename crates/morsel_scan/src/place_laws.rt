@@ -2,7 +2,7 @@
 ghost use Rattle.morsel_grammar.specs.Options.{AreOptions};
 ghost use Rattle.morsel_scan.specs.Scans.{CsvScan};
 ghost use Rattle.morsel_scan.specs.CsvAxisLaws.{HasEachByte, EndsEachRowOfFiles, GivesScanRows, GivesScan, GivesPieces, ScansChained, GivesNothingAtEnd, GivesNothingPastSlice, GivesNothingOfGrammar, EndsNoMoreRows};
-ghost use Rattle.morsel_scan.specs.StretchLaws.{CollectsParts, GivesOn, GivesFront, GivesAll, GivesMidst, GivesFaults};
+ghost use Rattle.morsel_scan.specs.StretchLaws.{CollectsParts, GivesOn, GivesFront, GivesAll, GivesMidst, GivesFaults, TextGoesOn};
 
 /// Places in two parts give what the one gives, and then the other.
 #[tactic(auto, using(crate::proofs::StretchLemmas::collects_parts))]
@@ -35,6 +35,11 @@ pub fn a_part_of_a_stretch_has_its_place()
 #[tactic(auto, using(crate::proofs::StretchLemmas::gives_faults))]
 pub fn a_fault_is_that_of_a_place()
     ensures { GivesFaults }
+{}
+
+/// The text before the end of a stretch is that before its beginning and that of its rows.
+pub fn a_stretch_adds_the_text_of_its_rows()
+    ensures { TextGoesOn }
 {}
 
 /// Where all places of a scan's files give rows, these are the scan's.
