@@ -4,7 +4,7 @@ use Rattle.std.proofs.lemmas.List.{drop_more, drop_all}
 use Rattle.std.specs.Prelude.{Option, Some, None, not, ◌&&◌, ◌||◌, ◌⊎◌, if◌then◌else◌, is_some}
 use Rattle.morsel_grammar.specs.Options.{Options, AreOptions}
 use Rattle.morsel_grammar.specs.Grammar.{CsvField, CsvRecord, Comment, Fields}
-use Rattle.morsel_grammar.specs.Rows.{is_empty}
+use Rattle.morsel_grammar.specs.Rows.{is_empty, is_header}
 use Rattle.morsel_grammar.specs.Split.{is_quote, plain_at, quoted_at, in_quotes, plain_field, without_return, last_field, ended, returned, with_field, fields_then, fields_up_to, field_at, line_at, fields_record, behind_front, comment_body, record_then_fields, record_at}
 use Rattle.morsel_grammar.proofs.ByteLemmas.{same_byte, other_byte, true_not_false, either_second}
 use Rattle.morsel_grammar.proofs.RecordEndLemmas.{is_quote-stop, is_quote-return}
@@ -146,7 +146,7 @@ separator_no_eol o b fit is = other_byte b o.eol (λ same. fit.apart (sym (same_
 separator_no_return : (o : Options) (b : ℕ) → AreOptions o → (b == o.separator) ≡ true → (b == 13) ≡ false
 separator_no_return o b fit is = other_byte b 13 (λ same. fit.separator_no_return (sym (same_byte b o.separator is) ∙ same))
 
-quote_no_eol : (o : Options) (b : ℕ) → AreOptions o → is_quote o.quote b ≡ true → (b == o.eol) ≡ false
+pub quote_no_eol : (o : Options) (b : ℕ) → AreOptions o → is_quote o.quote b ≡ true → (b == o.eol) ≡ false
 quote_no_eol o b fit is = not_so (b == o.eol) (λ same. true_not_false (is_quote o.quote b) is (is_quote-stop o b fit (either_second (b == o.separator) (b == o.eol) same)))
 
 quote_no_return : (o : Options) (b : ℕ) → AreOptions o → is_quote o.quote b ≡ true → (b == 13) ≡ false
@@ -242,3 +242,14 @@ pub front_over : (front text : List ℕ) (at : ℕ) → at < length front → le
 front_over front text at within over =
     ap (λ (f : List ℕ). is_some (behind_front f (drop at text))) (drop_more front at 0 within)
     ∙ ap (λ (t : List ℕ). is_some (behind_front (get_or front at 0 ∷ drop (at + 1) front) t)) (drop_all at text over)
+
+header_row : (r : CsvRecord) → is_row 0 r ≡ is_header r
+header_row (Comment body) = refl
+header_row (Fields fields) = refl
+
+-- what is no comment is a header where it is not blank
+pub header_else : (o : Options) (eol : ℕ) (text rest : List ℕ) (r : CsvRecord) (blank : Bool) → AreOptions o → is_some (comment_body o.comment text) ≡ false
+    → blank ≡ is_blank eol text → eol ≡ o.eol → record_at o text ≡ Some (r, rest) → not blank ≡ is_header r
+header_else o eol text rest r blank fit no_comment blank_is eol_is is =
+    ap not (blank_is ∙ ap (λ (e : ℕ). is_blank e text) eol_is)
+    ∙ sym (row_at o 0 text r rest fit is ∙ ap (row_by 0 o.eol text) no_comment) ∙ header_row r

@@ -11,4 +11,8 @@ pub mod PieceWholeLemmas
 pub mod PieceReadLemmas
 mod PieceFacts
 pub mod LineLemmas
+pub mod BitLemmas
 pub mod MarkLemmas
+pub mod QuoteLemmas
+pub mod BlockLemmas
+pub mod BlockRunLemmas

@@ -6,7 +6,7 @@ use Rattle.std.proofs.Common.{length-append}
 use Rattle.std.proofs.lemmas.List.Sums.{sum_by-cons}
 use Rattle.std.specs.Prelude.{Some, ◌⊎◌, if◌then◌else◌}
 use Rattle.morsel_grammar.specs.Options.{Options, AreOptions}
-use Rattle.morsel_grammar.specs.Grammar.{CsvRecord, Comment, Fields, IsRecord, Records}
+use Rattle.morsel_grammar.specs.Grammar.{CsvRecord, IsRecord, Records}
 use Rattle.morsel_grammar.specs.Split.{record_at}
 use Rattle.morsel_grammar.specs.Rows.{is_header, behind_header}
 use Rattle.morsel_grammar.specs.GrammarRows.{awaits_header_after}
@@ -107,10 +107,6 @@ record_joins o text r records n more fit some first are =
       are,
     )
 
-header_row : (r : CsvRecord) → is_row 0 r ≡ is_header r
-header_row (Comment body) = refl
-header_row (Fields fields) = refl
-
 pub passed_none : (o : Options) (bytes : List ℕ) (records : List CsvRecord) → Records o bytes records → HasPassedTo o bytes 0 records
 passed_none o bytes records are = record {
   front = [];
@@ -127,7 +123,7 @@ passes_by : (o : Options) (bytes : List ℕ) (at : ℕ) (records front left : Li
     → up_to_header records ≡ front ++ up_to_header left → behind_header true records ≡ behind_header true left
     → awaits_header_after true records ≡ awaits_header_after true left
     → ((n : ℕ) (more : List CsvRecord) → Records o (take n (drop at bytes)) more → Records o (take (at + n) bytes) (front ++ more))
-    → ((r : CsvRecord) (after : List ℕ) → record_at o (drop at bytes) ≡ Some (r, after) → false ≡ is_row 0 r)
+    → ((r : CsvRecord) (after : List ℕ) → record_at o (drop at bytes) ≡ Some (r, after) → false ≡ is_header r)
     → HasPassedTo o bytes (at + record_size o (drop at bytes)) records
 passes_by o bytes at records front [] fit within are up_to behind awaits joins test_is = absurd (something_left o bytes at within are)
 passes_by o bytes at records front (r ∷ left) fit within are up_to behind awaits joins test_is =
@@ -135,7 +131,7 @@ passes_by o bytes at records front (r ∷ left) fit within are up_to behind awai
     let size = record_size o rest in
     let first = has_first o rest r left fit are in
     let some : 0 < length rest = omega (arith, length-drop at bytes) in
-    let no_header : is_header r ≡ false = sym (header_row r) ∙ sym (test_is r (drop size rest) first.read) in
+    let no_header : is_header r ≡ false = sym (test_is r (drop size rest) first.read) in
     record {
       front = front ++ r ∷ [];
       left = left;
@@ -154,7 +150,7 @@ passes_by o bytes at records front (r ∷ left) fit within are up_to behind awai
     }
 
 pub passes_record : (o : Options) (bytes rest : List ℕ) (at size : ℕ) (test : Bool) (records : List CsvRecord) → AreOptions o → at < length bytes → rest ≡ drop at bytes
-    → HasPassedTo o bytes at records → size ≡ record_size o rest → ((r : CsvRecord) (after : List ℕ) → record_at o rest ≡ Some (r, after) → test ≡ is_row 0 r) → test ≡ false
+    → HasPassedTo o bytes at records → size ≡ record_size o rest → ((r : CsvRecord) (after : List ℕ) → record_at o rest ≡ Some (r, after) → test ≡ is_header r) → test ≡ false
     → HasPassedTo o bytes (at + size) records
 passes_record o bytes rest at size test records fit within rest_is has size_is test_is failed =
     subst (λ (n : ℕ). HasPassedTo o bytes (at + n) records) (ap (record_size o) (sym rest_is) ∙ sym size_is)
@@ -166,7 +162,7 @@ found_by : (o : Options) (bytes : List ℕ) (at : ℕ) (records front left : Lis
     → up_to_header records ≡ front ++ up_to_header left → behind_header true records ≡ behind_header true left
     → awaits_header_after true records ≡ awaits_header_after true left
     → ((n : ℕ) (more : List CsvRecord) → Records o (take n (drop at bytes)) more → Records o (take (at + n) bytes) (front ++ more))
-    → ((r : CsvRecord) (after : List ℕ) → record_at o (drop at bytes) ≡ Some (r, after) → true ≡ is_row 0 r)
+    → ((r : CsvRecord) (after : List ℕ) → record_at o (drop at bytes) ≡ Some (r, after) → true ≡ is_header r)
     → EndsHead o bytes records (record { len = at + record_size o (drop at bytes); awaits_header = false })
 found_by o bytes at records front [] fit within are up_to behind awaits joins test_is = absurd (something_left o bytes at within are)
 found_by o bytes at records front (r ∷ left) fit within are up_to behind awaits joins test_is =
@@ -174,7 +170,7 @@ found_by o bytes at records front (r ∷ left) fit within are up_to behind await
     let size = record_size o rest in
     let first = has_first o rest r left fit are in
     let some : 0 < length rest = omega (arith, length-drop at bytes) in
-    let header : is_header r ≡ true = sym (header_row r) ∙ sym (test_is r (drop size rest) first.read) in
+    let header : is_header r ≡ true = sym (test_is r (drop size rest) first.read) in
     let place : at + (size + 0) ≡ at + size = omega arith in
     let up_to_here : front ++ r ∷ [] ≡ up_to_header records = sym (up_to ∙ ap (λ (t : Bool). front ++ r ∷ (if t then [] else up_to_header left)) header) in
     let behind_here : left ≡ behind_header true records = sym (behind ∙ ap (λ (t : Bool). if t then left else behind_header true left) header) in
@@ -188,7 +184,7 @@ found_by o bytes at records front (r ∷ left) fit within are up_to behind await
     }
 
 pub finds_header : (o : Options) (bytes rest : List ℕ) (at size : ℕ) (test : Bool) (records : List CsvRecord) → AreOptions o → at < length bytes → rest ≡ drop at bytes
-    → HasPassedTo o bytes at records → size ≡ record_size o rest → ((r : CsvRecord) (after : List ℕ) → record_at o rest ≡ Some (r, after) → test ≡ is_row 0 r) → test ≡ true
+    → HasPassedTo o bytes at records → size ≡ record_size o rest → ((r : CsvRecord) (after : List ℕ) → record_at o rest ≡ Some (r, after) → test ≡ is_header r) → test ≡ true
     → EndsHead o bytes records (record { len = at + size; awaits_header = false })
 finds_header o bytes rest at size test records fit within rest_is has size_is test_is held =
     subst (λ (n : ℕ). EndsHead o bytes records (record { len = at + n; awaits_header = false })) (ap (record_size o) (sym rest_is) ∙ sym size_is)

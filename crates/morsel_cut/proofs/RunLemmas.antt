@@ -11,7 +11,7 @@ use Rattle.morsel_cut.specs.Places.{cut_place, IsOutside}
 use Rattle.morsel_cut.specs.Runs.{up_to_last, RunsTo}
 use Rattle.morsel_cut.specs.declared.step.ByteAt.{ByteAt}
 use Rattle.morsel_cut.specs.declared.step.ByteAt.TheVariants as places
-use Rattle.morsel_cut.specs.declared.pass.Run.{Run}
+use Rattle.morsel_cut.specs.declared.pass.PlaceRun.{PlaceRun}
 use Rattle.morsel_grammar.proofs.StateLemmas.{state_after-append, last_place-append, last_place-within}
 
 -- none of these bytes is a quote
@@ -137,7 +137,7 @@ quotes_run o from bytes is unquoted =
     })
 
 -- two runs are one
-pub run_then : (o : Options) (place : CutPlace) (front back : List ℕ) (run next both : Run) → RunsTo o place front run → RunsTo o (cut_place run.place) back next
+pub run_then : (o : Options) (place : CutPlace) (front back : List ℕ) (run next both : PlaceRun) → RunsTo o place front run → RunsTo o (cut_place run.place) back next
     → both.place ≡ next.place → both.end ≡ joined_place run.end (length front) next.end → both.begin ≡ joined_place run.begin (length front) next.begin
     → RunsTo o place (front ++ back) both
 run_then o place front back run next both first second place_is end_is begin_is = record {
@@ -153,7 +153,7 @@ run_then o place front back run next both first second place_is end_is begin_is 
 }
 
 -- a run of the front of what is left of a text
-pub run_on : (o : Options) (place : CutPlace) (text : List ℕ) (at len : ℕ) (run next both : Run) → at ≤ length text → RunsTo o place (take at text) run
+pub run_on : (o : Options) (place : CutPlace) (text : List ℕ) (at len : ℕ) (run next both : PlaceRun) → at ≤ length text → RunsTo o place (take at text) run
     → RunsTo o (cut_place run.place) (take len (take (length text - at) (drop at text))) next
     → both.place ≡ next.place → both.end ≡ joined_place run.end at next.end → both.begin ≡ joined_place run.begin at next.begin
     → RunsTo o place (take (at + len) text) both
@@ -165,8 +165,8 @@ run_on o place text at len run next both within first second place_is end_is beg
     place_is (end_is ∙ ap (λ (n : ℕ). joined_place run.end n next.end) size) (begin_is ∙ ap (λ (n : ℕ). joined_place run.begin n next.begin) size))
 
 -- no end is behind the bytes
-pub run_end-le : (o : Options) (place : CutPlace) (bytes : List ℕ) (run : Run) → RunsTo o place bytes run → run.end ≤ length bytes
+pub run_end-le : (o : Options) (place : CutPlace) (bytes : List ℕ) (run : PlaceRun) → RunsTo o place bytes run → run.end ≤ length bytes
 run_end-le o place bytes run runs = omega (arith, runs.end_is, last_place-within (place_step o) is_after_eol place bytes)
 
-pub run_begin-le : (o : Options) (place : CutPlace) (bytes : List ℕ) (run : Run) → RunsTo o place bytes run → run.begin ≤ length bytes
+pub run_begin-le : (o : Options) (place : CutPlace) (bytes : List ℕ) (run : PlaceRun) → RunsTo o place bytes run → run.begin ≤ length bytes
 run_begin-le o place bytes run runs = omega (arith, runs.begin_is, last_place-within (place_step o) begins_record place bytes)

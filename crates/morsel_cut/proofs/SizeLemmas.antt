@@ -11,11 +11,11 @@ use Rattle.morsel_grammar.proofs.ByteLemmas.{true_not_false}
 use Rattle.morsel_grammar.proofs.RecordLemmas.{record_at-written}
 use Rattle.morsel_grammar.proofs.RecordRunLemmas.{record-follows}
 use Rattle.morsel_grammar.proofs.RunLemmas.{lone}
-use Rattle.morsel_cut.specs.Places.{cut_place, IsOutside, options_with, sign_options}
+use Rattle.morsel_cut.specs.Places.{cut_place, IsOutside, options_with, delimiter_options}
 use Rattle.morsel_cut.specs.declared.step.ByteAt.{ByteAt}
 use Rattle.morsel_cut.specs.declared.step.ByteAt.TheVariants as places
 use Rattle.morsel_cut.specs.FirstEnds.{first_place, first_end, record_size}
-use Rattle.morsel_cut.specs.declared.step.Signs.{Signs}
+use Rattle.morsel_cut.specs.declared.step.Delimiters.{Delimiters}
 use Rattle.morsel_cut.proofs.RunLemmas.{AreUnquoted, outside_after, outside_end, quotes_after, quotes_last, unquoted_front, up_to_last-none}
 use Rattle.morsel_cut.proofs.PassLemmas.{quiet_start, quiet_step}
 
@@ -162,8 +162,8 @@ quiet_first o place (b ∷ bs) none =
 pub quiet_size : (o : Options) (text : List ℕ) → o.comment ≡ None → record_size o text ≡ first_place (place_step o) is_after_eol AfterEol text
 quiet_size o text none = ap (λ (s : CutState). first_end o s text) (quiet_start o AfterEol none) ∙ quiet_first o AfterEol text none
 
-pub bare_size : (signs : Signs) (text : List ℕ) → record_size (options_with signs None) text ≡ first_place (place_step (sign_options signs)) is_after_eol AfterEol text
-bare_size signs text = quiet_size (options_with signs None) text refl
+pub bare_size : (delimiters : Delimiters) (text : List ℕ) → record_size (options_with delimiters None) text ≡ first_place (place_step (delimiter_options delimiters)) is_after_eol AfterEol text
+bare_size delimiters text = quiet_size (options_with delimiters None) text refl
 
 pub record_size-le : (o : Options) (text : List ℕ) → record_size o text ≤ length text
 record_size-le o text = first_place-le (cut_step o) (λ (s : CutState). is_after_eol s.place) (first_state o AfterEol) text

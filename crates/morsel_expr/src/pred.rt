@@ -53,6 +53,13 @@ impl Pred {
         Ok(Pred { node })
     }
 
+    /// The tree.
+    pub fn node(&self) -> &PredNode
+        ensures { result.now ≡ self.now }
+    {
+        &self.node
+    }
+
     /// Whether the predicate fits a schema. A name that no column has is not found. Where the two sides of a comparison
     /// differ in type, or `Is` names another type than truth values, it is a mismatch of the first column.
     ///

@@ -1,5 +1,5 @@
--- Pieces of files, as contracts see them.
-use Rattle.std.specs.Prelude.{ℕ, List}
+-- Pieces of files, and the texts of rows, as contracts see them.
+use Rattle.std.specs.Prelude.{ℕ, Bool, List}
 use Rattle.morsel_pipe.specs.declared.piece.RawPart.{RawPart}
 
 -- a piece of a file: bytes that can be decoded by themselves, and where they stand in the scan
@@ -15,3 +15,12 @@ pub record Piece : Type 0 where
   pub bytes : List ℕ  -- its bytes
   pub from : ℕ  -- its stretch of the bytes of all sources, one after the other: where it begins
   pub to : ℕ  -- and where it ends
+
+-- the text of some of the rows that a stretch of the bytes of all sources gives
+pub record Part : Type 0 where
+  pub rows : ℕ  -- how many rows
+  pub bytes : List ℕ  -- their text
+  pub from : ℕ  -- where the stretch begins
+  pub to : ℕ  -- and where it ends
+  pub skip : ℕ  -- how many rows of the stretch come before them
+  pub last : Bool  -- whether they are the last of the stretch

@@ -129,6 +129,14 @@ pub counts_token : (rows : List (List GroupMark)) (groups : List GroupCount) (k 
 counts_token rows groups k i was kept at there =
     let before = kept.counts i was there in let one = count_tokens-less i rows k (Token i ∷ []) ((Token i ∷ []) ++ Released ∷ []) at (same_number i) refl in omega arith
 
+-- group i has one token more, which has written that it is one
+pub one_token_more : (rows now : List (List GroupMark)) (groups : List GroupCount) (i : ℕ) (was g : GroupCount) → now ≡ rows ++ (Token i ∷ []) ∷ [] → AreCounted rows groups → i < length groups → slice_get groups i ≡ Some was → g.count ≡ was.count + 1 → AreCounted now (set groups i g)
+one_token_more rows now groups i was g same kept small there more = subst (λ rs. AreCounted rs (set groups i g)) (sym same) (token_added rows groups i was g kept small there more)
+
+-- group i has one token less, which has written that it was released
+pub one_token_less : (rows now : List (List GroupMark)) (groups : List GroupCount) (k i : ℕ) (row : List GroupMark) (was g : GroupCount) → now ≡ set rows k (row ++ Released ∷ []) → row ≡ Token i ∷ [] → AreCounted rows groups → get_elem? rows k ≡ some (Token i ∷ []) → i < length groups → slice_get groups i ≡ Some was → was.count ≡ g.count + 1 → AreCounted now (set groups i g)
+one_token_less rows now groups k i row was g same token kept at small there less = subst (λ rs. AreCounted rs (set groups i g)) (sym (same ∙ ap (λ z. set rows k (z ++ Released ∷ [])) token)) (token_released rows groups k i was g kept at small there less)
+
 -- who waits is no part of a count
 pub group_waits : (rows : List (List GroupMark)) (groups : List GroupCount) (i : ℕ) (was g : GroupCount) → AreCounted rows groups → i < length groups → slice_get groups i ≡ Some was → g.count ≡ was.count → AreCounted rows (set groups i g)
 group_waits rows groups i was g kept small there same = record {

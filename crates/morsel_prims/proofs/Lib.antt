@@ -1,5 +1,6 @@
 pub mod RowSteps
 pub mod WokenLemmas
+pub mod WaitLemmas
 pub mod MarkLemmas
 pub mod RollLemmas
 pub mod MakeLemmas

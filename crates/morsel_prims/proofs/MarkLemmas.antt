@@ -334,6 +334,11 @@ module _ {A J : Type 0} where
     fits = let most = k.fits in let same = ap (λ q. length (lane_values q.items)) queue in omega arith;
   }
 
+  -- who waits at lane i has changed, and nothing else of it
+  pub only_waits : (rows now : List (List (Mark (A × J) J))) (lanes : List (PlainLane (A × J) J)) (i : ℕ) (was l : PlainLane (A × J) J) → now ≡ rows → ArePlainLanes rows lanes → i < length lanes → slice_get lanes i ≡ Some was → l.shut ≡ was.shut → l.room ≡ was.room → l.queue ≡ was.queue → ArePlainLanes now (set lanes i l)
+  only_waits rows now lanes i was l same kept small there shut room queue =
+      subst (λ rs. ArePlainLanes rs (set lanes i l)) (sym same) (lane_changes rows lanes i was l kept small there (λ sent taken. lane_waits sent taken was l shut room queue))
+
   shut-last : (xs : List (Mark (A × J) J)) → is_shut (xs ++ Shut ∷ []) ≡ true
   shut-last [] = refl
   shut-last (Job j r ∷ xs) = shut-last xs

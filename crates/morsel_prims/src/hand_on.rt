@@ -31,6 +31,7 @@ pub struct HandOn<T, S, R> {
 impl<T: Message, S, R> HandOn<T, S, R> {
     ghost use Rattle.std.specs.Prelude.{◌≡◌, ℕ, ◌++◌, true, [], ◌∷◌, IfSome, ◌⊎◌, Some};
     ghost use Rattle.morsel_prims.specs.Polled.{held_list, IfReady, OnPending};
+    ghost use Rattle.morsel_prims.specs.Waiting.{KeepsOthersWaiting};
     ghost use Rattle.morsel_prims.specs.Woken.{KeepsWakes};
     ghost use Rattle.morsel_prims.specs.declared.hand_on.Handed.{Handed};
     ghost use Rattle.morsel_prims.specs.declared.lane.Ended.{Ended};
@@ -45,6 +46,7 @@ impl<T: Message, S, R> HandOn<T, S, R> {
         requires suits { IfSome self.old.held (T.suits (R.job self.old.from)) }
         ensures same_home { (S.home self.new.to ≡ S.home self.old.to) × (R.home self.new.from ≡ R.home self.old.from) }
         ensures same_lane { (S.lane self.new.to ≡ S.lane self.old.to) × (R.lane self.new.from ≡ R.lane self.old.from) }
+        ensures same_places { (S.wait_places self.new.to ≡ S.wait_places self.old.to) × (R.wait_places self.new.from ≡ R.wait_places self.old.from) }
         ensures same_job { (S.job self.new.to ≡ S.job self.old.to) × (R.job self.new.from ≡ R.job self.old.from) }
         ensures suits { IfSome self.new.held (T.suits (R.job self.new.from)) }
         // What was taken is what was sent, and then what is held.
@@ -55,6 +57,7 @@ impl<T: Message, S, R> HandOn<T, S, R> {
         ensures closed { IfReady result (λ handed. handed ≡ Handed.Closed → S.found_closed cx.new.board self.old.to self.new.to) }
         // It waits at one of its two ends.
         ensures waits { OnPending result ((R.registered cx.new.board self.old.from self.new.from cx.old.me × R.found_empty cx.new.board self.old.from self.new.from) ⊎ (S.registered cx.new.board self.old.to self.new.to cx.old.me × S.found_full cx.new.board self.old.to self.new.to)) }
+        ensures keeps_waiting { KeepsOthersWaiting (R.wait_places self.old.from ++ S.wait_places self.old.to) cx.old.me (B.waits_at cx.old.board) (B.waits_at cx.new.board) cx.new.wakes }
         ensures same_board { B.id cx.new.board ≡ B.id cx.old.board }
         ensures same_task { cx.new.me ≡ cx.old.me }
         ensures wakes { KeepsWakes cx.old.wakes cx.new.wakes }

@@ -49,6 +49,7 @@ pub trait LaneSender<T: Message, B: Board> {
     ghost use Rattle.atomic_table.specs.Seated.{TableId};
     ghost use Rattle.morsel_meaning.specs.declared.task.TaskNo.{TaskNo};
     ghost use Rattle.morsel_prims.specs.Polled.{LaneId, IfReady, OnPending, held_list, refused_value, IfFull, IfClosed, UnlessClosed};
+    ghost use Rattle.morsel_prims.specs.Waiting.{KeepsOthersWaiting, KeepsWaiting, WaitPlace};
     ghost use Rattle.morsel_prims.specs.Woken.{AreFoundWoken, KeepsWakes};
 
     /// What tells that the lane was finished, and what was sent.
@@ -68,6 +69,9 @@ pub trait LaneSender<T: Message, B: Board> {
 
     /// What was sent, the first value first.
     ghost sent: { Self → List T };
+
+    /// Where on the board the end may wait.
+    ghost wait_places: { Self → List WaitPlace };
 
     /// This task is registered where the end waits: by the board after a call, and by the end before and after.
     ghost registered: { B → Self → Self → TaskNo → Type 0 };
@@ -113,9 +117,10 @@ pub trait LaneSender<T: Message, B: Board> {
         requires home { home self.old ≡ (B.id cx.old.board).lane_table }
         requires some { IsSome value.old }
         requires suits { IfSome value.old (T.suits (job self.old)) }
-        ensures same_end { (home self.new ≡ home self.old) × (lane self.new ≡ lane self.old) × (room self.new ≡ room self.old) × (job self.new ≡ job self.old) }
+        ensures same_end { (home self.new ≡ home self.old) × (lane self.new ≡ lane self.old) × (room self.new ≡ room self.old) × (job self.new ≡ job self.old) × (wait_places self.new ≡ wait_places self.old) }
         ensures same_board { B.id cx.new.board ≡ B.id cx.old.board }
         ensures same_task { cx.new.me ≡ cx.old.me }
+        ensures keeps_waiting { KeepsOthersWaiting (wait_places self.old) cx.old.me (B.waits_at cx.old.board) (B.waits_at cx.new.board) cx.new.wakes }
         ensures wakes { KeepsWakes cx.old.wakes cx.new.wakes }
         // What is sent, and then what is held, is what it was, unless the receiver has closed.
         ensures sent { UnlessClosed result (sent self.new ++ held_list value.new ≡ sent self.old ++ held_list value.old) }
@@ -134,9 +139,10 @@ pub trait LaneSender<T: Message, B: Board> {
     fn try_send(&mut self, cx: &mut Cx<B>, value: T) -> Result<(), SendError<T>>
         requires home { home self.old ≡ (B.id cx.old.board).lane_table }
         requires suits { T.suits (job self.old) value }
-        ensures same_end { (home self.new ≡ home self.old) × (lane self.new ≡ lane self.old) × (room self.new ≡ room self.old) × (job self.new ≡ job self.old) }
+        ensures same_end { (home self.new ≡ home self.old) × (lane self.new ≡ lane self.old) × (room self.new ≡ room self.old) × (job self.new ≡ job self.old) × (wait_places self.new ≡ wait_places self.old) }
         ensures same_board { B.id cx.new.board ≡ B.id cx.old.board }
         ensures same_task { cx.new.me ≡ cx.old.me }
+        ensures keeps_waiting { KeepsWaiting (B.waits_at cx.old.board) (B.waits_at cx.new.board) cx.new.wakes }
         ensures wakes { KeepsWakes cx.old.wakes cx.new.wakes }
         ensures ok { OnOk result (sent self.new ≡ sent self.old ++ value ∷ []) }
         ensures room { OnOk result (found_room cx.new.board self.old self.new) }
@@ -150,7 +156,7 @@ pub trait LaneSender<T: Message, B: Board> {
     /// At least as many values as the lane holds.
     fn len_bound(&mut self, cx: &mut Cx<B>) -> u32
         requires home { home self.old ≡ (B.id cx.old.board).lane_table }
-        ensures same_end { (home self.new ≡ home self.old) × (lane self.new ≡ lane self.old) × (room self.new ≡ room self.old) × (job self.new ≡ job self.old) }
+        ensures same_end { (home self.new ≡ home self.old) × (lane self.new ≡ lane self.old) × (room self.new ≡ room self.old) × (job self.new ≡ job self.old) × (wait_places self.new ≡ wait_places self.old) }
         ensures same_board { B.id cx.new.board ≡ B.id cx.old.board }
         ensures same_task { cx.new.me ≡ cx.old.me }
         ensures wakes { KeepsWakes cx.old.wakes cx.new.wakes }
@@ -168,6 +174,7 @@ pub trait LaneSender<T: Message, B: Board> {
         ensures woken { AreFoundWoken (found_waiting_finish cx.old.board self result) cx.new.wakes }
         ensures same_board { B.id cx.new.board ≡ B.id cx.old.board }
         ensures same_task { cx.new.me ≡ cx.old.me }
+        ensures keeps_waiting { KeepsWaiting (B.waits_at cx.old.board) (B.waits_at cx.new.board) cx.new.wakes }
         ensures wakes { KeepsWakes cx.old.wakes cx.new.wakes };
 
     /// Closes the lane: what was sent is not all.
@@ -177,6 +184,7 @@ pub trait LaneSender<T: Message, B: Board> {
         ensures woken { AreFoundWoken (found_waiting_cut cx.old.board self) cx.new.wakes }
         ensures same_board { B.id cx.new.board ≡ B.id cx.old.board }
         ensures same_task { cx.new.me ≡ cx.old.me }
+        ensures keeps_waiting { KeepsWaiting (B.waits_at cx.old.board) (B.waits_at cx.new.board) cx.new.wakes }
         ensures wakes { KeepsWakes cx.old.wakes cx.new.wakes };
 }
 
@@ -186,6 +194,7 @@ pub trait LaneReceiver<T: Message, B: Board> {
     ghost use Rattle.atomic_table.specs.Seated.{TableId};
     ghost use Rattle.morsel_meaning.specs.declared.task.TaskNo.{TaskNo};
     ghost use Rattle.morsel_prims.specs.Polled.{LaneId, IfReady, OnPending, ByRefusal, ByEnd};
+    ghost use Rattle.morsel_prims.specs.Waiting.{KeepsOthersWaiting, KeepsWaiting, WaitPlace};
     ghost use Rattle.morsel_prims.specs.Woken.{AreFoundWoken, KeepsWakes};
     ghost use Rattle.morsel_prims.specs.declared.poll.Poll.TheVariants.{Ready};
     ghost use Rattle.morsel_prims.specs.declared.lane.RecvError.{RecvError};
@@ -211,6 +220,9 @@ pub trait LaneReceiver<T: Message, B: Board> {
 
     /// It has answered that the lane was cut.
     ghost is_cut: { Self → Bool };
+
+    /// Where on the board the end may wait.
+    ghost wait_places: { Self → List WaitPlace };
 
     /// This task is registered where the end waits: by the board after a call, and by the end before and after.
     ghost registered: { B → Self → Self → TaskNo → Type 0 };
@@ -248,9 +260,10 @@ pub trait LaneReceiver<T: Message, B: Board> {
     /// Takes the next value, or registers who polls where there is none.
     fn poll_recv(&mut self, cx: &mut Cx<B>) -> Poll<Result<T, Ended>>
         requires home { home self.old ≡ (B.id cx.old.board).lane_table }
-        ensures same_end { (home self.new ≡ home self.old) × (lane self.new ≡ lane self.old) × (job self.new ≡ job self.old) }
+        ensures same_end { (home self.new ≡ home self.old) × (lane self.new ≡ lane self.old) × (job self.new ≡ job self.old) × (wait_places self.new ≡ wait_places self.old) }
         ensures same_board { B.id cx.new.board ≡ B.id cx.old.board }
         ensures same_task { cx.new.me ≡ cx.old.me }
+        ensures keeps_waiting { KeepsOthersWaiting (wait_places self.old) cx.old.me (B.waits_at cx.old.board) (B.waits_at cx.new.board) cx.new.wakes }
         ensures wakes { KeepsWakes cx.old.wakes cx.new.wakes }
         ensures ok { IfReady result (λ answer. IfOk answer (λ value. taken self.new ≡ taken self.old ++ value ∷ [])) }
         ensures suits { IfReady result (λ answer. IfOk answer (T.suits (job self.old))) }
@@ -269,9 +282,10 @@ pub trait LaneReceiver<T: Message, B: Board> {
     /// Takes the next value.
     fn try_recv(&mut self, cx: &mut Cx<B>) -> Result<T, RecvError>
         requires home { home self.old ≡ (B.id cx.old.board).lane_table }
-        ensures same_end { (home self.new ≡ home self.old) × (lane self.new ≡ lane self.old) × (job self.new ≡ job self.old) }
+        ensures same_end { (home self.new ≡ home self.old) × (lane self.new ≡ lane self.old) × (job self.new ≡ job self.old) × (wait_places self.new ≡ wait_places self.old) }
         ensures same_board { B.id cx.new.board ≡ B.id cx.old.board }
         ensures same_task { cx.new.me ≡ cx.old.me }
+        ensures keeps_waiting { KeepsWaiting (B.waits_at cx.old.board) (B.waits_at cx.new.board) cx.new.wakes }
         ensures wakes { KeepsWakes cx.old.wakes cx.new.wakes }
         ensures ok { IfOk result (λ value. taken self.new ≡ taken self.old ++ value ∷ []) }
         ensures suits { IfOk result (T.suits (job self.old)) }
@@ -292,5 +306,6 @@ pub trait LaneReceiver<T: Message, B: Board> {
         ensures woken { AreFoundWoken (found_waiting_cut cx.old.board self) cx.new.wakes }
         ensures same_board { B.id cx.new.board ≡ B.id cx.old.board }
         ensures same_task { cx.new.me ≡ cx.old.me }
+        ensures keeps_waiting { KeepsWaiting (B.waits_at cx.old.board) (B.waits_at cx.new.board) cx.new.wakes }
         ensures wakes { KeepsWakes cx.old.wakes cx.new.wakes };
 }

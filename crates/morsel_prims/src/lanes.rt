@@ -15,6 +15,7 @@ pub trait Tokens {
     ghost use Rattle.morsel_meaning.specs.declared.task.TaskNo.{TaskNo};
     ghost use Rattle.morsel_meaning.specs.declared.fault.Fault.TheVariants.{OutOfMemory};
     ghost use Rattle.morsel_prims.specs.Polled.{LaneId, IfReady, OnPending};
+    ghost use Rattle.morsel_prims.specs.Waiting.{KeepsOthersWaiting, KeepsWaiting, SameWaiting, WaitPlace};
     ghost use Rattle.morsel_prims.specs.Woken.{AreFoundWoken, KeepsWakes};
 
     /// Where lanes and groups are kept.
@@ -34,6 +35,9 @@ pub trait Tokens {
 
     /// A group's parts.
     ghost parts: { Self.Group → ℕ };
+
+    /// Where on the board a task may wait for the group.
+    ghost wait_places: { Self.Group → List WaitPlace };
 
     /// This task is registered at a group: by the board after a call, and by the group before and after.
     ghost group_registered: { Self.Board → Self.Group → Self.Group → TaskNo → Type 0 };
@@ -79,19 +83,21 @@ pub trait Tokens {
         ensures none { IfOk result (λ group. found_none board.new group group) }
         ensures out_of_memory { IfErr result (λ fault. fault ≡ OutOfMemory) }
         ensures err { OnErr result (board.new ≡ board.old) }
+        ensures same_waiting { SameWaiting (Self.Board.waits_at board.old) (Self.Board.waits_at board.new) }
         ensures same_board { Self.Board.id board.new ≡ Self.Board.id board.old };
 
     /// One more token of the group.
     fn token(cx: &mut Cx<Self::Board>, group: &mut Self::Group) -> Result<Self::Token, Fault>
         requires home { group_home group.old ≡ (Self.Board.id cx.old.board).group_table }
         requires parts { 2 ^ 31 < parts group.old }
-        ensures same_group { (group_home group.new ≡ group_home group.old) × (group_id group.new ≡ group_id group.old) }
+        ensures same_group { (group_home group.new ≡ group_home group.old) × (group_id group.new ≡ group_id group.old) × (wait_places group.new ≡ wait_places group.old) }
         ensures token { IfOk result (λ token. (token_home token ≡ group_home group.old) × (token_group token ≡ group_id group.old)) }
         ensures token_parts { IfOk result (λ token. token_parts token ≡ 2 ^ 31) }
         ensures ok { OnOk result (parts group.new + 2 ^ 31 ≡ parts group.old) }
         ensures counted { OnOk result (counted_one cx.old.board cx.new.board group.old group.new) }
         ensures err { OnErr result ((parts group.new ≡ parts group.old) × (cx.new.board ≡ cx.old.board)) }
         ensures out_of_memory { IfErr result (λ fault. fault ≡ OutOfMemory) }
+        ensures same_waiting { SameWaiting (Self.Board.waits_at cx.old.board) (Self.Board.waits_at cx.new.board) }
         ensures same_board { Self.Board.id cx.new.board ≡ Self.Board.id cx.old.board }
         ensures same_task { cx.new.me ≡ cx.old.me }
         ensures wakes { KeepsWakes cx.old.wakes cx.new.wakes };
@@ -107,6 +113,7 @@ pub trait Tokens {
         ensures counted { OnOk result (counted_more cx.old.board cx.new.board token.old token.new) }
         ensures err { OnErr result ((token_parts token.new ≡ token_parts token.old) × (cx.new.board ≡ cx.old.board)) }
         ensures out_of_memory { IfErr result (λ fault. fault ≡ OutOfMemory) }
+        ensures same_waiting { SameWaiting (Self.Board.waits_at cx.old.board) (Self.Board.waits_at cx.new.board) }
         ensures same_board { Self.Board.id cx.new.board ≡ Self.Board.id cx.old.board }
         ensures same_task { cx.new.me ≡ cx.old.me }
         ensures wakes { KeepsWakes cx.old.wakes cx.new.wakes };
@@ -116,6 +123,7 @@ pub trait Tokens {
         requires home { token_home token ≡ (Self.Board.id cx.old.board).group_table }
         ensures counted { counted_less cx.old.board cx.new.board token }
         ensures woken { AreFoundWoken (found_waiting_token cx.old.board token) cx.new.wakes }
+        ensures keeps_waiting { KeepsWaiting (Self.Board.waits_at cx.old.board) (Self.Board.waits_at cx.new.board) cx.new.wakes }
         ensures same_board { Self.Board.id cx.new.board ≡ Self.Board.id cx.old.board }
         ensures same_task { cx.new.me ≡ cx.old.me }
         ensures wakes { KeepsWakes cx.old.wakes cx.new.wakes };
@@ -123,7 +131,7 @@ pub trait Tokens {
     /// Waits until no token is left. A later wait takes the place of an earlier one.
     fn poll_wait(cx: &mut Cx<Self::Board>, group: &mut Self::Group) -> Poll<()>
         requires home { group_home group.old ≡ (Self.Board.id cx.old.board).group_table }
-        ensures same_group { (group_home group.new ≡ group_home group.old) × (group_id group.new ≡ group_id group.old) }
+        ensures same_group { (group_home group.new ≡ group_home group.old) × (group_id group.new ≡ group_id group.old) × (wait_places group.new ≡ wait_places group.old) }
         ensures ready { IfReady result (λ _. parts group.new ≡ 2 ^ 62) }
         ensures none { IfReady result (λ _. found_none cx.new.board group.old group.new) }
         ensures unchanged { IfReady result (λ _. cx.new.board ≡ cx.old.board) }
@@ -131,6 +139,7 @@ pub trait Tokens {
         ensures same_parts { OnPending result (parts group.new ≡ parts group.old) }
         ensures tokens { OnPending result (found_tokens cx.new.board group.old group.new) }
         ensures registered { OnPending result (group_registered cx.new.board group.old group.new cx.old.me) }
+        ensures keeps_waiting { KeepsOthersWaiting (wait_places group.old) cx.old.me (Self.Board.waits_at cx.old.board) (Self.Board.waits_at cx.new.board) cx.new.wakes }
         ensures same_board { Self.Board.id cx.new.board ≡ Self.Board.id cx.old.board }
         ensures same_task { cx.new.me ≡ cx.old.me }
         ensures wakes { KeepsWakes cx.old.wakes cx.new.wakes };
@@ -141,6 +150,7 @@ pub trait Lanes<T: Message>: Tokens {
     ghost use Rattle.std.specs.Prelude.{◌≡◌, ℕ, ◌≤◌, [], false, IfOk, IfErr, OnErr};
     ghost use Rattle.morsel_meaning.specs.declared.fault.Fault.TheVariants.{OutOfMemory};
     ghost use Rattle.morsel_prims.specs.Polled.{LaneHistory};
+    ghost use Rattle.morsel_prims.specs.Waiting.{SameWaiting};
 
     /// The sending end of a lane.
     type Sender: LaneSender<T, Self::Board> + Drop;
@@ -174,6 +184,7 @@ pub trait Lanes<T: Message>: Tokens {
         ensures within { (1 ≤ room_of asked) × (room_of asked ≤ asked) }
         ensures out_of_memory { IfErr result (λ fault. fault ≡ OutOfMemory) }
         ensures err { OnErr result (board.new ≡ board.old) }
+        ensures same_waiting { SameWaiting (Self.Board.waits_at board.old) (Self.Board.waits_at board.new) }
         ensures same_board { Self.Board.id board.new ≡ Self.Board.id board.old };
 
     /// Changes nothing, and tells that what was taken is the beginning of what was sent; the lane holds the rest.
@@ -181,8 +192,8 @@ pub trait Lanes<T: Message>: Tokens {
         requires home { (Self.Sender.home sender.old ≡ (Self.Board.id board.old).lane_table) × (Self.Receiver.home receiver.old ≡ (Self.Board.id board.old).lane_table) }
         requires lane { Self.Sender.lane sender.old ≡ Self.Receiver.lane receiver.old }
         ensures history { LaneHistory (Self.Sender.sent sender.old) (Self.Receiver.taken receiver.old) (Self.Sender.room sender.old) }
-        ensures same_sender { (Self.Sender.home sender.new ≡ Self.Sender.home sender.old) × (Self.Sender.lane sender.new ≡ Self.Sender.lane sender.old) × (Self.Sender.room sender.new ≡ Self.Sender.room sender.old) × (Self.Sender.job sender.new ≡ Self.Sender.job sender.old) }
-        ensures same_receiver { (Self.Receiver.home receiver.new ≡ Self.Receiver.home receiver.old) × (Self.Receiver.lane receiver.new ≡ Self.Receiver.lane receiver.old) × (Self.Receiver.job receiver.new ≡ Self.Receiver.job receiver.old) }
+        ensures same_sender { (Self.Sender.home sender.new ≡ Self.Sender.home sender.old) × (Self.Sender.lane sender.new ≡ Self.Sender.lane sender.old) × (Self.Sender.room sender.new ≡ Self.Sender.room sender.old) × (Self.Sender.job sender.new ≡ Self.Sender.job sender.old) × (Self.Sender.wait_places sender.new ≡ Self.Sender.wait_places sender.old) }
+        ensures same_receiver { (Self.Receiver.home receiver.new ≡ Self.Receiver.home receiver.old) × (Self.Receiver.lane receiver.new ≡ Self.Receiver.lane receiver.old) × (Self.Receiver.job receiver.new ≡ Self.Receiver.job receiver.old) × (Self.Receiver.wait_places receiver.new ≡ Self.Receiver.wait_places receiver.old) }
         ensures same_lists { (Self.Sender.sent sender.new ≡ Self.Sender.sent sender.old) × (Self.Receiver.taken receiver.new ≡ Self.Receiver.taken receiver.old) }
         ensures same_end { (Self.Receiver.is_whole receiver.new ≡ Self.Receiver.is_whole receiver.old) × (Self.Receiver.is_cut receiver.new ≡ Self.Receiver.is_cut receiver.old) }
         ensures unchanged { board.new ≡ board.old }

@@ -28,7 +28,11 @@ impl<T: Message> Model for PlainBoard<T> {
 }
 
 impl<T: Message> Board for PlainBoard<T> {
+    ghost use Rattle.morsel_prims.specs.Board.{waits_among};
+
     ghost id = { λ board. record { lane_table = board.lane_table; group_table = board.group_table } };
+
+    ghost waits_at = { λ board. waits_among board.lanes board.groups };
 }
 
 impl<T: Message> PlainBoard<T> {

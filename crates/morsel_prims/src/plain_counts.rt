@@ -58,6 +58,7 @@ impl PlainCounts {
         ensures table { IfOk result (λ made. made.1.badge.table_id ≡ self.old.roll.seat.table_id) }
         ensures row { IfOk result (λ made. list_of_row made.1.badge.views ≡ Group made.0 ∷ []) }
         ensures none { IfOk result (λ made. HasNone (slice_get self.new.groups.items made.0)) }
+        ensures nobody { IfOk result (λ made. group_waits_of (slice_get self.new.groups.items made.0) ≡ None) }
         ensures last { IfOk result (λ made. made.0 ≡ length self.old.groups.items) }
         ensures others { IfOk result (λ made. OnlyGroup made.0 self.old.groups.items self.new.groups.items) }
         ensures out_of_memory { IfErr result (λ fault. fault ≡ OutOfMemory) }
@@ -76,7 +77,7 @@ impl PlainCounts {
 
     /// One more token of the group of this row: its row.
     ///
-    /// A count has 64 bits. Where it is at its end the answer is as for want of memory; no run comes so far.
+    /// A count has 64 bits. At their end the answer is that memory is out.
     pub fn count_one(
         &mut self,
         index: usize,

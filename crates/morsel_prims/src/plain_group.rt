@@ -43,6 +43,7 @@ impl<T: Message> Tokens for PlainLanes<T> {
     ghost use Rattle.std.specs.Prelude.{length, slice_get};
     ghost use Rattle.morsel_prims.specs.Counts.{CountsLess, CountsMore, CountsSame, HasNone, HasSome, group_waits_of, waits_if_last};
     ghost use Rattle.morsel_prims.specs.Polled.{held_list};
+    ghost use Rattle.morsel_prims.specs.Waiting.{ForLastToken};
 
     type Board = PlainBoard<T>;
 
@@ -55,6 +56,8 @@ impl<T: Message> Tokens for PlainLanes<T> {
     ghost group_id = { λ group. record { table = group.row.badge.table_id; place = group.index } };
 
     ghost parts = { λ group. group.parts };
+
+    ghost wait_places = { λ group. ForLastToken group.index ∷ [] };
 
     ghost group_registered = { λ board old new task. group_waits_of (slice_get board.groups new.index) ≡ Some task };
 

@@ -1,5 +1,5 @@
 //! The queues of the lanes of one thread.
-ghost use Rattle.std.specs.Prelude.{◌≡◌, ℕ, ◌*◌, ◌≤◌, true, false, [], ◌∷◌, ◌++◌, length, slice_get, Some, IfOk, OnOk, OnErr, IfErr, IfSome, IsNone, ◌+◌, if◌then◌else◌};
+ghost use Rattle.std.specs.Prelude.{◌≡◌, ℕ, ◌*◌, ◌≤◌, true, false, [], ◌∷◌, ◌++◌, length, slice_get, None, Some, IfOk, OnOk, OnErr, IfErr, IfSome, IsNone, ◌+◌, if◌then◌else◌};
 ghost use Rattle.morsel_meaning.specs.declared.fault.Fault.TheVariants.{OutOfMemory};
 ghost use Rattle.morsel_prims.specs.Marks.{ArePlainLanes, AreFor, HasRoom, IsEmptyLane, IsFullLane, IsNewRow, IsShutLane, OnlyLane, WaitsToSend, WaitsToTake, are_sendable, is_shut, is_unclosed, lane_end, lane_job, lane_room, lane_values, recv_waits_of, send_waits_of, sent_row};
 ghost use Rattle.morsel_prims.specs.Polled.{LaneHistory, refused_value, IfFull, IfClosed};
@@ -55,6 +55,7 @@ impl<T: Message> PlainQueues<T> {
         ensures place { IfOk result (λ made. (place_of_row made.1.badge.views ≡ 2 * made.0) × (place_of_row made.2.badge.views ≡ 2 * made.0 + 1)) }
         ensures rows { IfOk result (λ made. IsNewRow job.now room (list_of_row made.1.badge.views) × IsNewRow job.now room (list_of_row made.2.badge.views)) }
         ensures last { IfOk result (λ made. made.0 ≡ length self.old.lanes.items) }
+        ensures nobody { IfOk result (λ made. (send_waits_of (slice_get self.new.lanes.items made.0) ≡ None) × (recv_waits_of (slice_get self.new.lanes.items made.0) ≡ None)) }
         ensures others { IfOk result (λ made. OnlyLane made.0 self.old.lanes.items self.new.lanes.items) }
         ensures out_of_memory { IfErr result (λ fault. fault ≡ OutOfMemory) }
         ensures err { OnErr result ((self.new.lanes.items ≡ self.old.lanes.items) × (self.new.roll.seat.me.0.rows ≡ self.old.roll.seat.me.0.rows)) }
@@ -92,6 +93,7 @@ impl<T: Message> PlainQueues<T> {
         ensures sent { OnOk result (list_of_row mine.new.badge.views ≡ list_of_row mine.old.badge.views ++ Value value ∷ []) }
         ensures room { OnOk result (HasRoom (slice_get self.new.lanes.items index)) }
         ensures woken { IfOk result (λ task. task ≡ recv_waits_of (slice_get self.old.lanes.items index)) }
+        ensures nobody { OnOk result (recv_waits_of (slice_get self.new.lanes.items index) ≡ None) }
         ensures same_waits { OnOk result (send_waits_of (slice_get self.new.lanes.items index) ≡ send_waits_of (slice_get self.old.lanes.items index)) }
         ensures others { OnlyLane index self.old.lanes.items self.new.lanes.items }
         ensures err { OnErr result (list_of_row mine.new.badge.views ≡ list_of_row mine.old.badge.views) }
@@ -126,6 +128,7 @@ impl<T: Message> PlainQueues<T> {
         ensures ended { list_of_row mine.new.badge.views ≡ list_of_row mine.old.badge.views ++ End whole ∷ [] }
         ensures row { sent_row self.new.roll.seat.me.0.rows index ≡ list_of_row mine.new.badge.views }
         ensures woken { result ≡ recv_waits_of (slice_get self.old.lanes.items index) }
+        ensures nobody { recv_waits_of (slice_get self.new.lanes.items index) ≡ None }
         ensures same_waits { send_waits_of (slice_get self.new.lanes.items index) ≡ send_waits_of (slice_get self.old.lanes.items index) }
         ensures others { OnlyLane index self.old.lanes.items self.new.lanes.items }
     {
@@ -151,6 +154,7 @@ impl<T: Message> PlainQueues<T> {
         ensures sendable { IfSome result (λ taken. are_sendable (taken.0 ∷ []) ≡ true) }
         ensures job { IfSome result (λ taken. (job : _) → lane_job (list_of_row mine.old.badge.views) ≡ Some job → AreFor job (taken.0 ∷ [])) }
         ensures woken { IfSome result (λ taken. taken.1 ≡ send_waits_of (slice_get self.old.lanes.items index)) }
+        ensures nobody { IfSome result (λ taken. send_waits_of (slice_get self.new.lanes.items index) ≡ None) }
         ensures same_waits { recv_waits_of (slice_get self.new.lanes.items index) ≡ recv_waits_of (slice_get self.old.lanes.items index) }
         ensures others { OnlyLane index self.old.lanes.items self.new.lanes.items }
         ensures none { IsNone result → list_of_row mine.new.badge.views ≡ list_of_row mine.old.badge.views }
@@ -176,6 +180,7 @@ impl<T: Message> PlainQueues<T> {
         ensures table { (self.new.roll.seat.table_id ≡ self.old.roll.seat.table_id) × (mine.new.badge.table_id ≡ mine.old.badge.table_id) × (place_of_row mine.new.badge.views ≡ place_of_row mine.old.badge.views) }
         ensures shut { IsShutLane (slice_get self.new.lanes.items index) }
         ensures woken { result ≡ send_waits_of (slice_get self.old.lanes.items index) }
+        ensures nobody { send_waits_of (slice_get self.new.lanes.items index) ≡ None }
         ensures same_waits { recv_waits_of (slice_get self.new.lanes.items index) ≡ recv_waits_of (slice_get self.old.lanes.items index) }
         ensures others { OnlyLane index self.old.lanes.items self.new.lanes.items }
     {
@@ -198,7 +203,8 @@ impl<T: Message> PlainQueues<T> {
     {
         let PlainQueues { roll, lanes } = self;
         roll.look(mine);
-        lanes[index].send_waits = Some(task);
+        let lane = &mut lanes[index];
+        lane.send_waits = Some(task);
     }
 
     /// The task waits until there is something in the lane.
@@ -213,7 +219,8 @@ impl<T: Message> PlainQueues<T> {
     {
         let PlainQueues { roll, lanes } = self;
         roll.look(mine);
-        lanes[index].recv_waits = Some(task);
+        let lane = &mut lanes[index];
+        lane.recv_waits = Some(task);
     }
 
     /// How many values the lane holds; at most its room.

@@ -41,9 +41,10 @@ pub struct PlainTaken<T: Message> {
 }
 
 impl<T: Message> LaneReceiver<T, PlainBoard<T>> for PlainReceiver<T> {
-    ghost use Rattle.std.specs.Prelude.{slice_get};
+    ghost use Rattle.std.specs.Prelude.{slice_get, [], ◌∷◌};
     ghost use Rattle.morsel_prims.specs.Marks.{IsEmptyLane, IsShutLane, is_closed_as, is_unclosed, lane_values, recv_waits_of, send_waits_of, sent_row};
     ghost use Rattle.morsel_prims.specs.Polled.{held_list};
+    ghost use Rattle.morsel_prims.specs.Waiting.{ForValue};
 
     type Receipt = PlainTaken<T>;
 
@@ -58,6 +59,8 @@ impl<T: Message> LaneReceiver<T, PlainBoard<T>> for PlainReceiver<T> {
     ghost is_whole = { λ end. is_closed_as (lane_end (list_of_row end.row.badge.views)) true };
 
     ghost is_cut = { λ end. is_closed_as (lane_end (list_of_row end.row.badge.views)) false };
+
+    ghost wait_places = { λ end. ForValue end.index ∷ [] };
 
     ghost registered = { λ board old new task. recv_waits_of (slice_get board.lanes new.index) ≡ Some task };
 

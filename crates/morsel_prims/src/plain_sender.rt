@@ -43,6 +43,7 @@ impl<T: Message> LaneSender<T, PlainBoard<T>> for PlainSender<T> {
     ghost use Rattle.std.specs.Prelude.{false, slice_get, length, [], ◌∷◌, ◌++◌};
     ghost use Rattle.morsel_prims.specs.Marks.{HasRoom, IsFullLane, IsShutLane, lane_values, recv_waits_of, send_waits_of, sent_row};
     ghost use Rattle.morsel_prims.specs.Polled.{held_list};
+    ghost use Rattle.morsel_prims.specs.Waiting.{ForRoom};
     ghost use Rattle.morsel_prims.specs.declared.plain_item.Mark.TheVariants.{End};
     ghost use Rattle.morsel_prims.specs.declared.plain_item.PlainLane.{PlainLane};
 
@@ -57,6 +58,8 @@ impl<T: Message> LaneSender<T, PlainBoard<T>> for PlainSender<T> {
     ghost job = { λ end. end.job.value };
 
     ghost sent = { λ end. lane_values (list_of_row end.row.badge.views) };
+
+    ghost wait_places = { λ end. ForRoom end.index ∷ [] };
 
     ghost registered = { λ board old new task. send_waits_of (slice_get board.lanes new.index) ≡ Some task };
 

@@ -2,8 +2,10 @@
 #![tactic(auto)]
 
 mod number;
+mod receipts;
 
 pub use number::{Number, send_seven};
+pub use receipts::settle;
 
 #[cfg(test)]
 mod tests;

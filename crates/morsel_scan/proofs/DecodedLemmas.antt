@@ -29,7 +29,7 @@ abbrev cells_in : List (ℕ × List CsvCell) → List (List CsvCell)
 cells_in rows = map (λ (row : ℕ × List CsvCell). row.1) rows
 
 -- there are as many rows of values as rows of cells
-values-length : (used : List Bool) (rows : List (ℕ × List CsvCell)) (found : List Row) → values_of used (cells_in rows) ≡ Some found → length found ≡ length rows
+pub values-length : (used : List Bool) (rows : List (ℕ × List CsvCell)) (found : List Row) → values_of used (cells_in rows) ≡ Some found → length found ≡ length rows
 values-length used [] found is = let none : [] ≡ found = cc in ap (λ (r : List Row). length r) (sym none)
 values-length used (row ∷ rows) found is =
     let first = values-first used row.1 (cells_in rows) found is in

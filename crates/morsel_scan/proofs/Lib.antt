@@ -20,6 +20,8 @@ pub mod StretchLemmas
 pub mod PartLemmas
 pub mod AxisLemmas
 pub mod AxisFileLemmas
+pub mod SourceLemmas
+pub mod FlawLemmas
 pub mod MidstLemmas
 pub mod StandLemmas
 pub mod PassedLemmas

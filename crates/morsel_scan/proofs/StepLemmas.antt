@@ -18,7 +18,7 @@ use Rattle.morsel_scan.specs.ScanColumns.{kept_columns, used_columns, index_fiel
 use Rattle.morsel_scan.specs.ScanRows.{passes}
 use Rattle.morsel_scan.specs.Filters.{Filter}
 use Rattle.morsel_scan.specs.Decoding.{step_fields, all_of, step_mask, true_places, step_rows, NumbersPass, Finishes}
-use Rattle.morsel_scan.specs.Nodes.{node_of, IsFilterOver, indexed, pathed, AddsIndex, AddsPath, KeepsRows}
+use Rattle.morsel_scan.specs.Nodes.{node_of, indexed, pathed, AddsIndex, AddsPath, KeepsRows}
 use Rattle.morsel_scan.proofs.ChoiceLemmas.{fields_at-places, places-all, places-distinct}
 use Rattle.morsel_scan.proofs.FinishLemmas.{kept_width}
 use Rattle.morsel_scan.proofs.ReadLemmas.{unless-memory}
@@ -79,10 +79,6 @@ pub named_schema : (scan : Scan) (position : ℕ) (source : List ℕ) (read numb
 named_schema scan position source read numbered named used index path =
     path.0 ∙ ap (λ (fs : List Field). fs ++ path_fields scan.asked.path) (index.0 ∙ ap (λ (fs : List Field). index_fields scan.asked.row_index ++ fs) used)
     ∙ append_assoc (index_fields scan.asked.row_index) (chosen (used_columns scan) scan.fields) (path_fields scan.asked.path)
-
-pub filter_over : (step : Option Filter) (fields others : List Field) → others ≡ fields → IsFilterOver fields step → IsFilterOver others step
-filter_over None fields others same over = tt
-filter_over (Some f) fields others same over = same ∙ over
 
 pub kept_within : (scan : Scan) (kept : List ℕ) (fields : List Field) → kept ≡ true_places 0 (step_mask scan) → fields ≡ step_fields scan → All (λ at. at < length fields) kept
 kept_within scan kept fields are is =

@@ -14,3 +14,4 @@ pub mod StretchRows
 pub mod CsvAxis
 pub mod StretchLaws
 pub mod CsvAxisLaws
+pub mod ScanFlaws

@@ -24,12 +24,17 @@ abbrev pub IsFilterOver : List Field → Option Filter → Type 0
 IsFilterOver fields None = Unit {0}
 IsFilterOver fields (Some f) = fields ≡ f.fields
 
+-- the columns that the filter is over, and these where there is none
+abbrev pub filter_fields : List Field → Option Filter → List Field
+filter_fields fields None = fields
+filter_fields fields (Some f) = f.fields
+
 -- which columns are used, and the places of those that are kept, as a node has found them
 pub record IsPrepared (scan : Scan) (step : Option Filter) (used unused : List Bool) (kept : List ℕ) : Type 0 where
   pub used_are : used ≡ used_columns scan
   pub unused_are : unused ≡ map (λ (field : Field). false) scan.fields
   pub kept_are : kept ≡ true_places 0 (step_mask scan)
-  pub over : IsFilterOver (step_fields scan) step
+  pub over : filter_fields (step_fields scan) step ≡ step_fields scan
 
 -- rows with their numbers, where there is a row index
 abbrev pub indexed : Option RowIndex → ℕ → List Row → List Row

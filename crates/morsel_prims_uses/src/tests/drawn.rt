@@ -45,13 +45,14 @@ impl Plain {
         Ok(())
     }
 
-    fn poll_send(&mut self, number: u64) -> Poll<Result<(), Number>> {
+    /// What it answers, and what is then held.
+    fn poll_send(&mut self, number: u64) -> (Poll<Result<(), Number>>, Option<Number>) {
         match self.try_send(number) {
-            Ok(()) => Poll::Ready(Ok(())),
-            Err(SendError::Closed(number)) => Poll::Ready(Err(number)),
-            Err(SendError::Full(_)) => {
+            Ok(()) => (Poll::Ready(Ok(())), None),
+            Err(SendError::Closed(number)) => (Poll::Ready(Err(number)), None),
+            Err(SendError::Full(number)) => {
                 self.sending = Some(SENDING);
-                Poll::Pending
+                (Poll::Pending, Some(number))
             }
         }
     }
@@ -99,7 +100,7 @@ impl Plain {
 #[derive(Clone, Copy, PartialEq, Eq)]
 enum Said {
     Sent(Result<(), SendError<Number>>),
-    SentPolled(Poll<Result<(), Number>>),
+    SentPolled((Poll<Result<(), Number>>, Option<Number>)),
     Taken(Result<Number, RecvError>),
     TakenPolled(Poll<Result<Number, Ended>>),
     Held(usize),

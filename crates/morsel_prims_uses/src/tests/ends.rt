@@ -57,7 +57,7 @@ fn ends_cut<L: Tokens + Lanes<Number>>(mut line: Line<L>, count: u32) -> bool {
 /// Whether a lane that the receiver has cut gives nine back.
 fn gives_back<L: Tokens + Lanes<Number>>(mut shut: Shut<L>) -> bool {
     let tried = shut.try_send(9) == Err(SendError::Closed(Number(9)));
-    let polled = shut.poll_send(9) == Poll::Ready(Err(Number(9)));
+    let polled = shut.poll_send(9) == (Poll::Ready(Err(Number(9))), None);
     tried && polled
 }
 
@@ -66,13 +66,14 @@ fn is_closed_first<L: Tokens + Lanes<Number>>(mut line: Line<L>, room: u32) -> b
     fill(&mut line, room) && gives_back(line.shut())
 }
 
-/// Whether a full lane gives nine back, and says how many it has.
+/// Whether a full lane gives nine back, leaves it with who waits for room, and says how many it has.
 fn is_full<L: Tokens + Lanes<Number>>(mut line: Line<L>, room: u32) -> bool {
     let filled = fill(&mut line, room);
     let refused = line.try_send(9) == Err(SendError::Full(Number(9)));
+    let waits = line.poll_send(9) == (Poll::Pending, Some(Number(9)));
     let held = line.len_bound() == room;
     line.look();
-    filled && refused && held
+    filled && refused && waits && held
 }
 
 #[test]

@@ -3,6 +3,7 @@ ghost use Rattle.std.specs.Prelude.{◌≡◌, ◌<◌, ◌≤◌, IfOk};
 ghost use Rattle.morsel_prims.specs.Polled.{LaneHistory};
 
 use crate::number::Number;
+use crate::receipts::settle;
 use morsel_meaning::{Fault, TaskNo};
 use morsel_prims::{
     Cx, Ended, LaneReceiver, LaneSender, Lanes, Poll, RecvError, SendError, Tokens, Wakes,
@@ -72,13 +73,14 @@ impl<L: Tokens + Lanes<Number>> Line<L> {
         self.sender.try_send(&mut self.cx, Number(number))
     }
 
-    /// Sends a number, or waits for room.
-    pub fn poll_send(&mut self, number: u64) -> Poll<Result<(), Number>>
+    /// Sends a number, or waits for room: the answer, and what is then held.
+    pub fn poll_send(&mut self, number: u64) -> (Poll<Result<(), Number>>, Option<Number>)
         requires below { number < 1000 }
     {
         self.cx.me = SENDING;
         let mut held = Some(Number(number));
-        self.sender.poll_send(&mut self.cx, &mut held)
+        let answer = self.sender.poll_send(&mut self.cx, &mut held);
+        (answer, held)
     }
 
     /// At least as many numbers as the lane has.
@@ -145,17 +147,10 @@ impl<L: Tokens + Lanes<Number>> Line<L> {
         let Line {
             mut cx,
             sender,
-            mut receiver,
+            receiver,
         } = self;
         let sent = sender.finish(&mut cx);
-        match receiver.try_recv(&mut cx) {
-            Err(RecvError::Whole) => {
-                L::agree(&mut cx.board, sent, receiver.receipt());
-                Ok(())
-            }
-            Err(refusal) => Err(refusal),
-            Ok(_) => Err(RecvError::Empty),
-        }
+        settle::<L>(&mut cx, sent, receiver)
     }
 }
 
@@ -185,13 +180,14 @@ impl<L: Tokens + Lanes<Number>> Shut<L> {
         self.sender.try_send(&mut self.cx, Number(number))
     }
 
-    /// Sends a number, or waits for room.
-    pub fn poll_send(&mut self, number: u64) -> Poll<Result<(), Number>>
+    /// Sends a number, or waits for room: the answer, and what is then held.
+    pub fn poll_send(&mut self, number: u64) -> (Poll<Result<(), Number>>, Option<Number>)
         requires below { number < 1000 }
     {
         self.cx.me = SENDING;
         let mut held = Some(Number(number));
-        self.sender.poll_send(&mut self.cx, &mut held)
+        let answer = self.sender.poll_send(&mut self.cx, &mut held);
+        (answer, held)
     }
 
     /// One of the tasks that were made ready.

@@ -1,19 +1,14 @@
-use Rattle.std.proofs.Common.{rules, ap, sym, ◌∙◌, subst, ◌≡◌, set, [], ◌∷◌, ◌++◌, Some, ◌+◌}
+use Rattle.std.proofs.Common.{rules, ap, ◌∙◌, ◌≡◌, [], ◌∷◌, ◌++◌, Some, ◌+◌}
 use Rattle.circular_buffer.proofs.Places.{slice_get-set_same}
 use Rattle.morsel_prims.proofs.MarkLemmas.{found}
-use Rattle.morsel_prims.proofs.CountLemmas.{token_added, only_group}
-use Rattle.morsel_prims.specs.Counts.{AreCounted}
+use Rattle.morsel_prims.proofs.CountLemmas.{one_token_more, only_group}
 use Rattle.morsel_prims.specs.declared.plain_counts.GroupMark.TheVariants.{Token}
 use Rattle.morsel_prims.proofs.plain_counts.PlainCounts.count_one.Goals as goal
 
 pub invariant_of-self-2 : goal.invariant_of-self-2
 invariant_of-self-2 c =
     let small = c.args.self.now.kept.within _ _ _ c.look.ensures.list c.requires.group in let there = found _ _ _ small c.index_mut-group.ensures.value in
-    record {
-      kept = subst (λ rs. AreCounted rs (set c.args.self.now.groups.items c.args.index (record { count = c.in-Some.count; waits = c.index_mut-group.result.now.waits })))
-          (sym (c.begin.ensures.rows ∙ ap (λ rs. rs ++ (Token c.args.index ∷ []) ∷ []) c.look.ensures.same.1))
-          (token_added _ _ _ c.index_mut-group.result.now _ c.args.self.now.kept small there (search rules));
-    }
+    record { kept = one_token_more _ _ _ _ c.index_mut-group.result.now _ (c.begin.ensures.rows ∙ ap (λ rs. rs ++ (Token c.args.index ∷ []) ∷ []) c.look.ensures.same.1) c.args.self.now.kept small there (search rules) }
 
 pub returns-clause-counted : goal.returns-clause-counted
 returns-clause-counted c =

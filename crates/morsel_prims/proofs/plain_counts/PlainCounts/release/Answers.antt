@@ -3,8 +3,8 @@ use mathlib.Core.Option.{some}
 use lib.ListN.{get_elem?}
 use Rattle.circular_buffer.proofs.Places.{slice_get-set_same}
 use Rattle.morsel_prims.proofs.MarkLemmas.{found}
-use Rattle.morsel_prims.proofs.CountLemmas.{token_released, counts_token, waits-last, waits-more, left-last, left-more, only_group}
-use Rattle.morsel_prims.specs.Counts.{AreCounted, group_of, group_waits_of}
+use Rattle.morsel_prims.proofs.CountLemmas.{one_token_less, counts_token, waits-last, waits-more, left-last, left-more, only_group}
+use Rattle.morsel_prims.specs.Counts.{group_of, group_waits_of}
 use Rattle.morsel_prims.specs.Rows.{place_of_row}
 use Rattle.morsel_prims.specs.declared.plain_counts.GroupMark.TheVariants.{Token, Released}
 use Rattle.morsel_prims.proofs.plain_counts.PlainCounts.release.Goals as goal
@@ -19,11 +19,7 @@ pub invariant_of-self : goal.invariant_of-self
 invariant_of-self c =
     let small = c.args.self.now.kept.within _ _ _ c.write.ensures.same (ap group_of c.requires.token) in let there = found _ _ _ small c.index_mut-group.ensures.value in let at : get_elem? c.args.self.now.roll.seat.me.0.rows (place_of_row c.args.mine.now.badge.views) ≡ some (Token c.args.index ∷ []) = c.write.ensures.same ∙ ap some c.requires.token in
     let some_left = counts_token _ _ _ _ _ c.args.self.now.kept at there in
-    record {
-      kept = subst (λ rs. AreCounted rs (set c.args.self.now.groups.items c.args.index (record { count = c.index_mut-group.result.now.count - 1; waits = c.index_mut-group.result.now.waits })))
-          (sym (c.write.ensures.rows ∙ ap (λ z. set c.args.self.now.roll.seat.me.0.rows (place_of_row c.args.mine.now.badge.views) (z ++ Released ∷ [])) c.requires.token))
-          (token_released _ _ _ _ c.index_mut-group.result.now _ c.args.self.now.kept at small there (omega arith));
-    }
+    record { kept = one_token_less _ _ _ _ _ _ c.index_mut-group.result.now _ c.write.ensures.rows c.requires.token c.args.self.now.kept at small there (omega arith) }
 
 pub returns-then-group-gt0-clause-counted : goal.returns-then-group-gt0-clause-counted
 returns-then-group-gt0-clause-counted c =
@@ -43,11 +39,7 @@ pub invariant_of-self-2 : goal.invariant_of-self-2
 invariant_of-self-2 c =
     let small = c.args.self.now.kept.within _ _ _ c.write.ensures.same (ap group_of c.requires.token) in let there = found _ _ _ small c.index_mut-group.ensures.value in let at : get_elem? c.args.self.now.roll.seat.me.0.rows (place_of_row c.args.mine.now.badge.views) ≡ some (Token c.args.index ∷ []) = c.write.ensures.same ∙ ap some c.requires.token in
     let some_left = counts_token _ _ _ _ _ c.args.self.now.kept at there in
-    record {
-      kept = subst (λ rs. AreCounted rs (set c.args.self.now.groups.items c.args.index (record { count = c.index_mut-group.result.now.count - 1; waits = c.take.new.self })))
-          (sym (c.write.ensures.rows ∙ ap (λ z. set c.args.self.now.roll.seat.me.0.rows (place_of_row c.args.mine.now.badge.views) (z ++ Released ∷ [])) c.requires.token))
-          (token_released _ _ _ _ c.index_mut-group.result.now _ c.args.self.now.kept at small there (omega arith));
-    }
+    record { kept = one_token_less _ _ _ _ _ _ c.index_mut-group.result.now _ c.write.ensures.rows c.requires.token c.args.self.now.kept at small there (omega arith) }
 
 pub returns-clause-counted : goal.returns-clause-counted
 returns-clause-counted c =

@@ -1,7 +1,8 @@
-use Rattle.std.proofs.Common.{rules, ap, sym, refl, ◌∙◌, subst, ◌≡◌, ◌+◌, length, [], ◌∷◌, ◌++◌, false, None}
+use Rattle.std.proofs.Common.{rules, ap, sym, refl, ◌∙◌, subst, ◌≡◌, ◌+◌, length, [], ◌∷◌, ◌++◌, false, None, slice_get}
+use Rattle.circular_buffer.proofs.Places.{slice_get-last}
 use Rattle.circular_buffer.specs.Buffer.{buffer}
 use Rattle.morsel_prims.proofs.MakeLemmas.{lane_added, only_last}
-use Rattle.morsel_prims.specs.Marks.{ArePlainLanes, OnlyLane}
+use Rattle.morsel_prims.specs.Marks.{ArePlainLanes, OnlyLane, recv_waits_of, send_waits_of}
 use Rattle.morsel_prims.specs.declared.plain_item.Mark.TheVariants.{Job}
 use Rattle.morsel_prims.proofs.plain_queues.PlainQueues.add.Goals as goal
 
@@ -22,3 +23,8 @@ pub returns-clause-others : goal.returns-clause-others
 returns-clause-others g c =
     let lanes = c.push_reserved.ensures.items ∙ ap (λ z. z ++ (record { queue = c.in_ok-queue.queue; room = c.args.room; shut = false; send_waits = None; recv_waits = None }) ∷ []) c.reserve.ensures.items in let index : c.len-index.result ≡ length c.args.self.now.lanes.items = search rules in
     subst (λ n. OnlyLane n c.args.self.now.lanes.items c.push_reserved.new.self.items) (sym index) (subst (λ ls. OnlyLane (length c.args.self.now.lanes.items) c.args.self.now.lanes.items ls) (sym lanes) (only_last c.args.self.now.lanes.items (record { queue = c.in_ok-queue.queue; room = c.args.room; shut = false; send_waits = None; recv_waits = None })))
+
+pub returns-clause-nobody : goal.returns-clause-nobody
+returns-clause-nobody g c =
+    let lanes = c.push_reserved.ensures.items in let index : c.len-index.result ≡ length c.reserve.new.self.items = search rules in
+    let last = ap (λ ls. slice_get ls c.len-index.result) lanes ∙ slice_get-last c.reserve.new.self.items _ _ index in (ap send_waits_of last, ap recv_waits_of last)

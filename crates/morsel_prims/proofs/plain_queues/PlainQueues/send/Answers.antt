@@ -1,4 +1,4 @@
-use Rattle.std.proofs.Common.{rules, ap, sym, refl, ◌∙◌, subst, ◌≤◌, ◌≡◌, length, set, arith, length-append, [], ◌∷◌, ◌++◌}
+use Rattle.std.proofs.Common.{rules, ap, sym, refl, ◌∙◌, subst, ◌≤◌, ◌≡◌, length, set, arith, length-append, [], ◌∷◌, ◌++◌, None}
 use Rattle.morsel_prims.proofs.MarkLemmas.{lane_within, found, sent_changes, lane_takes, same_lane, kept_fewer, only_lane}
 use Rattle.circular_buffer.proofs.Places.{slice_get-set_same}
 use Rattle.morsel_prims.specs.Marks.{ArePlainLanes, recv_waits_of, send_waits_of}
@@ -68,3 +68,8 @@ returns-clause-same_waits g c =
 
 pub returns-clause-others : goal.returns-clause-others
 returns-clause-others g c = only_lane c.args.self.now.lanes.items c.args.index _
+
+pub returns-clause-nobody : goal.returns-clause-nobody
+returns-clause-nobody g c =
+    let small = lane_within _ _ _ _ _ c.args.self.now.kept c.look.ensures.list c.requires.place in let nobody : c.take.new.self ≡ None = search rules in
+    ap recv_waits_of (slice_get-set_same c.args.self.now.lanes.items c.args.index _ small) ∙ nobody

@@ -1,4 +1,4 @@
-use Rattle.std.proofs.Common.{rules, ap, sym, refl, ◌∙◌, subst, ◌≡◌, set, true}
+use Rattle.std.proofs.Common.{rules, ap, sym, refl, ◌∙◌, subst, ◌≡◌, set, true, None}
 use Rattle.morsel_prims.specs.Marks.{ArePlainLanes, recv_waits_of, send_waits_of}
 use Rattle.circular_buffer.proofs.Places.{slice_get-set_same}
 use Rattle.morsel_prims.proofs.MarkLemmas.{taken_within, found, taken_changes, lane_shuts, only_lane}
@@ -30,3 +30,8 @@ returns-clause-same_waits g c =
 
 pub returns-clause-others : goal.returns-clause-others
 returns-clause-others g c = only_lane c.args.self.now.lanes.items c.args.index _
+
+pub returns-clause-nobody : goal.returns-clause-nobody
+returns-clause-nobody g c =
+    let small = taken_within _ _ _ _ _ c.args.self.now.kept c.write.ensures.same c.requires.place in let nobody : c.take.new.self ≡ None = search rules in
+    ap send_waits_of (slice_get-set_same c.args.self.now.lanes.items c.args.index _ small) ∙ nobody

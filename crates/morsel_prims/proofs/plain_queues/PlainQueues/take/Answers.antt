@@ -81,3 +81,8 @@ copy-requires-clause-next g c =
     subst (λ rs. IsNext rs (place_of_row c.look.new.row.badge.views - 1) (length (list_of_row c.look.new.row.badge.views)) c.in-Some.mark) (sym c.look.ensures.same.1)
     (subst (λ vs. IsNext c.args.self.now.roll.seat.me.0.rows (place_of_row vs - 1) (length (list_of_row vs)) c.in-Some.mark) (sym c.look.ensures.same.0)
     (next_of_lane _ _ _ _ _ c.in-Some.mark _ c.index_mut-lane.result.now c.args.self.now.kept c.look.ensures.list c.requires.place there c.requires.unshut (first_rest _ _ head)))
+
+pub returns-clause-nobody : goal.returns-clause-nobody
+returns-clause-nobody g c =
+    let small = taken_within _ _ _ _ _ c.args.self.now.kept c.look.ensures.list c.requires.place in let nobody : c.take.new.self ≡ None = search rules in
+    ap send_waits_of (slice_get-set_same c.args.self.now.lanes.items c.args.index _ small) ∙ nobody

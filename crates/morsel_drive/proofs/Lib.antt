@@ -1,0 +1,3 @@
+pub mod TransferLemmas
+pub mod KeepLemmas
+pub mod TurnLemmas

@@ -1,0 +1,18 @@
+use Rattle.std.proofs.Common.{◌≡◌, ◌<◌}
+use Rattle.morsel_drive.specs.Driving.{HoldsFitting}
+use Rattle.morsel_drive.proofs.TurnLemmas.{Stands, ToldMidst}
+use Rattle.morsel_drive.proofs.caller.drive.Given as goal
+
+-- what was done so far, and that the reader, the line and the text go together
+abbrev pub invariant-turns : goal.invariant-turns
+invariant-turns g l = record {
+  suits : g.S.PieceSource.suits l.reader (g.H.Io.seen l.io);
+  made : 0 < (g.H.Io.seen l.io).sinks;
+  chunk : g.S.PieceSource.chunk l.reader ≡ g.S.PieceSource.chunk l.fn.reader;
+  fits : HoldsFitting l.input;
+  stands : Stands (g.S.PieceSource.did l.fn.reader l.reader) (ToldMidst {J = g.row.L-Job.Denot} g.L.Line.axis g.L.Line.is_piece
+      (λ job. g.S.PieceSource.reads l.fn.reader job (g.H.Io.seen l.fn.io)) (g.L.Line.serves l.fn.line)
+      (λ job. g.S.PieceSource.reads l.reader job (g.H.Io.seen l.io)) (g.L.Line.serves l.line)
+      l.bound (g.S.PieceSource.chunk l.fn.reader) (g.S.PieceSource.given l.reader) (g.S.PieceSource.asked l.reader) l.input l.written)
+      (g.H.Io.seen l.fn.io) (g.H.Io.seen l.io);
+}

@@ -1,0 +1,11 @@
+use Rattle.std.proofs.Common.{◌<◌, Ok}
+use Rattle.morsel_drive.specs.Driving.{WritesOn}
+use Rattle.morsel_drive.proofs.TurnLemmas.{ToldWrites}
+use Rattle.morsel_drive.proofs.caller.write_on.Given as goal
+
+-- the text is kept as it was, further on
+abbrev pub invariant-parts : goal.invariant-parts
+invariant-parts g l = record {
+  made : 0 < (g.H.Io.seen l.io).sinks;
+  stands : WritesOn {T = Unit {0}} (ToldWrites {J = g.row.L-Job.Denot} g.L.Line.axis (g.L.Line.serves l.fn.line) (g.L.Line.serves l.line) l.fn.written l.written) (g.H.Io.seen l.fn.io) (Ok tt) (g.H.Io.seen l.io);
+}

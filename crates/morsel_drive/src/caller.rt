@@ -1,0 +1,193 @@
+//! The caller's loop.
+ghost use Rattle.std.specs.Prelude.{◌≡◌, ℕ, ◌+◌, ◌<◌, List, ◌++◌, OnOk, IfErr, IfOk};
+ghost use Rattle.morsel_outside.specs.Actions.{Action};
+ghost use Rattle.morsel_scan.specs.Ahead.{EndsEachRow};
+ghost use Rattle.morsel_drive.specs.Lines.{IsSoundAxis, ReadsFor};
+ghost use Rattle.morsel_drive.specs.Driving.{IsAfter, WritesPart, WritesOn, KeepsOrStops, KeepsText, HoldsFitting, FitsInput, GivesInput, ReadsInTime, EndsWith, DrivesAxis, Drives};
+
+use crate::line::{Line, PieceSource, Taken};
+use crate::written::Written;
+use morsel_meaning::Fault;
+use morsel_outside::{Io, IoErr};
+use morsel_pipe::{Encoded, RawPiece};
+
+/// What the caller holds of the input.
+#[derive(Debug, Drop)]
+pub enum Input {
+    /// Nothing: the next piece is to be read.
+    Reading,
+    /// A piece that the line had no room for.
+    Holding(RawPiece),
+    /// Nothing: all was read.
+    Ended,
+}
+
+/// Writes a part where it begins at the place where the text ends.
+fn write_part<H: Io>(io: &mut H, part: &Encoded, written: &mut Written) -> Result<(), Fault>
+    requires made { 0 < (H.seen io.old).sinks }
+    ensures { WritesPart (H.seen io.old) part.now written.old result (H.seen io.new) written.new }
+{
+    // The parts come in order, so this test never fails. With it nothing has to be known of what goes on in the line.
+    if part.from != written.next || part.skip != written.rows - written.begun {
+        return Err(Fault::OutOfMemory);
+    }
+    let Some(rows) = written.rows.checked_add(part.rows) else {
+        return Err(Fault::OutOfMemory);
+    };
+    match io.write(part.bytes.as_slice()) {
+        Ok(()) => {
+            *written = after(*written, part, rows);
+            Ok(())
+        }
+        Err(IoErr::OutOfMemory) => Err(Fault::OutOfMemory),
+        Err(IoErr::Failed) => Err(Fault::WriteFault),
+    }
+}
+
+/// How far the text is after a part, of so many rows in all.
+fn after(written: Written, part: &Encoded, rows: u64) -> Written
+    requires { rows ≡ written.rows + part.now.rows }
+    ensures { IsAfter part.now written result }
+{
+    if part.last {
+        return Written {
+            next: part.to,
+            begun: rows,
+            rows,
+        };
+    }
+    Written {
+        next: written.next,
+        begun: written.begun,
+        rows,
+    }
+}
+
+/// Takes parts out and writes them until none is there; answers whether the line has ended.
+fn write_on<H: Io, L: Line>(io: &mut H, line: &mut L, written: &mut Written) -> Result<bool, Fault>
+    requires made { 0 < (H.seen io.old).sinks }
+    ensures { WritesOn (λ writes. (job : L.Job) → L.serves line.old job → IsSoundAxis (L.axis job)
+        → OnOk result (L.serves line.new job) × ((w chunk : ℕ) (before : List Action) → KeepsText (L.axis job) w chunk before written.old
+        → KeepsOrStops (L.axis job) w chunk (before ++ writes) result written.new)) (H.seen io.old) result (H.seen io.new) }
+{
+    'parts: for _ in 0..u64::MAX {
+        match line.take() {
+            Taken::Empty => return Ok(false),
+            Taken::Whole => return Ok(true),
+            Taken::Part(part) => {
+                if let Err(fault) = write_part(io, &part, written) {
+                    return Err(fault);
+                }
+            }
+        }
+    }
+    Ok(false)
+}
+
+/// Reads a piece where none is held and fewer than `bound` bytes were given and are not written.
+fn read_on<H: Io, L: Line, S: PieceSource<H, L>>(
+    io: &mut H,
+    reader: &mut S,
+    written: &Written,
+    bound: u64,
+    input: Input,
+) -> Result<Input, Fault>
+    requires suits { S.suits reader.old (H.seen io.old) }
+    requires fits { HoldsFitting input }
+    ensures suits { OnOk result (S.suits reader.new (H.seen io.new)) }
+    ensures chunk { S.chunk reader.new ≡ S.chunk reader.old }
+    ensures fits { IfOk result HoldsFitting }
+    ensures failed { IfErr result (S.failed reader.new) }
+    ensures reads { ReadsFor (S.did reader.old reader.new) (λ events. (job : L.Job) → S.reads reader.old job (H.seen io.old) → EndsEachRow (L.axis job)
+        → ReadsInTime (L.axis job) (bound + (L.axis job).longest) (S.chunk reader.old) (S.asked reader.old) written.now.next result (S.asked reader.new) events) (H.seen io.old) (H.seen io.new) }
+    ensures input { (job : L.Job) → S.reads reader.old job (H.seen io.old) → FitsInput (L.axis job) (L.is_piece job) (S.given reader.old) input
+        → GivesInput (L.axis job) (L.is_piece job) (L.is_due job) (S.reads reader.new job (H.seen io.new)) (S.given reader.new) result }
+{
+    let Input::Reading = input else {
+        return Ok(input);
+    };
+    if reader.given().saturating_sub(written.next) >= bound {
+        return Ok(Input::Reading);
+    }
+    match reader.next(io) {
+        Err(fault) => Err(fault),
+        Ok(None) => Ok(Input::Ended),
+        Ok(Some(piece)) => Ok(Input::Holding(piece)),
+    }
+}
+
+/// Feeds the piece that is held, where the line has room; closes the line at the end of the input.
+fn feed_on<L: Line>(line: &mut L, input: Input) -> Input
+    requires fits { HoldsFitting input }
+    ensures fits { HoldsFitting result }
+    ensures input { (job : L.Job) → L.serves line.old job → (given : ℕ) → FitsInput (L.axis job) (L.is_piece job) given input
+        → L.serves line.new job × FitsInput (L.axis job) (L.is_piece job) given result }
+{
+    match input {
+        Input::Reading => Input::Reading,
+        Input::Ended => {
+            line.close();
+            Input::Ended
+        }
+        Input::Holding(piece) => match line.feed(piece) {
+            Ok(()) => Input::Reading,
+            Err(piece) => Input::Holding(piece),
+        },
+    }
+}
+
+/// The answer where the line has ended: the number of rows that were written, where they are those of all the input.
+fn end(given: u64, input: &Input, written: &Written) -> Result<u64, Fault>
+    ensures { EndsWith given input.now written.now result }
+{
+    match input {
+        Input::Ended if written.next == given => Ok(written.rows),
+        _ => Err(Fault::OutOfMemory),
+    }
+}
+
+/// Reads the input of a line, feeds it, and writes what comes out; answers how many rows were written.
+///
+/// The sink is made, and what comes before its first row is written. No read is made while `bound` bytes or more were given and
+/// are not written.
+pub fn drive<H: Io, L: Line, S: PieceSource<H, L>>(
+    io: &mut H,
+    reader: &mut S,
+    line: &mut L,
+    bound: u64,
+) -> Result<u64, Fault>
+    requires made { 0 < (H.seen io.old).sinks }
+    requires suits { S.suits reader.old (H.seen io.old) }
+    requires given { S.given reader.old ≡ 0 }
+    requires asked { S.asked reader.old ≡ 0 }
+    ensures { Drives (S.did reader.old reader.new) (S.failed reader.new) (L.broke line.new) (λ actions. (job : L.Job)
+        → S.reads reader.old job (H.seen io.old) → L.serves line.old job → IsSoundAxis (L.axis job)
+        → DrivesAxis (L.axis job) (L.is_due job) (bound + (L.axis job).longest) (S.chunk reader.old) actions result)
+        (H.seen io.old) result (H.seen io.new) }
+{
+    let mut written = Written {
+        next: 0,
+        begun: 0,
+        rows: 0,
+    };
+    let mut input = Input::Reading;
+    'turns: for _ in 0..u64::MAX {
+        input = match read_on(io, reader, &written, bound, input) {
+            Ok(input) => input,
+            Err(fault) => return Err(fault),
+        };
+        input = feed_on(line, input);
+        if let Err(fault) = line.step() {
+            return Err(fault);
+        }
+        let whole = match write_on(io, line, &mut written) {
+            Ok(whole) => whole,
+            Err(fault) => return Err(fault),
+        };
+        if whole {
+            return end(reader.given(), &input, &written);
+        }
+    }
+    // No run makes so many turns.
+    Err(Fault::OutOfMemory)
+}

@@ -1,0 +1,127 @@
+//! What the caller asks of a reader and of a line of tasks.
+//!
+//! What contracts say of the rows, they say for each job: what a line is for, given what the files contain. Where nothing tells
+//! that, there is no job that a reader reads, and they say nothing.
+ghost use Rattle.std.specs.Prelude.{◌≡◌};
+
+use morsel_meaning::Fault;
+use morsel_outside::Io;
+use morsel_pipe::{Encoded, RawPiece};
+
+/// What a line has to take out.
+#[derive(Debug, Drop)]
+pub enum Taken {
+    /// The next part of the text.
+    Part(Encoded),
+    /// There is none yet.
+    Empty,
+    /// All was taken, and no more comes.
+    Whole,
+}
+
+/// A line of tasks, from the pieces of a scan to the text of rows.
+pub trait Line {
+    ghost use Rattle.std.specs.Prelude.{IfErr, OnOk};
+    ghost use Rattle.morsel_meaning.specs.declared.fault.Fault.{Fault};
+    ghost use Rattle.morsel_pipe.specs.Pieces.{Piece};
+    ghost use Rattle.morsel_scan.specs.CsvScans.{FitsScan};
+    ghost use Rattle.morsel_scan.specs.Ahead.{Axis};
+    ghost use Rattle.morsel_drive.specs.Lines.{IfPart, SuitsPart, IsDue};
+
+    /// What a line is for. Contracts alone see it.
+    type Job;
+
+    /// What each place of the input gives at the end of the line.
+    ghost axis: { Self.Job → Axis };
+
+    /// The piece is one of the input.
+    ghost is_piece: { Self.Job → Piece → Type 0 };
+
+    /// The fault is due: by a record, or a row, or by what the files are.
+    ghost is_due: { Self.Job → Fault → Type 0 };
+
+    /// The line is for this job, and all that it was fed is of its input.
+    ghost serves: { Self → Self.Job → Type 0 };
+
+    /// The line has ended with this fault.
+    ghost broke: { Self → Fault → Type 0 };
+
+    /// Feeds a piece, or hands it back where there is no room.
+    fn feed(&mut self, piece: RawPiece) -> Result<(), RawPiece>
+        requires fits { FitsScan piece }
+        ensures serves { (job : Self.Job) → serves self.old job → is_piece job piece → serves self.new job }
+        ensures back { IfErr result (λ back. back ≡ piece) };
+
+    /// Says that no piece follows.
+    fn close(&mut self)
+        ensures serves { (job : Self.Job) → serves self.old job → serves self.new job };
+
+    /// Lets each task that can run do so.
+    fn step(&mut self) -> Result<(), Fault>
+        ensures serves { (job : Self.Job) → serves self.old job → OnOk result (serves self.new job) }
+        ensures broke { IfErr result (broke self.new) }
+        ensures due { (job : Self.Job) → serves self.old job → IfErr result (IsDue (is_due job)) };
+
+    /// Takes a part out.
+    fn take(&mut self) -> Taken
+        ensures serves { (job : Self.Job) → serves self.old job → serves self.new job }
+        ensures suits { (job : Self.Job) → serves self.old job → IfPart result (SuitsPart (axis job)) };
+}
+
+/// The reader of the pieces of a scan that go into a line.
+pub trait PieceSource<H: Io, L: Line> {
+    ghost use Rattle.std.specs.Prelude.{ℕ, List, [], ◌++◌, OnOk, IfErr};
+    ghost use Rattle.morsel_meaning.specs.declared.fault.Fault.{Fault};
+    ghost use Rattle.morsel_outside.specs.Outside.{Outside};
+    ghost use Rattle.morsel_outside.specs.Actions.{Action};
+    ghost use Rattle.morsel_drive.specs.Lines.{GivesFitting, GivesNext, SeeksFor, ReadsFor};
+
+    /// The reader is one of this outside, between two calls.
+    ghost suits: { Self → Outside → Type 0 };
+
+    /// What the files contain is told, the reader reads the input of this job, and gave what its places before `given` give.
+    ghost reads: { Self → L.Job → Outside → Type 0 };
+
+    /// The place where the last piece's stretch ends.
+    ghost given: { Self → ℕ };
+
+    /// How many bytes of the sources were asked.
+    ghost asked: { Self → ℕ };
+
+    /// How many bytes a read asks at most.
+    ghost chunk: { Self → ℕ };
+
+    /// Calls that took the reader from one state to another did this.
+    ghost did: { Self → Self → List Action → Type 0 };
+
+    /// The reader answered this fault.
+    ghost failed: { Self → Fault → Type 0 };
+
+    /// The next piece; `None` at the end.
+    fn next(&mut self, io: &mut H) -> Result<Option<RawPiece>, Fault>
+        requires suits { suits self.old (H.seen io.old) }
+        ensures suits { OnOk result (suits self.new (H.seen io.new)) }
+        ensures same { chunk self.new ≡ chunk self.old }
+        ensures fits { GivesFitting result }
+        ensures failed { IfErr result (failed self.new) }
+        ensures reads { ReadsFor (did self.old self.new) (λ events. (job : L.Job) → reads self.old job (H.seen io.old)
+            → SeeksFor (L.axis job) (chunk self.old) (given self.old) (asked self.old) result (asked self.new) events) (H.seen io.old) (H.seen io.new) }
+        ensures piece { (job : L.Job) → reads self.old job (H.seen io.old)
+            → GivesNext (L.axis job) (L.is_piece job) (L.is_due job) (reads self.new job (H.seen io.new)) (given self.old) result (given self.new) };
+
+    /// The place where the last piece's stretch ends.
+    fn given(&self) -> u64
+        ensures { result ≡ given self.now };
+
+    /// Neither counts of faults nor sinks are its matter.
+    ghost suits_on: { (reader : Self) (old new : Outside) → new.sizes ≡ old.sizes → suits reader old → suits reader new };
+
+    /// It reads on over the same files.
+    ghost reads_on: { (reader : Self) (job : L.Job) (old new : Outside) → new.sizes ≡ old.sizes → new.held ≡ old.held → reads reader job old → reads reader job new };
+
+    /// No call did nothing.
+    ghost did_nothing: { (reader : Self) → did reader reader [] };
+
+    /// Calls after others did what these did, and then their own.
+    ghost did_on: { (first between last : Self) (old more : List Action) → did first between old → did between last more → did first last (old ++ more) };
+}

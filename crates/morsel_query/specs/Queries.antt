@@ -1,0 +1,61 @@
+-- What a query asks: scans of files, and a sink.
+use Rattle.std.specs.Prelude.{ℕ, Option, List, map}
+use Rattle.morsel_meaning.specs.declared.value.Field.{Field}
+use Rattle.morsel_grammar.specs.Options.{Options}
+use Rattle.morsel_expr.specs.declared.node.PredNode.{PredNode}
+use Rattle.morsel_grammar.specs.Reading.{chosen}
+use Rattle.morsel_scan.specs.Scans.{FileOptions, Scan}
+use Rattle.morsel_scan.specs.ScanColumns.{is_kept}
+use Rattle.morsel_scan.specs.declared.spec.ScanFormat.{ScanFormat}
+use Rattle.morsel_scan.specs.declared.spec.ScanFormat.TheVariants as formats
+use Rattle.morsel_scan.specs.declared.spec.ScanSpec.{ScanSpec}
+use Rattle.morsel_query.specs.declared.sink.SinkSpec.{SinkSpec}
+
+-- the format of files, with what has to be told to read them
+pub data FileFormat : Type 0 where
+  CsvFiles : List Field → Options → FileFormat
+
+-- files, and what is asked of their rows
+pub record FileScan : Type 0 where
+  pub sources : List (List ℕ)  -- the names of the files, in the order of their rows
+  pub format : FileFormat
+  pub asked : FileOptions  -- what is asked of their rows
+  pub filter : Option PredNode  -- the predicate of the rows that are kept, over the row index, the columns and the path
+
+-- what a query is made of
+pub record QueryParts : Type 0 where
+  pub left : FileScan
+  pub sink : SinkSpec
+
+-- the format of a scan, as contracts see it
+abbrev pub file_format : ScanFormat → FileFormat
+file_format (formats.Csv schema options) = CsvFiles schema options
+
+-- a scan, as contracts see it
+abbrev pub file_scan : ScanSpec → FileScan
+file_scan spec = record {
+  sources = spec.sources.items;
+  format = file_format spec.format;
+  asked = spec.file_options;
+  filter = spec.filter;
+}
+
+-- a query of these parts, as contracts see it
+abbrev pub query_parts : ScanSpec → SinkSpec → QueryParts
+query_parts left sink = record { left = file_scan left; sink = sink }
+
+-- the columns of files whose format has them
+abbrev pub fields_of_format : FileFormat → List Field
+fields_of_format (CsvFiles fields options) = fields
+
+-- what is asked of the rows of files with these columns
+abbrev pub scan_over : List Field → FileOptions → Option PredNode → Scan
+scan_over fields asked filter = record { fields = fields; asked = asked; filter = filter }
+
+-- what is asked of the rows of files with the columns that their format has
+abbrev pub scan_of : FileScan → Scan
+scan_of files = scan_over (fields_of_format files.format) files.asked files.filter
+
+-- the fields that a choice of columns keeps; all where it names none
+abbrev pub kept_fields : List (List ℕ) → List Field → List Field
+kept_fields columns fields = chosen (map (λ (field : Field). is_kept columns field.name) fields) fields
