@@ -7,7 +7,7 @@ use Rattle.std.specs.Int.{bit_at}
 use Rattle.std.specs.Int.RustNames.{bit_and, bit_or, bit_xor}
 use Rattle.std.specs.Simd.Lanes.{mask_l}
 use Rattle.std.specs.Prelude.{if◌then◌else◌}
-use Rattle.morsel_grammar.specs.Options.{Options, AreOptions}
+use Rattle.morsel_grammar.specs.Dialect.{Dialect, IsDialect}
 use Rattle.morsel_grammar.specs.Split.{is_quote}
 use Rattle.morsel_grammar.specs.Machine.{CutPlace, AfterMark, AfterEol, AfterSeparator, InPlain, InQuotes, AfterQuote, state_after, place_step, plain_step, is_after_eol}
 use Rattle.morsel_cut.specs.Places.{cut_place, IsOutside}
@@ -18,65 +18,65 @@ use Rattle.morsel_cut.proofs.MarkLemmas.{Is, and_is, or_is, not_is, same_is, has
 use Rattle.morsel_cut.proofs.QuoteLemmas.{Told, turned, told_step, told_after, is_fault, is_sound, ends_told, told_at, tells_at, steps_all, known_place}
 
 -- what is told after so many of the bytes
-abbrev so_far : Options → Told → List ℕ → ℕ → Told
+abbrev so_far : Dialect → Told → List ℕ → ℕ → Told
 so_far o t bytes zero = t
 so_far o t [] (suc k) = t
 so_far o t (b ∷ bs) (suc k) = so_far o (told_step o t b) bs k
 
-abbrev quote_test : Options → ℕ → Bool
+abbrev quote_test : Dialect → ℕ → Bool
 quote_test o b = is_quote o.quote b
 
-abbrev separator_test : Options → ℕ → Bool
+abbrev separator_test : Dialect → ℕ → Bool
 separator_test o b = b == o.separator
 
-abbrev eol_test : Options → ℕ → Bool
+abbrev eol_test : Dialect → ℕ → Bool
 eol_test o b = b == o.eol
 
 -- for each byte, whether it is a fault
-abbrev faults : Options → Told → List ℕ → List Bool
+abbrev faults : Dialect → Told → List ℕ → List Bool
 faults o t [] = []
 faults o t (b ∷ bs) = is_fault o t b ∷ faults o (told_step o t b) bs
 
-inside_next : (o : Options) (t : Told) (bytes : List ℕ) (k : ℕ) → (so_far o t bytes (suc k)).inside ≡ turned (has (quote_test o) bytes k) (so_far o t bytes k).inside
+inside_next : (o : Dialect) (t : Told) (bytes : List ℕ) (k : ℕ) → (so_far o t bytes (suc k)).inside ≡ turned (has (quote_test o) bytes k) (so_far o t bytes k).inside
 inside_next o t [] zero = refl
 inside_next o t [] (suc k) = refl
 inside_next o t (b ∷ bs) zero = refl
 inside_next o t (b ∷ bs) (suc k) = inside_next o (told_step o t b) bs k
 
-before_next : (o : Options) (t : Told) (bytes : List ℕ) (k : ℕ) → k < length bytes
+before_next : (o : Dialect) (t : Told) (bytes : List ℕ) (k : ℕ) → k < length bytes
     → (so_far o t bytes (suc k)).before ≡ ((has (separator_test o) bytes k || has (eol_test o) bytes k) || has (quote_test o) bytes k)
 before_next o t [] k below = absurd (omega arith)
 before_next o t (b ∷ bs) zero below = refl
 before_next o t (b ∷ bs) (suc k) below = before_next o (told_step o t b) bs k (omega arith)
 
-closed_next : (o : Options) (t : Told) (bytes : List ℕ) (k : ℕ) → k < length bytes
+closed_next : (o : Dialect) (t : Told) (bytes : List ℕ) (k : ℕ) → k < length bytes
     → (so_far o t bytes (suc k)).closed ≡ (has (quote_test o) bytes k && not (so_far o t bytes (suc k)).inside)
 closed_next o t [] k below = absurd (omega arith)
 closed_next o t (b ∷ bs) zero below = refl
 closed_next o t (b ∷ bs) (suc k) below = closed_next o (told_step o t b) bs k (omega arith)
 
-ended_at : (o : Options) (t : Told) (bytes : List ℕ) (k : ℕ) → (has (eol_test o) bytes k && not (so_far o t bytes (suc k)).inside) ≡ get_or (ends_told o t.inside bytes) k false
+ended_at : (o : Dialect) (t : Told) (bytes : List ℕ) (k : ℕ) → (has (eol_test o) bytes k && not (so_far o t bytes (suc k)).inside) ≡ get_or (ends_told o t.inside bytes) k false
 ended_at o t [] zero = refl
 ended_at o t [] (suc k) = refl
 ended_at o t (b ∷ bs) zero = refl
 ended_at o t (b ∷ bs) (suc k) = ended_at o (told_step o t b) bs k
 
-fault_at : (o : Options) (t : Told) (bytes : List ℕ) (k : ℕ) → k < length bytes
+fault_at : (o : Dialect) (t : Told) (bytes : List ℕ) (k : ℕ) → k < length bytes
     → ((has (quote_test o) bytes k && (so_far o t bytes (suc k)).inside && not (so_far o t bytes k).before)
     || ((so_far o t bytes k).closed && not ((has (separator_test o) bytes k || has (eol_test o) bytes k) || has (quote_test o) bytes k))) ≡ get_or (faults o t bytes) k false
 fault_at o t [] k below = absurd (omega arith)
 fault_at o t (b ∷ bs) zero below = refl
 fault_at o t (b ∷ bs) (suc k) below = fault_at o (told_step o t b) bs k (omega arith)
 
-told_all : (o : Options) (t : Told) (bytes : List ℕ) → so_far o t bytes (length bytes) ≡ told_after o t bytes
+told_all : (o : Dialect) (t : Told) (bytes : List ℕ) → so_far o t bytes (length bytes) ≡ told_after o t bytes
 told_all o t [] = refl
 told_all o t (b ∷ bs) = told_all o (told_step o t b) bs
 
-length_ends : (o : Options) (inside : Bool) (bytes : List ℕ) → length (ends_told o inside bytes) ≡ length bytes
+length_ends : (o : Dialect) (inside : Bool) (bytes : List ℕ) → length (ends_told o inside bytes) ≡ length bytes
 length_ends o inside [] = refl
 length_ends o inside (b ∷ bs) = ap suc (length_ends o (turned (is_quote o.quote b) inside) bs)
 
-length_faults : (o : Options) (t : Told) (bytes : List ℕ) → length (faults o t bytes) ≡ length bytes
+length_faults : (o : Dialect) (t : Told) (bytes : List ℕ) → length (faults o t bytes) ≡ length bytes
 length_faults o t [] = refl
 length_faults o t (b ∷ bs) = ap suc (length_faults o (told_step o t b) bs)
 
@@ -94,7 +94,7 @@ num_small : (t : Bool) → (0 + cond t 1 0) % 2 ≡ cond t 1 0
 num_small true = refl
 num_small false = refl
 
-parity : (o : Options) (t : Told) (bytes : List ℕ) (quotes : ℕ) → quotes ≡ mask_l (map (quote_test o) bytes) → (k : ℕ)
+parity : (o : Dialect) (t : Told) (bytes : List ℕ) (quotes : ℕ) → quotes ≡ mask_l (map (quote_test o) bytes) → (k : ℕ)
     → (ones_below quotes k + cond t.inside 1 0) % 2 ≡ cond (so_far o t bytes k).inside 1 0
 parity o t bytes quotes is zero = num_small t.inside
 parity o t bytes quotes is (suc k) =
@@ -111,7 +111,7 @@ mod_sum : (a b : ℕ) → (a % 2 + b) % 2 ≡ (a + b) % 2
 mod_sum a b = omega arith
 
 -- the prefix xor of the quotes, turned where the bytes before them end inside quotes
-inside_is : (o : Options) (t : Told) (bytes : List ℕ) (quotes ladder all : ℕ) → quotes ≡ mask_l (map (quote_test o) bytes)
+inside_is : (o : Dialect) (t : Told) (bytes : List ℕ) (quotes ladder all : ℕ) → quotes ≡ mask_l (map (quote_test o) bytes)
     → ((k : ℕ) → k < 64 → bit_at ladder k ≡ ones_below quotes (k + 1) % 2) → all ≡ cond t.inside 18446744073709551615 0
     → (k : ℕ) → k < 64 → Is (bit_xor ladder all) k (so_far o t bytes (suc k)).inside
 inside_is o t bytes quotes ladder all is ladder_is all_is k below = record {
@@ -127,7 +127,7 @@ none_set : (t : Bool) (m : ℕ) → cond t 1 0 + 2 * m ≡ 0 → (t ≡ false) �
 none_set true m none = absurd (omega arith)
 none_set false m none = (refl, omega arith)
 
-sound_mask : (o : Options) (t : Told) (bytes : List ℕ) → mask_l (faults o t bytes) ≡ 0 → is_sound o t bytes ≡ true
+sound_mask : (o : Dialect) (t : Told) (bytes : List ℕ) → mask_l (faults o t bytes) ≡ 0 → is_sound o t bytes ≡ true
 sound_mask o t [] none = refl
 sound_mask o t (b ∷ bs) none =
     let parts = none_set (is_fault o t b) (mask_l (faults o (told_step o t b) bs)) none in
@@ -144,7 +144,7 @@ top_is m t fits is =
     ap (λ (n : ℕ). eqb n 1) (whole ∙ is.bit) ∙ num_is_one t
 
 -- the masks of 64 bytes: of separators, of eol bytes, of quotes; which bytes are in quotes, which may be opening quotes and which follow closing ones
-pub record AreMasks (o : Options) (t : Told) (bytes : List ℕ) (separators eols quotes turns opening following : ℕ) : Type 0 where
+pub record AreMasks (o : Dialect) (t : Told) (bytes : List ℕ) (separators eols quotes turns opening following : ℕ) : Type 0 where
   pub size : length bytes ≡ 64
   pub separators_are : separators ≡ mask_l (map (separator_test o) bytes)
   pub eols_are : eols ≡ mask_l (map (eol_test o) bytes)
@@ -161,7 +161,7 @@ pub record AreMasks (o : Options) (t : Told) (bytes : List ℕ) (separators eols
   pub fits_opening : opening < 2 ^ 64
   pub fits_following : following < 2 ^ 64
 
-faults_found : (o : Options) (t : Told) (bytes : List ℕ) (separators eols quotes turns opening following : ℕ) → AreMasks o t bytes separators eols quotes turns opening following
+faults_found : (o : Dialect) (t : Told) (bytes : List ℕ) (separators eols quotes turns opening following : ℕ) → AreMasks o t bytes separators eols quotes turns opening following
     → bit_or (bit_and (bit_and quotes turns) (18446744073709551615 - opening)) (bit_and following (18446744073709551615 - bit_or (bit_or separators eols) quotes)) ≡ 0
     → is_sound o t bytes ≡ true
 faults_found o t bytes separators eols quotes turns opening following masks none =
@@ -182,11 +182,11 @@ faults_found o t bytes separators eols quotes turns opening following masks none
         (or_is (and_is (and_is quote_is (masks.turns_are k below)) (not_is masks.fits_opening below open_is)) (and_is follow_is (not_is fits_near below (near_at k)))) in
         record { bit = ap (λ (x : ℕ). bit_at x k) (sym none) ∙ all.bit }
 
-told_last : (o : Options) (t : Told) (bytes : List ℕ) → length bytes ≡ 64 → so_far o t bytes 64 ≡ told_after o t bytes
+told_last : (o : Dialect) (t : Told) (bytes : List ℕ) → length bytes ≡ 64 → so_far o t bytes 64 ≡ told_after o t bytes
 told_last o t bytes size = ap (so_far o t bytes) (sym size) ∙ told_all o t bytes
 
 -- what the bytes do
-pub quoted_does : (o : Options) (p : CutPlace) (place : ByteAt) (bytes : List ℕ) (separators eols quotes turns opening following : ℕ) → AreOptions o → IsAmongFields p
+pub quoted_does : (o : Dialect) (p : CutPlace) (place : ByteAt) (bytes : List ℕ) (separators eols quotes turns opening following : ℕ) → IsDialect o → IsAmongFields p
     → AreMasks o (told_at p) bytes separators eols quotes turns opening following
     → bit_or (bit_and (bit_and quotes turns) (18446744073709551615 - opening)) (bit_and following (18446744073709551615 - bit_or (bit_or separators eols) quotes)) ≡ 0
     → cut_place place ≡ (if eqb (turns / 9223372036854775808) 1 then InQuotes
@@ -215,7 +215,7 @@ quoted_does o p place bytes separators eols quotes turns opening following fit a
           ∙ ap mask_l all.ends;
     }
 
-pub masks_are : (o : Options) (p : CutPlace) (bytes : List ℕ) (separators eols quotes ladder all opening following : ℕ) (in_quotes_is after_quote_is before_is : Bool) → length bytes ≡ 64
+pub masks_are : (o : Dialect) (p : CutPlace) (bytes : List ℕ) (separators eols quotes ladder all opening following : ℕ) (in_quotes_is after_quote_is before_is : Bool) → length bytes ≡ 64
     → separators ≡ mask_l (map (λ (b : ℕ). b == o.separator) bytes) → eols ≡ mask_l (map (λ (b : ℕ). b == o.eol) bytes) → quotes ≡ mask_l (map (is_quote o.quote) bytes)
     → ((k : ℕ) → k < 64 → bit_at ladder k ≡ ones_below quotes (k + 1) % 2) → all ≡ (if in_quotes_is then 18446744073709551615 else 0) → in_quotes_is ≡ is_in_quotes p
     → bit_at opening 0 ≡ (if before_is then 1 else 0) → before_is ≡ not (is_in_plain p)
@@ -244,7 +244,7 @@ masks_are o p bytes separators eols quotes ladder all opening following in_quote
     }
 
 -- 64 bytes without a quote, outside quotes
-tests_outside : (o : Options) (place : CutPlace) (bytes : List ℕ) → AreOptions o → IsOutside place → AreUnquoted o.quote bytes
+tests_outside : (o : Dialect) (place : CutPlace) (bytes : List ℕ) → IsDialect o → IsOutside place → AreUnquoted o.quote bytes
     → tests_after (place_step o) is_after_eol place bytes ≡ map (λ (b : ℕ). b == o.eol) bytes
 tests_outside o place [] fit outside unquoted = refl
 tests_outside o place (b ∷ bs) fit outside unquoted =
@@ -260,7 +260,7 @@ outside_among AfterSeparator outside = tt
 outside_among InPlain outside = tt
 outside_among place outside = absurd outside
 
-pub plain_does : (o : Options) (p : CutPlace) (place : ByteAt) (bytes : List ℕ) (quotes eols : ℕ) → AreOptions o → IsOutside p → length bytes ≡ 64
+pub plain_does : (o : Dialect) (p : CutPlace) (place : ByteAt) (bytes : List ℕ) (quotes eols : ℕ) → IsDialect o → IsOutside p → length bytes ≡ 64
     → quotes ≡ mask_l (map (is_quote o.quote) bytes) → quotes ≡ 0 → eols ≡ mask_l (map (λ (b : ℕ). b == o.eol) bytes)
     → cut_place place ≡ plain_step o (get_or bytes 63 0) → DoesBlock o p bytes (record { ends = eols; place = place })
 plain_does o p place bytes quotes eols fit outside size is_q none is_e place_is =
@@ -272,29 +272,29 @@ plain_does o p place bytes quotes eols fit outside size is_q none is_e place_is 
     }
 
 -- for each byte, whether a record begins with it that begins as a blank one
-abbrev blank_marks : Options → CutPlace → List ℕ → List Bool
+abbrev blank_marks : Dialect → CutPlace → List ℕ → List Bool
 blank_marks o p [] = []
 blank_marks o p (b ∷ bs) = (is_after_eol p && (b == o.eol || b == 13)) ∷ blank_marks o (place_step o p b) bs
 
-blank_at : (o : Options) (p : CutPlace) (bytes : List ℕ) (k : ℕ) → k < length bytes
+blank_at : (o : Dialect) (p : CutPlace) (bytes : List ℕ) (k : ℕ) → k < length bytes
     → (get_or (is_after_eol p ∷ tests_after (place_step o) is_after_eol p bytes) k false && (has (eol_test o) bytes k || has (λ (b : ℕ). b == 13) bytes k))
     ≡ get_or (blank_marks o p bytes) k false
 blank_at o p [] k below = absurd (omega arith)
 blank_at o p (b ∷ bs) zero below = refl
 blank_at o p (b ∷ bs) (suc k) below = blank_at o (place_step o p b) bs k (omega arith)
 
-length_blanks : (o : Options) (p : CutPlace) (bytes : List ℕ) → length (blank_marks o p bytes) ≡ length bytes
+length_blanks : (o : Dialect) (p : CutPlace) (bytes : List ℕ) → length (blank_marks o p bytes) ≡ length bytes
 length_blanks o p [] = refl
 length_blanks o p (b ∷ bs) = ap suc (length_blanks o (place_step o p b) bs)
 
-no_blank : (o : Options) (p : CutPlace) (bytes : List ℕ) → mask_l (blank_marks o p bytes) ≡ 0 → has_blank o p bytes ≡ false
+no_blank : (o : Dialect) (p : CutPlace) (bytes : List ℕ) → mask_l (blank_marks o p bytes) ≡ 0 → has_blank o p bytes ≡ false
 no_blank o p [] none = refl
 no_blank o p (b ∷ bs) none =
     let parts = none_set (is_after_eol p && (b == o.eol || b == 13)) (mask_l (blank_marks o (place_step o p b) bs)) none in
     ap₂ (λ (t u : Bool). t || u) parts.0 (no_blank o (place_step o p b) bs parts.1)
 
 -- no bit of those that begin a record is one of a blank
-pub without_blanks : (o : Options) (p : CutPlace) (bytes : List ℕ) (ends begins eols returns : ℕ) (first : Bool) → length bytes ≡ 64
+pub without_blanks : (o : Dialect) (p : CutPlace) (bytes : List ℕ) (ends begins eols returns : ℕ) (first : Bool) → length bytes ≡ 64
     → ends ≡ mask_l (tests_after (place_step o) is_after_eol p bytes) → first ≡ is_after_eol p → bit_at begins 0 ≡ (if first then 1 else 0)
     → ((k : ℕ) → k + 1 < 64 → bit_at begins (k + 1) ≡ bit_at ends k)
     → eols ≡ mask_l (map (λ (b : ℕ). b == o.eol) bytes) → returns ≡ mask_l (map (λ (b : ℕ). b == 13) bytes)

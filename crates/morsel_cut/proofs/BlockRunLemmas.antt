@@ -4,7 +4,7 @@ use Rattle.std.proofs.lemmas.List.{length-take-le, take_rest, take-append-drop, 
 use Rattle.std.proofs.Math.Seq.{take-add}
 use Rattle.std.specs.Prelude.{if◌then◌else◌}
 use Rattle.std.specs.Int.RustNames.{count_ones}
-use Rattle.morsel_grammar.specs.Options.{Options}
+use Rattle.morsel_grammar.specs.Dialect.{Dialect}
 use Rattle.morsel_grammar.specs.Split.{is_quote}
 use Rattle.morsel_grammar.specs.Machine.{CutPlace, AtOpening, InMarkOne, InMarkTwo, AfterMark, AfterEol, AfterSeparator, InPlain, InQuotes, AfterQuote, AfterReturn, InComment, BrokenQuote, state_after, last_place, place_or_later, joined_place, place_step, first_step, plain_step, closed_step, is_after_eol, begins_record}
 use Rattle.morsel_grammar.proofs.StateLemmas.{state_after-append, last_place-append, last_place-within, last_place-holds, last_place-none_later}
@@ -33,18 +33,18 @@ later_either : (t : Bool) (a b : CutPlace) → IsLater a → IsLater b → IsLat
 later_either true a b first other = first
 later_either false a b first other = other
 
-plain_later : (o : Options) (b : ℕ) → IsLater (plain_step o b)
+plain_later : (o : Dialect) (b : ℕ) → IsLater (plain_step o b)
 plain_later o b = later_either (b == o.separator) AfterSeparator _ (tt, refl) (later_either (b == o.eol) AfterEol InPlain (tt, refl) (tt, refl))
 
-first_later : (o : Options) (b : ℕ) → IsLater (first_step o b)
+first_later : (o : Dialect) (b : ℕ) → IsLater (first_step o b)
 first_later o b = later_either (is_quote o.quote b) InQuotes (plain_step o b) (tt, refl) (plain_later o b)
 
-closed_later : (o : Options) (b : ℕ) → IsLater (closed_step o b)
+closed_later : (o : Dialect) (b : ℕ) → IsLater (closed_step o b)
 closed_later o b =
     later_either (b == o.separator) AfterSeparator _ (tt, refl) (later_either (b == o.eol) AfterEol _ (tt, refl)
     (later_either (b == 13 && o.eol == 10) AfterReturn BrokenQuote (tt, refl) (tt, refl)))
 
-step_later : (o : Options) (p : CutPlace) (b : ℕ) → IsPastMark p → IsLater (place_step o p b)
+step_later : (o : Dialect) (p : CutPlace) (b : ℕ) → IsPastMark p → IsLater (place_step o p b)
 step_later o AtOpening b past = absurd past
 step_later o InMarkOne b past = absurd past
 step_later o InMarkTwo b past = absurd past
@@ -58,7 +58,7 @@ step_later o AfterReturn b past = later_either (b == o.eol) AfterEol BrokenQuote
 step_later o InComment b past = later_either (b == o.eol) AfterEol InComment (tt, refl) (tt, refl)
 step_later o BrokenQuote b past = (tt, refl)
 
-begins_at_ends : (o : Options) (p : CutPlace) (bytes : List ℕ) → IsPastMark p → last_place (place_step o) begins_record p bytes ≡ last_place (place_step o) is_after_eol p bytes
+begins_at_ends : (o : Dialect) (p : CutPlace) (bytes : List ℕ) → IsPastMark p → last_place (place_step o) begins_record p bytes ≡ last_place (place_step o) is_after_eol p bytes
 begins_at_ends o p [] past = refl
 begins_at_ends o p (b ∷ bs) past =
     let next = step_later o p b past in
@@ -83,13 +83,13 @@ abbrev pub run_to : ByteAt → ℕ → PlaceRun
 run_to place end = record { place = place; end = end; begin = end }
 
 -- up to the highest bit there are as many bits as bytes up to the last end
-last_of_block : (o : Options) (p : CutPlace) (bytes : List ℕ) (block : Block) (highest : ℕ) → DoesBlock o p bytes block → HasBits block.ends highest
+last_of_block : (o : Dialect) (p : CutPlace) (bytes : List ℕ) (block : Block) (highest : ℕ) → DoesBlock o p bytes block → HasBits block.ends highest
     → highest ≡ last_place (place_step o) is_after_eol p bytes
 last_of_block o p bytes block highest does bits =
     same_bits block.ends highest (last_place (place_step o) is_after_eol p bytes) bits
     (subst (λ (m : ℕ). HasBits m (last_place (place_step o) is_after_eol p bytes)) (sym does.ends_are) (last_tests (place_step o) is_after_eol p bytes))
 
-pub block_runs : (o : Options) (p : CutPlace) (bytes : List ℕ) (block : Block) (highest : ℕ) → DoesBlock o p bytes block → HasBits block.ends highest
+pub block_runs : (o : Dialect) (p : CutPlace) (bytes : List ℕ) (block : Block) (highest : ℕ) → DoesBlock o p bytes block → HasBits block.ends highest
     → RunsTo o p bytes (run_to block.place highest)
 block_runs o p bytes block highest does bits =
     let end = last_of_block o p bytes block highest does bits in
@@ -99,7 +99,7 @@ block_runs o p bytes block highest does bits =
       begin_is = end ∙ sym (begins_at_ends o p bytes (among_past p does.begins));
     }
 
-pub blocks_on : (o : Options) (p : CutPlace) (text : List ℕ) (at : ℕ) (place : ByteAt) (end highest next_end : ℕ) (block : Block) → at ≤ length text
+pub blocks_on : (o : Dialect) (p : CutPlace) (text : List ℕ) (at : ℕ) (place : ByteAt) (end highest next_end : ℕ) (block : Block) → at ≤ length text
     → RunsTo o p (take at text) (run_to place end) → DoesBlock o (cut_place place) (take 64 (take (length text - at) (drop at text))) block → HasBits block.ends highest
     → next_end ≡ joined_place end at highest → RunsTo o p (take (at + 64) text) (run_to block.place next_end)
 blocks_on o p text at place end highest next_end block within run does bits next_is =
@@ -149,7 +149,7 @@ either_of : (s t u : Bool) → ((s || t) || u) ≡ (s || (t || u))
 either_of true t u = refl
 either_of false t u = refl
 
-pub has_blank-append : (o : Options) (p : CutPlace) (front back : List ℕ) → has_blank o p (front ++ back) ≡ (has_blank o p front || has_blank o (state_after (place_step o) p front) back)
+pub has_blank-append : (o : Dialect) (p : CutPlace) (front back : List ℕ) → has_blank o p (front ++ back) ≡ (has_blank o p front || has_blank o (state_after (place_step o) p front) back)
 has_blank-append o p [] back = refl
 has_blank-append o p (b ∷ front) back =
     ap (λ (t : Bool). (is_after_eol p && (b == o.eol || b == 13)) || t) (has_blank-append o (place_step o p b) front back)
@@ -160,17 +160,17 @@ neither_of true t none = cc
 neither_of false t none = (refl, none)
 
 -- there is one column alone, or no record is blank
-abbrev pub MayCount : Options → ℕ → CutPlace → List ℕ → Type 0
+abbrev pub MayCount : Dialect → ℕ → CutPlace → List ℕ → Type 0
 MayCount o columns p bytes = (columns ≡ 1) ⊎ (has_blank o p bytes ≡ false)
 
-may_both : (o : Options) (columns : ℕ) (p : CutPlace) (front back : List ℕ) → MayCount o columns p front → MayCount o columns (state_after (place_step o) p front) back
+may_both : (o : Dialect) (columns : ℕ) (p : CutPlace) (front back : List ℕ) → MayCount o columns p front → MayCount o columns (state_after (place_step o) p front) back
     → MayCount o columns p (front ++ back)
 may_both o columns p front back (inl one) later = inl one
 may_both o columns p front back (inr none) (inl one) = inl one
 may_both o columns p front back (inr none) (inr more) =
     inr (has_blank-append o p front back ∙ ap (λ (t : Bool). t || has_blank o (state_after (place_step o) p front) back) none ∙ more)
 
-pub may_parts : (o : Options) (columns : ℕ) (p : CutPlace) (front back : List ℕ) → MayCount o columns p (front ++ back)
+pub may_parts : (o : Dialect) (columns : ℕ) (p : CutPlace) (front back : List ℕ) → MayCount o columns p (front ++ back)
     → MayCount o columns p front × MayCount o columns (state_after (place_step o) p front) back
 may_parts o columns p front back (inl one) = (inl one, inl one)
 may_parts o columns p front back (inr none) =
@@ -178,19 +178,19 @@ may_parts o columns p front back (inr none) =
     (inr parts.0, inr parts.1)
 
 -- the records that end in the front of a text
-pub record CountsTo (o : Options) (columns : ℕ) (bytes : List ℕ) (place : ByteAt) (end count : ℕ) : Type 0 where
+pub record CountsTo (o : Dialect) (columns : ℕ) (bytes : List ℕ) (place : ByteAt) (end count : ℕ) : Type 0 where
   pub place_is : cut_place place ≡ state_after (place_step o) AfterEol bytes
   pub end_is : end ≡ last_place (place_step o) is_after_eol AfterEol bytes
   pub count_is : count ≡ count_after (place_step o) is_after_eol AfterEol bytes
   pub may : MayCount o columns AfterEol bytes
 
-pub counts_few : (o : Options) (columns : ℕ) (bytes : List ℕ) (place : ByteAt) (end count : ℕ) → CountsTo o columns bytes place end count → count ≤ end
+pub counts_few : (o : Dialect) (columns : ℕ) (bytes : List ℕ) (place : ByteAt) (end count : ℕ) → CountsTo o columns bytes place end count → count ≤ end
 counts_few o columns bytes place end count counts = omega (arith, counts.end_is, counts.count_is, count_few (place_step o) is_after_eol AfterEol bytes)
 
-pub counts_within : (o : Options) (columns : ℕ) (bytes : List ℕ) (place : ByteAt) (end count : ℕ) → CountsTo o columns bytes place end count → end ≤ length bytes
+pub counts_within : (o : Dialect) (columns : ℕ) (bytes : List ℕ) (place : ByteAt) (end count : ℕ) → CountsTo o columns bytes place end count → end ≤ length bytes
 counts_within o columns bytes place end count counts = omega (arith, counts.end_is, last_place-within (place_step o) is_after_eol AfterEol bytes)
 
-pub counts_on : (o : Options) (columns : ℕ) (text : List ℕ) (at : ℕ) (place : ByteAt) (end count highest next_end next_count : ℕ) (block : Block) → at ≤ length text
+pub counts_on : (o : Dialect) (columns : ℕ) (text : List ℕ) (at : ℕ) (place : ByteAt) (end count highest next_end next_count : ℕ) (block : Block) → at ≤ length text
     → CountsTo o columns (take at text) place end count → DoesBlock o (cut_place place) (take 64 (take (length text - at) (drop at text))) block → HasBits block.ends highest
     → next_end ≡ joined_place end at highest → next_count ≡ count + count_ones block.ends
     → MayCount o columns (cut_place place) (take 64 (take (length text - at) (drop at text)))
@@ -234,7 +234,7 @@ only_after_eol InComment is = cc
 only_after_eol BrokenQuote is = cc
 
 -- those up to the last end
-pub counted_to : (o : Options) (columns : ℕ) (text : List ℕ) (at : ℕ) (place : ByteAt) (end count : ℕ) → at ≤ length text → CountsTo o columns (take at text) place end count
+pub counted_to : (o : Dialect) (columns : ℕ) (text : List ℕ) (at : ℕ) (place : ByteAt) (end count : ℕ) → at ≤ length text → CountsTo o columns (take at text) place end count
     → 0 < end → AreCountedLines o columns (take end text) count
 counted_to o columns text at place end count within counts some =
     let bytes = take at text in
@@ -261,5 +261,5 @@ counted_to o columns text at place end count within counts some =
       blanks = (may_parts o columns AfterEol (take end bytes) (drop end bytes) (subst (MayCount o columns AfterEol) (sym whole) counts.may)).0;
     })
 
-pub counts_nothing : (o : Options) (columns : ℕ) (place : ByteAt) → cut_place place ≡ AfterEol → CountsTo o columns [] place 0 0
+pub counts_nothing : (o : Dialect) (columns : ℕ) (place : ByteAt) → cut_place place ≡ AfterEol → CountsTo o columns [] place 0 0
 counts_nothing o columns place is = record { place_is = is; end_is = refl; count_is = refl; may = inr refl }

@@ -4,7 +4,7 @@ use Rattle.std.proofs.lemmas.List.{drop-drop, take-append-drop}
 use Rattle.std.proofs.lemmas.List.Sums.{sum_by-append, sum_by-cons}
 use Rattle.std.proofs.lemmas.Bool.{eq-eqb}
 use Rattle.std.specs.Prelude.{Option, Some, None, not, ◌||◌, if◌then◌else◌, is_some}
-use Rattle.morsel_grammar.specs.Options.{Options, AreOptions}
+use Rattle.morsel_grammar.specs.Dialect.{Dialect, IsDialect}
 use Rattle.morsel_grammar.specs.Grammar.{CsvRecord, Records}
 use Rattle.morsel_grammar.specs.GrammarRows.{AreWholeRecords}
 use Rattle.morsel_grammar.specs.Split.{comment_body, record_at}
@@ -29,7 +29,7 @@ use Rattle.morsel_cut.proofs.BlankLemmas.{row_at, row_by, blank_no}
 use Rattle.morsel_cut.proofs.BlockRunLemmas.{MayCount, may_parts, neither_of, count_after-append, count_none, none_at_end}
 
 -- the first of records that may be counted is a row
-first_row : (o : Options) (columns : ℕ) (b : ℕ) (bs : List ℕ) → MayCount o columns AfterEol (b ∷ bs) → row_by columns o.eol (b ∷ bs) false ≡ true
+first_row : (o : Dialect) (columns : ℕ) (b : ℕ) (bs : List ℕ) → MayCount o columns AfterEol (b ∷ bs) → row_by columns o.eol (b ∷ bs) false ≡ true
 first_row o columns b bs (inl one) = either_first (columns == 1) (not (is_blank o.eol (b ∷ bs))) (eq-eqb columns 1 one)
 first_row o columns b bs (inr none) =
     let here = neither_of (b == o.eol || b == 13) (has_blank o (place_step o AfterEol b) bs) none in
@@ -37,12 +37,12 @@ first_row o columns b bs (inr none) =
     either_second (columns == 1) (not (is_blank o.eol (b ∷ bs))) (ap not (blank_no o.eol b bs bytes.0 bytes.1))
 
 -- a line and its eol byte, between which no record ends, are one record
-record Line (o : Options) (line rest lines : List ℕ) : Type 0 where
+record Line (o : Dialect) (line rest lines : List ℕ) : Type 0 where
   is : lines ≡ (line ++ o.eol ∷ []) ++ rest
   reaches : state_after (place_step o) AfterEol (line ++ o.eol ∷ []) ≡ AfterEol
   one : count_after (place_step o) is_after_eol AfterEol (line ++ o.eol ∷ []) ≡ 1
 
-one_end : (o : Options) (line : List ℕ) → last_place (place_step o) is_after_eol AfterEol line ≡ 0 → state_after (place_step o) AfterEol (line ++ o.eol ∷ []) ≡ AfterEol
+one_end : (o : Dialect) (line : List ℕ) → last_place (place_step o) is_after_eol AfterEol line ≡ 0 → state_after (place_step o) AfterEol (line ++ o.eol ∷ []) ≡ AfterEol
     → count_after (place_step o) is_after_eol AfterEol (line ++ o.eol ∷ []) ≡ 1
 one_end o line none reaches =
     let step = place_step o in
@@ -51,7 +51,7 @@ one_end o line none reaches =
     let here : count_after step is_after_eol after (o.eol ∷ []) ≡ 1 = ap (λ (p : CutPlace). (if is_after_eol p then 1 else 0) + 0) last in
     omega (arith, here, count_none step is_after_eol AfterEol line none, count_after-append step is_after_eol AfterEol line (o.eol ∷ []))
 
-line_of : (o : Options) (lines rest : List ℕ) → o.comment ≡ None → 0 < length lines → state_after (place_step o) AfterEol lines ≡ AfterEol
+line_of : (o : Dialect) (lines rest : List ℕ) → o.comment ≡ None → 0 < length lines → state_after (place_step o) AfterEol lines ≡ AfterEol
     → EndsAtFirst o (first_state o AfterEol) lines rest → (line : List ℕ) × Line o line rest lines
 line_of o lines rest quiet some ends (inl (line, is, none, reaches)) =
     let start = quiet_start o AfterEol quiet in
@@ -77,7 +77,7 @@ line_of o (b ∷ bs) rest quiet some ends (inr (all, none, may_end)) =
     absurd (let both : true ≡ false = sym yes ∙ no in cc)
 
 -- as many ends as rows
-counted_rows : (o : Options) (columns : ℕ) (records : List CsvRecord) (lines : List ℕ) → AreOptions o → o.comment ≡ None → MayCount o columns AfterEol lines
+counted_rows : (o : Dialect) (columns : ℕ) (records : List CsvRecord) (lines : List ℕ) → IsDialect o → o.comment ≡ None → MayCount o columns AfterEol lines
     → state_after (place_step o) AfterEol lines ≡ AfterEol → AreWholeRecords o lines records → count_after (place_step o) is_after_eol AfterEol lines ≡ row_count columns records
 counted_rows o columns [] lines fit quiet may ends whole = ap (count_after (place_step o) is_after_eol AfterEol) whole
 counted_rows o columns (r ∷ records) [] fit quiet may ends (line, rest, is, first, later) =
@@ -106,16 +106,16 @@ counted_rows o columns (r ∷ records) (b ∷ bs) fit quiet may ends (line, rest
     omega (arith, parts, more, counts, sum_by-cons (λ (x : CsvRecord). cond (is_row columns x) 1 0) r records)
 
 -- what is counted by the bytes of the options
-pub counted_by : (o : Options) (delimiters : Delimiters) (columns : ℕ) (lines : List ℕ) (count : ℕ) → o.comment ≡ None → options_with delimiters o.comment ≡ cut_options o
+pub counted_by : (o : Dialect) (delimiters : Delimiters) (columns : ℕ) (lines : List ℕ) (count : ℕ) → o.comment ≡ None → options_with delimiters o.comment ≡ cut_options o
     → AreCountedLines (delimiter_options delimiters) columns lines count → AreCountedLines o columns lines count
 counted_by o delimiters columns lines count quiet same counted =
     let with_comment : AreCountedLines (options_with delimiters o.comment) columns lines count =
     subst (λ (c : Option (List ℕ)). AreCountedLines (options_with delimiters c) columns lines count) (sym quiet) counted in
-    let cut : AreCountedLines (cut_options o) columns lines count = subst (λ (p : Options). AreCountedLines p columns lines count) same with_comment in
+    let cut : AreCountedLines (cut_options o) columns lines count = subst (λ (p : Dialect). AreCountedLines p columns lines count) same with_comment in
     record { ends = cut.ends; count_is = cut.count_is; blanks = cut.blanks }
 
 -- the rows of the records up to an end, and then those of what follows
-pub takes_lines : (o : Options) (columns : ℕ) (text : List ℕ) (len rows : ℕ) (all : List CsvRecord) → AreOptions o → o.comment ≡ None → AreCountedLines o columns (take len text) rows
+pub takes_lines : (o : Dialect) (columns : ℕ) (text : List ℕ) (len rows : ℕ) (all : List CsvRecord) → IsDialect o → o.comment ≡ None → AreCountedLines o columns (take len text) rows
     → Records o text all → TakesRows o columns text all len rows
 takes_lines o columns text len rows all fit quiet lines are =
     let front = take len text in
@@ -129,7 +129,7 @@ takes_lines o columns text len rows all fit quiet lines are =
     (behind.0, behind.2, omega (arith, parts, rows_are))
 
 -- the row of the first record, if it is one
-pub takes_first : (o : Options) (columns : ℕ) (text : List ℕ) (size rows : ℕ) (test : Bool) (all : List CsvRecord) → AreOptions o → 0 < length text → size ≡ record_size o text
+pub takes_first : (o : Dialect) (columns : ℕ) (text : List ℕ) (size rows : ℕ) (test : Bool) (all : List CsvRecord) → IsDialect o → 0 < length text → size ≡ record_size o text
     → ((r : CsvRecord) (after : List ℕ) → record_at o text ≡ Some (r, after) → test ≡ is_row columns r) → rows ≡ (if test then 1 else 0)
     → Records o text all → TakesRows o columns text all size rows
 takes_first o columns text size rows test [] fit some size_is test_is rows_is are = let none : length text ≡ 0 = ap length are in absurd (omega arith)
@@ -142,7 +142,7 @@ takes_first o columns text size rows test (r ∷ all) fit some size_is test_is r
     )
 
 -- one step of a count
-pub counts_more : (o : Options) (columns : ℕ) (bytes rest : List ℕ) (at len rows more : ℕ) (records : List CsvRecord) → rest ≡ drop at bytes → HasCounted o columns bytes at rows records
+pub counts_more : (o : Dialect) (columns : ℕ) (bytes rest : List ℕ) (at len rows more : ℕ) (records : List CsvRecord) → rest ≡ drop at bytes → HasCounted o columns bytes at rows records
     → ((all : List CsvRecord) → Records o rest all → TakesRows o columns rest all len more) → HasCounted o columns bytes (at + len) (rows + more) records
 counts_more o columns bytes rest at len rows more records rest_is has takes =
     let taken = takes has.left (subst (λ (x : List ℕ). Records o x has.left) (sym rest_is) has.are) in

@@ -1,7 +1,7 @@
 -- Quotes told by their number: where each stands as it mostly does, what is told of a byte is what the machine knows of it.
 use Rattle.std.proofs.Common.{◌≡◌, ℕ, zero, suc, ◌∙◌, sym, ap, ap₂, refl, arith, subst, Bool, true, false, not, ◌&&◌, ◌||◌, ◌==◌, List, [], ◌∷◌, length, get_or}
 use Rattle.std.specs.Prelude.{if◌then◌else◌}
-use Rattle.morsel_grammar.specs.Options.{Options, AreOptions}
+use Rattle.morsel_grammar.specs.Dialect.{Dialect, IsDialect}
 use Rattle.morsel_grammar.specs.Split.{is_quote}
 use Rattle.morsel_grammar.specs.Machine.{CutPlace, AfterMark, AfterEol, AfterSeparator, InPlain, InQuotes, AfterQuote, AfterReturn, BrokenQuote, state_after, place_step, plain_step, is_after_eol}
 use Rattle.morsel_cut.specs.Blocks.{is_in_plain, is_in_quotes, is_after_quote, IsAmongFields, tests_after}
@@ -26,22 +26,22 @@ told_by q s e t = record { before = (s || e) || q; inside = turned q t.inside; c
 abbrev fault_by : (is_quote is_separator is_eol : Bool) → Told → Bool
 fault_by q s e t = (q && turned q t.inside && not t.before) || (t.closed && not ((s || e) || q))
 
-abbrev pub told_step : Options → Told → ℕ → Told
+abbrev pub told_step : Dialect → Told → ℕ → Told
 told_step o t b = told_by (is_quote o.quote b) (b == o.separator) (b == o.eol) t
 
-abbrev pub is_fault : Options → Told → ℕ → Bool
+abbrev pub is_fault : Dialect → Told → ℕ → Bool
 is_fault o t b = fault_by (is_quote o.quote b) (b == o.separator) (b == o.eol) t
 
-abbrev pub told_after : Options → Told → List ℕ → Told
+abbrev pub told_after : Dialect → Told → List ℕ → Told
 told_after o t bytes = state_after (told_step o) t bytes
 
 -- no byte is a fault
-abbrev pub is_sound : Options → Told → List ℕ → Bool
+abbrev pub is_sound : Dialect → Told → List ℕ → Bool
 is_sound o t [] = true
 is_sound o t (b ∷ bs) = not (is_fault o t b) && is_sound o (told_step o t b) bs
 
 -- after each byte, whether it is an eol byte outside quotes
-abbrev pub ends_told : Options → Bool → List ℕ → List Bool
+abbrev pub ends_told : Dialect → Bool → List ℕ → List Bool
 ends_told o inside [] = []
 ends_told o inside (b ∷ bs) = (b == o.eol && not (turned (is_quote o.quote b) inside)) ∷ ends_told o (turned (is_quote o.quote b) inside) bs
 
@@ -71,7 +71,7 @@ next_by InQuotes q s e r = if q then AfterQuote else InQuotes
 next_by AfterQuote q s e r = if q then InQuotes else (if s then AfterSeparator else (if e then AfterEol else (if r then AfterReturn else BrokenQuote)))
 next_by place q s e r = if q then InQuotes else plain_by s e
 
-next_is : (o : Options) (p : CutPlace) (b : ℕ) → IsAmongFields p
+next_is : (o : Dialect) (p : CutPlace) (b : ℕ) → IsAmongFields p
     → place_step o p b ≡ next_by p (is_quote o.quote b) (b == o.separator) (b == o.eol) (b == 13 && o.eol == 10)
 next_is o AfterMark b among = refl
 next_is o AfterEol b among = refl
@@ -141,7 +141,7 @@ moves AfterQuote q s e r before among told other apart sound = closed_place q s 
 moves p q s e r before among told other apart sound = absurd among
 
 -- one byte that is no fault
-pub record Steps (o : Options) (p : CutPlace) (t : Told) (b : ℕ) : Type 0 where
+pub record Steps (o : Dialect) (p : CutPlace) (t : Told) (b : ℕ) : Type 0 where
   pub tells : Tells (place_step o p b) (told_step o t b)
   pub ends : (b == o.eol && not (turned (is_quote o.quote b) t.inside)) ≡ is_after_eol (place_step o p b)
   pub last : is_in_quotes (place_step o p b) ≡ false → is_after_quote (place_step o p b) ≡ false → place_step o p b ≡ plain_step o b
@@ -150,7 +150,7 @@ not_both : (s e : Bool) → (s ≡ true → e ≡ false) → (s && e) ≡ false
 not_both true e apart = apart refl
 not_both false e apart = refl
 
-pub steps : (o : Options) (p : CutPlace) (t : Told) (b : ℕ) → AreOptions o → Tells p t → is_fault o t b ≡ false → Steps o p t b
+pub steps : (o : Dialect) (p : CutPlace) (t : Told) (b : ℕ) → IsDialect o → Tells p t → is_fault o t b ≡ false → Steps o p t b
 steps o p t b fit tells sound =
     let q = is_quote o.quote b in
     let s = b == o.separator in
@@ -173,7 +173,7 @@ steps o p t b fit tells sound =
     }
 
 -- bytes that are no faults
-pub record StepsAll (o : Options) (p : CutPlace) (t : Told) (bytes : List ℕ) : Type 0 where
+pub record StepsAll (o : Dialect) (p : CutPlace) (t : Told) (bytes : List ℕ) : Type 0 where
   pub tells : Tells (state_after (place_step o) p bytes) (told_after o t bytes)
   pub ends : ends_told o t.inside bytes ≡ tests_after (place_step o) is_after_eol p bytes
   pub last : (n : ℕ) → length bytes ≡ suc n → is_in_quotes (state_after (place_step o) p bytes) ≡ false → is_after_quote (state_after (place_step o) p bytes) ≡ false
@@ -183,7 +183,7 @@ both_so : (t u : Bool) → (not t && u) ≡ true → (t ≡ false) × (u ≡ tru
 both_so true u is = cc
 both_so false u is = (refl, is)
 
-pub steps_all : (o : Options) (p : CutPlace) (t : Told) (bytes : List ℕ) → AreOptions o → Tells p t → is_sound o t bytes ≡ true → StepsAll o p t bytes
+pub steps_all : (o : Dialect) (p : CutPlace) (t : Told) (bytes : List ℕ) → IsDialect o → Tells p t → is_sound o t bytes ≡ true → StepsAll o p t bytes
 steps_all o p t [] fit tells sound = record { tells = tells; ends = refl; last = λ n size. absurd (omega arith) }
 steps_all o p t (b ∷ bs) fit tells sound =
     let parts = both_so (is_fault o t b) (is_sound o (told_step o t b) bs) sound in
@@ -195,7 +195,7 @@ steps_all o p t (b ∷ bs) fit tells sound =
       last = last_of o p b bs first.last rest.last;
     }
   where
-    last_of : (o : Options) (p : CutPlace) (b : ℕ) (bs : List ℕ)
+    last_of : (o : Dialect) (p : CutPlace) (b : ℕ) (bs : List ℕ)
         → (is_in_quotes (place_step o p b) ≡ false → is_after_quote (place_step o p b) ≡ false → place_step o p b ≡ plain_step o b)
         → ((n : ℕ) → length bs ≡ suc n → is_in_quotes (state_after (place_step o) (place_step o p b) bs) ≡ false
         → is_after_quote (state_after (place_step o) (place_step o p b) bs) ≡ false → state_after (place_step o) (place_step o p b) bs ≡ plain_step o (get_or bs n 0))

@@ -2,7 +2,7 @@
 use Rattle.std.specs.Prelude.{◌≡◌, ◌⊎◌, ℕ, zero, suc, ◌+◌, Bool, true, false, ◌&&◌, ◌||◌, ◌==◌, if◌then◌else◌, List, [], ◌∷◌}
 use Rattle.std.specs.Int.{bit_at}
 use Rattle.std.specs.Simd.Lanes.{mask_l}
-use Rattle.morsel_grammar.specs.Options.{Options}
+use Rattle.morsel_grammar.specs.Dialect.{Dialect}
 use Rattle.morsel_grammar.specs.Machine.{CutPlace, AfterMark, AfterEol, AfterSeparator, InPlain, InQuotes, AfterQuote, state_after, place_step, is_after_eol}
 use Rattle.morsel_cut.specs.Places.{cut_place}
 use Rattle.morsel_cut.specs.declared.blocks.Block.{Block}
@@ -48,18 +48,18 @@ IsAmongFields AfterQuote = Unit {0}
 IsAmongFields place = ⊥
 
 -- what bytes do that begin in, before or after a field: where the next byte stands, and after which of them a record ends
-pub record DoesBlock (o : Options) (from : CutPlace) (bytes : List ℕ) (block : Block) : Type 0 where
+pub record DoesBlock (o : Dialect) (from : CutPlace) (bytes : List ℕ) (block : Block) : Type 0 where
   pub begins : IsAmongFields from
   pub place_is : cut_place block.place ≡ state_after (place_step o) from bytes
   pub ends_are : block.ends ≡ mask_l (tests_after (place_step o) is_after_eol from bytes)
 
 -- whether a record begins with the eol byte or with 13, of those that follow the end of another
-abbrev pub has_blank : Options → CutPlace → List ℕ → Bool
+abbrev pub has_blank : Dialect → CutPlace → List ℕ → Bool
 has_blank o place [] = false
 has_blank o place (b ∷ bs) = (is_after_eol place && (b == o.eol || b == 13)) || has_blank o (place_step o place b) bs
 
 -- records up to an end, and how many they are; where there is not one column alone, none of them is blank
-pub record AreCountedLines (o : Options) (columns : ℕ) (lines : List ℕ) (count : ℕ) : Type 0 where
+pub record AreCountedLines (o : Dialect) (columns : ℕ) (lines : List ℕ) (count : ℕ) : Type 0 where
   pub ends : state_after (place_step o) AfterEol lines ≡ AfterEol
   pub count_is : count ≡ count_after (place_step o) is_after_eol AfterEol lines
   pub blanks : (columns ≡ 1) ⊎ (has_blank o AfterEol lines ≡ false)

@@ -5,7 +5,7 @@
 //! machine that takes one byte after the other.
 ghost use Rattle.std.specs.Prelude.{◌≡◌, ◌==◌, ◌≤◌, length, map, take, IfSome, if◌then◌else◌};
 ghost use Rattle.std.specs.Simd.Lanes.{mask_l};
-ghost use Rattle.morsel_grammar.specs.Options.{AreOptions};
+ghost use Rattle.morsel_grammar.specs.Dialect.{IsDialect};
 ghost use Rattle.morsel_grammar.specs.Split.{is_quote};
 ghost use Rattle.morsel_grammar.specs.Machine.{InQuotes, AfterQuote, plain_step};
 ghost use Rattle.morsel_cut.specs.Places.{cut_place, delimiter_options};
@@ -47,7 +47,7 @@ fn quoted_block(
     eols: u64,
 ) -> Option<Block>
     requires room { LANES ≤ length lane.now }
-    requires fit { AreOptions (delimiter_options delimiters) }
+    requires fit { IsDialect (delimiter_options delimiters) }
     requires among { IsAmongFields (cut_place from) }
     requires quotes { quotes ≡ mask_l (map (is_quote delimiters.quote) (take LANES lane.now)) }
     requires eols { eols ≡ mask_l (map (λ b. b == delimiters.eol) (take LANES lane.now)) }
@@ -77,7 +77,7 @@ fn quoted_block(
 #[inline(always)]
 pub fn block_of(from: ByteAt, lane: &[u8], delimiters: Delimiters) -> Option<Block>
     requires room { LANES ≤ length lane.now }
-    requires fit { AreOptions (delimiter_options delimiters) }
+    requires fit { IsDialect (delimiter_options delimiters) }
     ensures { IfSome result (λ block. DoesBlock (delimiter_options delimiters) (cut_place from) (take LANES lane.now) block) }
 {
     let quotes = quote_marks(lane, delimiters.quote);

@@ -1,7 +1,7 @@
 //! Records counted 64 bytes at a time.
 ghost use Rattle.std.specs.Prelude.{◌≡◌, ◌≤◌, ◌<◌, false, length, take, IsTrue};
 ghost use Rattle.std.specs.Simd.Lanes.{mask_l};
-ghost use Rattle.morsel_grammar.specs.Options.{AreOptions};
+ghost use Rattle.morsel_grammar.specs.Dialect.{IsDialect};
 ghost use Rattle.morsel_grammar.specs.Machine.{is_after_eol, place_step};
 ghost use Rattle.morsel_cut.specs.Places.{cut_place, delimiter_options};
 ghost use Rattle.morsel_cut.specs.Blocks.{tests_after, has_blank, AreCountedLines};
@@ -25,7 +25,7 @@ fn is_without_blanks(from: ByteAt, lane: &[u8], ends: u64, delimiters: Delimiter
 /// How many bytes some records take that a text begins with, and how many they are: none where that is not told 64 bytes at a
 /// time, or where one may be blank and be no row.
 pub fn count_lines(text: &[u8], columns: usize, delimiters: Delimiters) -> (usize, usize)
-    requires fit { AreOptions (delimiter_options delimiters) }
+    requires fit { IsDialect (delimiter_options delimiters) }
     ensures within { result.0 ≤ length text.now }
     ensures few { result.1 ≤ result.0 }
     ensures lines { 0 < result.0 → AreCountedLines (delimiter_options delimiters) columns (take result.0 text.now) result.1 }

@@ -1,7 +1,7 @@
 //! Runs of bytes at once, without a comment prefix: 64 bytes at a time, and where these have a quote in an unlikely place, up to
 //! the next quote. Up to a quote only the last byte counts, and the last eol byte.
 ghost use Rattle.std.specs.Prelude.{◌≡◌, ◌≢◌, ◌+◌, ◌<◌, ◌≤◌, ◌^◌, ℕ, true, false, [], ◌∷◌, length, take, slice_index};
-ghost use Rattle.morsel_grammar.specs.Options.{AreOptions};
+ghost use Rattle.morsel_grammar.specs.Dialect.{IsDialect};
 ghost use Rattle.morsel_grammar.specs.Split.{is_quote};
 ghost use Rattle.morsel_grammar.specs.Machine.{joined_place};
 ghost use Rattle.morsel_cut.specs.Places.{cut_place, delimiter_options, IsOutside};
@@ -106,7 +106,7 @@ fn plain_run(from: ByteAt, bytes: &[u8], delimiters: Delimiters) -> PlaceRun
 
 /// What the blocks of 64 bytes do that a text begins with, and how many bytes these are.
 fn blocks_run(from: ByteAt, text: &[u8], delimiters: Delimiters) -> (PlaceRun, usize)
-    requires fit { AreOptions (delimiter_options delimiters) }
+    requires fit { IsDialect (delimiter_options delimiters) }
     ensures within { result.1 ≤ length text.now }
     ensures run { RunsTo (delimiter_options delimiters) (cut_place from) (take result.1 text.now) result.0 }
 {
@@ -168,7 +168,7 @@ fn stretch_run(from: ByteAt, text: &[u8], delimiters: Delimiters) -> (PlaceRun, 
 /// What the front of a text does, and how many bytes it has.
 fn front_run(from: ByteAt, text: &[u8], delimiters: Delimiters) -> (PlaceRun, usize)
     requires some { 0 < length text.now }
-    requires fit { AreOptions (delimiter_options delimiters) }
+    requires fit { IsDialect (delimiter_options delimiters) }
     ensures some { 0 < result.1 }
     ensures within { result.1 ≤ length text.now }
     ensures run { RunsTo (delimiter_options delimiters) (cut_place from) (take result.1 text.now) result.0 }
@@ -182,7 +182,7 @@ fn front_run(from: ByteAt, text: &[u8], delimiters: Delimiters) -> (PlaceRun, us
 
 /// What a text does.
 pub fn whole_run(from: ByteAt, text: &[u8], delimiters: Delimiters) -> PlaceRun
-    requires fit { AreOptions (delimiter_options delimiters) }
+    requires fit { IsDialect (delimiter_options delimiters) }
     ensures run { RunsTo (delimiter_options delimiters) (cut_place from) text.now result }
     ensures ends { result.end ≤ length text.now }
     ensures begins { result.begin ≤ length text.now }

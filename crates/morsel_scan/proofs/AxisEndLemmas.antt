@@ -8,7 +8,7 @@ use Rattle.morsel_meaning.specs.declared.fault.ComputeKind.TheVariants as kinds
 use Rattle.morsel_meaning.specs.declared.fault.Fault.{Fault}
 use Rattle.morsel_meaning.specs.declared.fault.Fault.TheVariants as faults
 use Rattle.morsel_meaning.specs.Values.{Row, kinds_of}
-use Rattle.morsel_grammar.specs.Options.{AreOptions}
+use Rattle.morsel_grammar.specs.Dialect.{IsDialect}
 use Rattle.morsel_grammar.specs.Grammar.{CsvRecord}
 use Rattle.morsel_grammar.specs.Rows.{RowOf, NoRow, IsRow, Misfit, row_of, mark_len, unmarked, behind_header}
 use Rattle.morsel_grammar.specs.Reading.{used_values}
@@ -35,7 +35,7 @@ use Rattle.morsel_scan.proofs.FilesPassedLemmas.{StandsIn, begin_stands, nothing
 use Rattle.morsel_scan.proofs.AxisPieceLemmas.{collected-stretch, scanned_alike, within_piece}
 use Rattle.morsel_scan.proofs.AxisFaultLemmas.{piece_fault}
 
-pub gives_pieces : (s : CsvScan) → AreOptions s.options → GivesPieces s
+pub gives_pieces : (s : CsvScan) → IsDialect s.options → GivesPieces s
 gives_pieces s fit = λ first head names files opened text_of piece is.
     let make : Maker = scanned_within s.scan (csv_keeps s first names files) in
     let alike : MakeAlike make (scanned s.scan (piece_keeps piece)) piece.first_row piece.rows = within_piece s first names files piece (total_rows (csv_sources s first names files)) is in
@@ -50,7 +50,7 @@ record GivesChain (s : CsvScan) (gives : Places) (from : ℕ) (pieces : List Pie
 slice-nothing : (gives : Places) (from : ℕ) → slice_range gives from from ≡ []
 slice-nothing gives from = let none : from - from ≡ 0 = omega arith in ap (λ n. take n (drop from gives)) none
 
-chain_given : (s : CsvScan) (make : Maker) (first : ℕ) (names files : List (List ℕ)) (from : ℕ) (pieces : List Piece) (to : ℕ) → AreOptions s.options
+chain_given : (s : CsvScan) (make : Maker) (first : ℕ) (names files : List (List ℕ)) (from : ℕ) (pieces : List Piece) (to : ℕ) → IsDialect s.options
     → ((piece : Piece) → IsPieceOf s first names files piece → MakeAlike make (scanned s.scan (piece_keeps piece)) piece.first_row piece.rows)
     → AreChained s first names files from pieces to → GivesChain s (gives_of (files_axis s make first 0 names files)) from pieces to
 chain_given s make first names files from [] to fit alike end =
@@ -75,7 +75,7 @@ whole_given : (gives : Places) (to : ℕ) → to ≤ length gives → collected 
 whole_given gives to within =
     ap collected (sym (slice_all gives)) ∙ ap collected (slice-append gives 0 to (length gives) (omega arith) within) ∙ collected-append (slice_range gives 0 to) (slice_range gives to (length gives))
 
-chain_scanned : (s : CsvScan) (first head given : ℕ) (names files : List (List ℕ)) (opened : List ℕ) (text_of : List Row → List ℕ) (pieces : List Piece) → AreOptions s.options
+chain_scanned : (s : CsvScan) (first head given : ℕ) (names files : List (List ℕ)) (opened : List ℕ) (text_of : List Row → List ℕ) (pieces : List Piece) → IsDialect s.options
     → (let keeps = csv_keeps s first names files in
     let gives = gives_of (files_axis s (scanned_within s.scan keeps) first 0 names files) in
     let plain = gives_of (files_axis s (scanned s.scan keeps) first 0 names files) in
@@ -91,7 +91,7 @@ chain_scanned s first head given names files opened text_of pieces fit chained w
     ∙ collected-files s (scanned s.scan keeps) first 0 names files fit ∙ made_sources-scanned s.scan keeps 0 (csv_sources s first names files)
 
 -- how many places there are does not hang on what is made of rows
-pub same_size : (s : CsvScan) (make other : Maker) (file position more : ℕ) (names files : List (List ℕ)) → AreOptions s.options
+pub same_size : (s : CsvScan) (make other : Maker) (file position more : ℕ) (names files : List (List ℕ)) → IsDialect s.options
     → length (gives_of (files_axis s make file position names files)) ≡ length (gives_of (files_axis s other file more names files))
 same_size s make other file position more [] files fit = refl
 same_size s make other file position more (name ∷ names) [] fit = refl
@@ -105,7 +105,7 @@ same_size s make other file position more (name ∷ names) (bytes ∷ files) fit
     ∙ ap (λ n. length (gives_of there) + n) (same_size s make other (file + 1) (position + rows_counted here) (more + rows_counted there) names files fit)
     ∙ sym (ap length (gives_of-append there later) ∙ length-append (gives_of there) (gives_of later))
 
-pub scans_chained : (s : CsvScan) → AreOptions s.options → ScansChained s
+pub scans_chained : (s : CsvScan) → IsDialect s.options → ScansChained s
 scans_chained s fit = λ first head given names files opened text_of pieces chained rest.
     let keeps : ℕ → Bool = csv_keeps s first names files in
     let make : Maker = scanned_within s.scan keeps in
@@ -135,7 +135,7 @@ none_left gives from end = record {
   all = ap (λ n. collected (slice_range gives n (length gives))) end ∙ ap collected (slice-nothing gives (length gives));
 }
 
-at_end : (s : CsvScan) (make : Maker) (first given rows : ℕ) (names files : List (List ℕ)) → AreOptions s.options → length names ≡ length files → IsAfterPieces s files given rows → HaveRows s files rows
+at_end : (s : CsvScan) (make : Maker) (first given rows : ℕ) (names files : List (List ℕ)) → IsDialect s.options → length names ≡ length files → IsAfterPieces s files given rows → HaveRows s files rows
     → ((number : ℕ) → IsUtf8 (bytes_between files number given (sum_by length files)))
     → (let gives = gives_of (files_axis s make first 0 names files) in Gives gives given (length gives) [])
 at_end s make first given rows names files fit same (inr end) have utf8 =
@@ -147,7 +147,7 @@ at_end s make first given rows names files fit same (inl begins) have utf8 =
     given_nothing (gives_of parts) given (sum_by length files) (sym (length-gives_of parts ∙ bytes_of-files s make first 0 names files fit same))
     (nothing_to_end s make first 0 names files begin.0 given rows fit same begin.1 have utf8)
 
-pub gives_nothing_at_end : (s : CsvScan) → AreOptions s.options → GivesNothingAtEnd s
+pub gives_nothing_at_end : (s : CsvScan) → IsDialect s.options → GivesNothingAtEnd s
 gives_nothing_at_end s fit = λ first head given rows names files opened text_of same ends have utf8.
     at_end s (scanned_within s.scan (csv_keeps s first names files)) first given rows names files fit same ends have utf8
 
@@ -248,7 +248,7 @@ no_more-same : (gives other : Places) (from begin : ℕ) → gives ≡ other →
 no_more-same gives other from begin one two more = subst (λ n. GivesNoMore other n) two (subst (λ (x : Places). GivesNoMore x from) one more)
 
 -- a file has all rows before a place of it
-pub rows_within : (s : CsvScan) (make : Maker) (file : ℕ) (name : List ℕ) (position : ℕ) (bytes : List ℕ) (at rows : ℕ) (awaits_header : Bool) → AreOptions s.options → HasRowsUpTo s bytes at rows awaits_header
+pub rows_within : (s : CsvScan) (make : Maker) (file : ℕ) (name : List ℕ) (position : ℕ) (bytes : List ℕ) (at rows : ℕ) (awaits_header : Bool) → IsDialect s.options → HasRowsUpTo s bytes at rows awaits_header
     → rows ≤ rows_counted (file_axis s make file name position bytes)
 rows_within s make file name position bytes at rows awaits_header fit has =
     let start : PartStart = file_start s file name position bytes in
@@ -264,7 +264,7 @@ rows_within s make file name position bytes at rows awaits_header fit has =
     omega (arith, all, first, counted)
 
 -- from where nothing is made of rows, no place gives any
-no_more_given : (s : CsvScan) (make : Maker) (file position : ℕ) (names files : List (List ℕ)) (i from rows : ℕ) → AreOptions s.options → length names ≡ length files
+no_more_given : (s : CsvScan) (make : Maker) (file position : ℕ) (names files : List (List ℕ)) (i from rows : ℕ) → IsDialect s.options → length names ≡ length files
     → StandsIn s (BeginsHere s) files i from rows → MakesNothing make (position + rows) → GivesNoMore (gives_of (files_axis s make file position names files)) from
 no_more_given s make file position names [] i from rows fit same begin none = absurd begin
 no_more_given s make file position [] (bytes ∷ files) i from rows fit same begin none = absurd (omega (arith, same))
@@ -312,7 +312,7 @@ no_fault_left (Ok rows ∷ xs) (empty, none) sound =
     ap (λ (r : List Row). followed_by (Ok r) (collected xs)) empty ∙ followed_by-nothing (collected xs)
     ∙ no_fault_left xs none (λ fault before after is. sound fault (Ok rows ∷ before) after (ap (λ (x : Places). Ok rows ∷ x) is))
 
-past_slice : (s : CsvScan) (make : Maker) (first given rows : ℕ) (names files : List (List ℕ)) → AreOptions s.options → length names ≡ length files → MakesNothing make (0 + rows) → IsAfterPieces s files given rows
+past_slice : (s : CsvScan) (make : Maker) (first given rows : ℕ) (names files : List (List ℕ)) → IsDialect s.options → length names ≡ length files → MakesNothing make (0 + rows) → IsAfterPieces s files given rows
     → (let gives = gives_of (files_axis s make first 0 names files) in
     ((fault : Fault) → HasFaultWithin gives given (length gives) fault → ⊥) → Gives gives given (length gives) [])
 past_slice s make first given rows names files fit same none (inr end) sound =
@@ -328,7 +328,7 @@ past_slice s make first given rows names files fit same none (inl begins) sound 
       nothing = no_fault_left more.mid more.none (λ fault before after is. sound fault (fault-midst gives given (length gives) more.mid before after fault more.is is));
     })
 
-pub gives_nothing_past_slice : (s : CsvScan) → AreOptions s.options → GivesNothingPastSlice s
+pub gives_nothing_past_slice : (s : CsvScan) → IsDialect s.options → GivesNothingPastSlice s
 gives_nothing_past_slice s fit = λ first head given rows names files opened text_of same ends keeps_none sound.
     let none : MakesNothing (scanned_within s.scan (csv_keeps s first names files)) (0 + rows) = λ row from.
     ap (λ t. if t && nat_le 4294967295 row.position then Err (faults.ComputeError kinds.TooManyRows 4294967295 0) else (if t then row_of_values s.scan row (used_values (used_columns s.scan) row.cells) else Ok None))

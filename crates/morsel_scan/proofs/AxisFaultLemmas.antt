@@ -7,7 +7,7 @@ use Rattle.morsel_meaning.specs.declared.value.ColType.{ColType}
 use Rattle.morsel_meaning.specs.declared.value.Field.{Field}
 use Rattle.morsel_meaning.specs.declared.fault.Fault.{Fault}
 use Rattle.morsel_meaning.specs.Values.{Row, kinds_of}
-use Rattle.morsel_grammar.specs.Options.{Options, AreOptions}
+use Rattle.morsel_grammar.specs.Dialect.{Dialect, IsDialect}
 use Rattle.morsel_grammar.specs.Grammar.{CsvRecord}
 use Rattle.morsel_grammar.specs.Cells.{CsvCell}
 use Rattle.morsel_grammar.specs.Rows.{RowOf, NoRow, IsRow, Misfit, is_header, row_of}
@@ -110,11 +110,11 @@ some_size [] some = absurd (some refl)
 some_size (b ∷ bs) some = omega arith
 
 -- each fault of a text is that of one of its places
-pub fault_among : (s : CsvScan) (make : Maker) → AreOptions s.options → (text : List ℕ) (start : PartStart) (fault : Fault)
+pub fault_among : (s : CsvScan) (make : Maker) → IsDialect s.options → (text : List ℕ) (start : PartStart) (fault : Fault)
     → IsTextFault make start.file start.name start.position (reading s.options (kinds_of s.scan.fields) start.awaits_header start.at text) fault
     → IsAmong (gives_of (text_axis s make start (text_parts s.options text))) fault
 fault_among s make fit text =
-    let o : Options = s.options in
+    let o : Dialect = s.options in
     let types : List ColType = kinds_of s.scan.fields in
     let P : List ℕ → Type 0 = λ text. (start : PartStart) (fault : Fault) → IsTextFault make start.file start.name start.position (reading o types start.awaits_header start.at text) fault
     → IsAmong (gives_of (text_axis s make start (text_parts o text))) fault in
@@ -165,7 +165,7 @@ placed_within position file name (x ∷ rows) (y ∷ before) row after is =
     (omega arith, omega (arith, two))
 
 -- each fault of a piece is that of a place of its stretch
-pub piece_fault : (s : CsvScan) (make : Maker) (first : ℕ) (names files : List (List ℕ)) (piece : Piece) → AreOptions s.options → (is : IsPieceOf s first names files piece)
+pub piece_fault : (s : CsvScan) (make : Maker) (first : ℕ) (names files : List (List ℕ)) (piece : Piece) → IsDialect s.options → (is : IsPieceOf s first names files piece)
     → MakeAlike make (scanned s.scan (piece_keeps piece)) piece.first_row piece.rows → (fault : Fault) → IsPieceFault s piece fault
     → UnlessOutOfMemory fault (HasFaultWithin (gives_of (files_axis s make first 0 names files)) piece.from piece.to fault)
 piece_fault s make first names files piece fit is alike fault has =

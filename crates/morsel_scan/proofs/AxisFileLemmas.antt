@@ -9,7 +9,7 @@ use Rattle.morsel_meaning.specs.declared.fault.ComputeKind.TheVariants as kinds
 use Rattle.morsel_meaning.specs.declared.fault.Fault.{Fault}
 use Rattle.morsel_meaning.specs.declared.fault.Fault.TheVariants as faults
 use Rattle.morsel_meaning.specs.Values.{Row, kinds_of}
-use Rattle.morsel_grammar.specs.Options.{AreOptions}
+use Rattle.morsel_grammar.specs.Dialect.{IsDialect}
 use Rattle.morsel_grammar.specs.Cells.{CsvCell}
 use Rattle.morsel_grammar.specs.Rows.{mark_len, unmarked}
 use Rattle.morsel_grammar.specs.Reading.{Refusal, Reading, reading}
@@ -31,7 +31,7 @@ file_start s file name position bytes = record { file = file; name = name; at = 
 abbrev pub file_reading : CsvScan → List ℕ → Reading
 file_reading s bytes = reading s.options (kinds_of s.scan.fields) s.options.has_header (mark_len bytes) (unmarked bytes)
 
-pub collected-file : (s : CsvScan) (make : Maker) (file : ℕ) (name : List ℕ) (position : ℕ) (bytes : List ℕ) → AreOptions s.options
+pub collected-file : (s : CsvScan) (make : Maker) (file : ℕ) (name : List ℕ) (position : ℕ) (bytes : List ℕ) → IsDialect s.options
     → collected (gives_of (file_axis s make file name position bytes)) ≡ made make file name position (file_reading s bytes)
 collected-file s make file name position bytes fit =
     collected-nothing (mark_len bytes) (gives_of (text_axis s make (file_start s file name position bytes) (text_parts s.options (unmarked bytes))))
@@ -50,7 +50,7 @@ mark_within (a ∷ b ∷ c ∷ bytes) = by (a == 239 && (b == 187 && c == 191))
 pub mark_size : (bytes : List ℕ) → mark_len bytes + length (unmarked bytes) ≡ length bytes
 mark_size bytes = let within = mark_within bytes in omega (arith, within, length-drop (mark_len bytes) bytes)
 
-pub bytes_of-file : (s : CsvScan) (make : Maker) (file : ℕ) (name : List ℕ) (position : ℕ) (bytes : List ℕ) → AreOptions s.options
+pub bytes_of-file : (s : CsvScan) (make : Maker) (file : ℕ) (name : List ℕ) (position : ℕ) (bytes : List ℕ) → IsDialect s.options
     → bytes_of (file_axis s make file name position bytes) ≡ length bytes
 bytes_of-file s make file name position bytes fit =
     let start : PartStart = file_start s file name position bytes in
@@ -58,7 +58,7 @@ bytes_of-file s make file name position bytes fit =
     sum_by-cons (λ (x : AxisPart). x.size) (mark_axis (mark_len bytes)) parts
     ∙ ap (λ n. mark_len bytes + n) (bytes_of-text s make fit (unmarked bytes) start) ∙ mark_size bytes
 
-pub bytes_of-files : (s : CsvScan) (make : Maker) (file position : ℕ) (names files : List (List ℕ)) → AreOptions s.options → length names ≡ length files
+pub bytes_of-files : (s : CsvScan) (make : Maker) (file position : ℕ) (names files : List (List ℕ)) → IsDialect s.options → length names ≡ length files
     → bytes_of (files_axis s make file position names files) ≡ sum_by length files
 bytes_of-files s make file position [] [] fit same = refl
 bytes_of-files s make file position [] (bytes ∷ files) fit same = absurd (omega (arith, same))
@@ -95,7 +95,7 @@ no_fault : (file : ℕ) (refusal : Option Refusal) → refusal_fault file refusa
 no_fault file None none = refl
 no_fault file (Some refusal) none = absurd (cc)
 
-pub collected-files : (s : CsvScan) (make : Maker) (file position : ℕ) (names files : List (List ℕ)) → AreOptions s.options
+pub collected-files : (s : CsvScan) (make : Maker) (file position : ℕ) (names files : List (List ℕ)) → IsDialect s.options
     → collected (gives_of (files_axis s make file position names files)) ≡ made_sources make position (csv_sources s file names files)
 collected-files s make file position [] files fit = refl
 collected-files s make file position (name ∷ names) [] fit = refl
@@ -149,7 +149,7 @@ within_alike scan keeps row few =
     by true = refl
     by false = refl
 
-pub gives_scan : (s : CsvScan) → AreOptions s.options → GivesScan s
+pub gives_scan : (s : CsvScan) → IsDialect s.options → GivesScan s
 gives_scan s fit = λ first head names files opened text_of few.
     let keeps : ℕ → Bool = csv_keeps s first names files in
     let sources : List SourceRows = csv_sources s first names files in
@@ -196,7 +196,7 @@ within_more scan keeps row answer is = by (keeps row.position && nat_le 42949672
     by true is = absurd (cc)
     by false is = is
 
-pub gives_scan_rows : (s : CsvScan) → AreOptions s.options → GivesScanRows s
+pub gives_scan_rows : (s : CsvScan) → IsDialect s.options → GivesScanRows s
 gives_scan_rows s fit = λ first head names files opened text_of rows is.
     let keeps : ℕ → Bool = csv_keeps s first names files in
     let sources : List SourceRows = csv_sources s first names files in

@@ -11,7 +11,7 @@ use Rattle.morsel_meaning.specs.declared.value.Field.{Field}
 use Rattle.morsel_meaning.specs.declared.fault.Fault.{Fault}
 use Rattle.morsel_meaning.specs.declared.fault.Fault.TheVariants as faults
 use Rattle.morsel_meaning.specs.Values.{Row, kinds_of}
-use Rattle.morsel_grammar.specs.Options.{Options, AreOptions}
+use Rattle.morsel_grammar.specs.Dialect.{Dialect, IsDialect}
 use Rattle.morsel_grammar.specs.Grammar.{CsvRecord, Records}
 use Rattle.morsel_grammar.specs.Cells.{CsvCell}
 use Rattle.morsel_grammar.specs.Rows.{RowOf, NoRow, IsRow, Misfit, is_header, row_of, behind_header}
@@ -60,7 +60,7 @@ text_axis-append s make start (part ∷ xs) ys =
     ap (λ (x : List AxisPart). axis_part s make start part ∷ x) (text_axis-append s make (start_after (length s.scan.fields) start part) xs ys)
 
 -- each byte of a text has its place
-pub bytes_of-text : (s : CsvScan) (make : Maker) → AreOptions s.options → (text : List ℕ) (start : PartStart) → bytes_of (text_axis s make start (text_parts s.options text)) ≡ length text
+pub bytes_of-text : (s : CsvScan) (make : Maker) → IsDialect s.options → (text : List ℕ) (start : PartStart) → bytes_of (text_axis s make start (text_parts s.options text)) ≡ length text
 bytes_of-text s make fit text =
     let P : List ℕ → Type 0 = λ text. (start : PartStart) → bytes_of (text_axis s make start (text_parts s.options text)) ≡ length text in
     by_records s.options P fit (record {
@@ -137,11 +137,11 @@ some_size [] some = absurd (some refl)
 some_size (b ∷ bs) some = omega arith
 
 -- what the bytes of a text give is what is made of its rows
-pub collected-text : (s : CsvScan) (make : Maker) → AreOptions s.options → (text : List ℕ) (start : PartStart)
+pub collected-text : (s : CsvScan) (make : Maker) → IsDialect s.options → (text : List ℕ) (start : PartStart)
     → collected (gives_of (text_axis s make start (text_parts s.options text)))
     ≡ made make start.file start.name start.position (reading s.options (kinds_of s.scan.fields) start.awaits_header start.at text)
 collected-text s make fit text =
-    let o : Options = s.options in
+    let o : Dialect = s.options in
     let kinds : List ColType = kinds_of s.scan.fields in
     let P : List ℕ → Type 0 = λ text. (start : PartStart) → collected (gives_of (text_axis s make start (text_parts o text))) ≡ made make start.file start.name start.position (reading o kinds start.awaits_header start.at text) in
     by_records o P fit (record {
@@ -180,7 +180,7 @@ rows_counted-past s make start (part ∷ parts) =
     counted_one false = refl
 
 -- a text of records has as many rows as are counted
-pub rows_counted-records : (s : CsvScan) (make : Maker) (start : PartStart) (text : List ℕ) (records : List CsvRecord) → AreOptions s.options → Records s.options text records
+pub rows_counted-records : (s : CsvScan) (make : Maker) (start : PartStart) (text : List ℕ) (records : List CsvRecord) → IsDialect s.options → Records s.options text records
     → rows_counted (text_axis s make start (text_parts s.options text)) ≡ row_count (length s.scan.fields) (behind_header start.awaits_header records)
 rows_counted-records s make start text records fit split =
     let past = rows_counted-past s make start (text_parts s.options text) in
@@ -188,7 +188,7 @@ rows_counted-records s make start text records fit split =
     omega (arith, past, place)
 
 -- where no record is refused, there are as many rows as are counted
-pub rows_counted-read : (s : CsvScan) (make : Maker) (start : PartStart) (text : List ℕ) → AreOptions s.options
+pub rows_counted-read : (s : CsvScan) (make : Maker) (start : PartStart) (text : List ℕ) → IsDialect s.options
     → (let r = reading s.options (kinds_of s.scan.fields) start.awaits_header start.at text in
     r.refusal ≡ None → rows_counted (text_axis s make start (text_parts s.options text)) ≡ length r.rows)
 rows_counted-read s make start text fit none =

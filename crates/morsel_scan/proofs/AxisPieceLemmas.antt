@@ -2,7 +2,7 @@
 use Rattle.std.proofs.Common.{◌≡◌, ℕ, zero, suc, ◌+◌, ◌-◌, ◌≤◌, ap, sym, subst, refl, ◌∙◌, inl, inr, arith, append_assoc, length-append}
 use Rattle.std.specs.Prelude.{Bool, false, ◌⊎◌, if◌then◌else◌, Some, None, Ok, List, [], ◌∷◌, ◌++◌, length, take, drop, slice_get, slice_range}
 use Rattle.std.proofs.lemmas.List.{take-append-drop, drop_at, drop-drop, nil_from_length}
-use Rattle.morsel_grammar.specs.Options.{AreOptions}
+use Rattle.morsel_grammar.specs.Dialect.{IsDialect}
 use Rattle.morsel_grammar.specs.Grammar.{CsvRecord, Records}
 use Rattle.morsel_grammar.specs.Rows.{behind_header, mark_len, unmarked}
 use Rattle.morsel_grammar.specs.Reading.{used_values}
@@ -56,7 +56,7 @@ none_left s bytes front piece_bytes left at records size (inl whole) = inl whole
 none_left s bytes front piece_bytes left at records size (inr end) = inr (nil_from_length left (omega (arith, size, end)))
 
 -- what a file gives where a piece stands
-piece_in_file : (s : CsvScan) (make : Maker) (file : ℕ) (name : List ℕ) (position : ℕ) (bytes : List ℕ) (piece : Piece) (at rows : ℕ) → AreOptions s.options → PieceHere s piece bytes at rows
+piece_in_file : (s : CsvScan) (make : Maker) (file : ℕ) (name : List ℕ) (position : ℕ) (bytes : List ℕ) (piece : Piece) (at rows : ℕ) → IsDialect s.options → PieceHere s piece bytes at rows
     → IsMidst (gives_of (file_axis s make file name position bytes)) at (at + length piece.bytes) (gives_of (text_axis s make (piece_start piece file name (position + rows)) (text_parts s.options piece.bytes)))
 piece_in_file s make file name position bytes piece at rows fit here =
     let columns : ℕ = length s.scan.fields in
@@ -105,7 +105,7 @@ piece_in_file s make file name position bytes piece at rows fit here =
     }
 
 -- what files give where a piece stands in one of them
-pub piece_in_files : (s : CsvScan) (make : Maker) (file position : ℕ) (names files : List (List ℕ)) (n : ℕ) (piece : Piece) (at rows : ℕ) (name : List ℕ) → AreOptions s.options → slice_get names n ≡ Some name
+pub piece_in_files : (s : CsvScan) (make : Maker) (file position : ℕ) (names files : List (List ℕ)) (n : ℕ) (piece : Piece) (at rows : ℕ) (name : List ℕ) → IsDialect s.options → slice_get names n ≡ Some name
     → StandsIn s (PieceHere s piece) files n at rows
     → IsMidst (gives_of (files_axis s make file position names files)) at (at + length piece.bytes) (gives_of (text_axis s make (piece_start piece (file + n) name (position + rows)) (text_parts s.options piece.bytes)))
 piece_in_files s make file position [] files n piece at rows name fit named is = absurd (cc)
@@ -140,7 +140,7 @@ piece_in_files s make file position (first ∷ names) (bytes ∷ files) (suc n) 
     (piece_in_files s make (file + 1) (position + rows_counted here) names files n piece later more name fit named stands))
 
 -- what is made of a piece's rows is what its bytes give
-pub collected-piece : (s : CsvScan) (make : Maker) (piece : Piece) (records : List CsvRecord) → AreOptions s.options → Records s.options piece.bytes records → piece.rows ≡ row_count (length s.scan.fields) records
+pub collected-piece : (s : CsvScan) (make : Maker) (piece : Piece) (records : List CsvRecord) → IsDialect s.options → Records s.options piece.bytes records → piece.rows ≡ row_count (length s.scan.fields) records
     → MakeAlike make (scanned s.scan (piece_keeps piece)) piece.first_row piece.rows
     → collected (gives_of (text_axis s make (piece_start piece piece.file piece.source piece.first_row) (text_parts s.options piece.bytes))) ≡ piece_rows s piece
 collected-piece s make piece records fit split rows alike =
@@ -155,7 +155,7 @@ pub record IsStretchOf (s : CsvScan) (make : Maker) (first : ℕ) (names files :
   pub passed : GivesNothing (gives_of (files_axis s make first 0 names files)) piece.from start
   pub is : IsMidst (gives_of (files_axis s make first 0 names files)) start piece.to (gives_of (text_axis s make (piece_start piece piece.file piece.source piece.first_row) (text_parts s.options piece.bytes)))
 
-pub piece_stretch : (s : CsvScan) (make : Maker) (first : ℕ) (names files : List (List ℕ)) (piece : Piece) → AreOptions s.options → IsPieceOf s first names files piece → IsStretchOf s make first names files piece
+pub piece_stretch : (s : CsvScan) (make : Maker) (first : ℕ) (names files : List (List ℕ)) (piece : Piece) → IsDialect s.options → IsPieceOf s first names files piece → IsStretchOf s make first names files piece
 piece_stretch s make first names files piece fit is =
     let stands : StandsIn s (PieceHere s piece) files is.source is.start piece.first_row =
     row_stands s (PieceHere s piece) files is.source piece.at is.start piece.first_row false is.begins
@@ -173,7 +173,7 @@ piece_stretch s make first names files piece fit is =
     }
 
 -- what the stretch of a piece gives is what is made of the piece
-pub collected-stretch : (s : CsvScan) (make : Maker) (first : ℕ) (names files : List (List ℕ)) (piece : Piece) → AreOptions s.options → IsPieceOf s first names files piece
+pub collected-stretch : (s : CsvScan) (make : Maker) (first : ℕ) (names files : List (List ℕ)) (piece : Piece) → IsDialect s.options → IsPieceOf s first names files piece
     → MakeAlike make (scanned s.scan (piece_keeps piece)) piece.first_row piece.rows
     → (let gives = gives_of (files_axis s make first 0 names files) in (piece.from ≤ piece.to) × (piece.to ≤ length gives) × (collected (slice_range gives piece.from piece.to) ≡ piece_rows s piece))
 collected-stretch s make first names files piece fit is alike =

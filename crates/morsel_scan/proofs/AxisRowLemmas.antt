@@ -5,7 +5,7 @@ use Rattle.std.specs.List.{sum_by, flat_map}
 use Rattle.std.proofs.lemmas.Bool.Decides.{nat_tests}
 use Rattle.std.proofs.lemmas.List.{length-drop, drop_all, take-append-drop, get_or-append-add}
 use Rattle.std.proofs.lemmas.List.Sums.{sum_by-append, sum_by-cons}
-use Rattle.morsel_grammar.specs.Options.{AreOptions}
+use Rattle.morsel_grammar.specs.Dialect.{IsDialect}
 use Rattle.morsel_grammar.specs.Grammar.{CsvRecord}
 use Rattle.morsel_grammar.specs.Rows.{unmarked}
 use Rattle.morsel_scan.specs.Scans.{CsvScan}
@@ -193,7 +193,7 @@ length-ends_of (part ∷ parts) =
     length-append (last_of part.size false part.counts) (ends_of parts) ∙ ap (λ n. n + length (ends_of parts)) (length-last_of part.size false part.counts)
     ∙ ap (λ n. part.size + n) (length-ends_of parts) ∙ sym (sum_by-cons (λ (x : AxisPart). x.size) part parts)
 
-pub has_each_byte : (s : CsvScan) → AreOptions s.options → HasEachByte s
+pub has_each_byte : (s : CsvScan) → IsDialect s.options → HasEachByte s
 has_each_byte s fit = λ first head names files opened text_of same.
     let parts : List AxisPart = files_axis s (scanned_within s.scan (csv_keeps s first names files)) first 0 names files in
     let size = bytes_of-files s (scanned_within s.scan (csv_keeps s first names files)) first 0 names files fit same in

@@ -4,7 +4,7 @@ use Rattle.std.specs.Prelude.{Bool, ◌⊎◌, Some, List, [], ◌∷◌, ◌++�
 use Rattle.std.specs.List.{sum_by}
 use Rattle.std.proofs.lemmas.List.{take_all, length-drop}
 use Rattle.std.proofs.lemmas.List.Sums.{sum_by-cons}
-use Rattle.morsel_grammar.specs.Options.{AreOptions}
+use Rattle.morsel_grammar.specs.Dialect.{IsDialect}
 use Rattle.morsel_grammar.specs.Grammar.{CsvRecord, Records}
 use Rattle.morsel_grammar.specs.Rows.{behind_header, unmarked}
 use Rattle.morsel_grammar.proofs.RecordLemmas.{one_list}
@@ -109,7 +109,7 @@ upto_within s bytes at rows has =
     let three : length (unmarked bytes) ≡ length has.front + length has.rest = ap length has.split ∙ length-append has.front has.rest in
     omega (arith, one, two, three)
 
-same_rows : (s : CsvScan) (bytes : List ℕ) (records others : List CsvRecord) → AreOptions s.options → Records s.options (unmarked bytes) records → Records s.options (unmarked bytes) others
+same_rows : (s : CsvScan) (bytes : List ℕ) (records others : List CsvRecord) → IsDialect s.options → Records s.options (unmarked bytes) records → Records s.options (unmarked bytes) others
     → row_count (length s.scan.fields) (behind_header s.options.has_header records) ≡ row_count (length s.scan.fields) (behind_header s.options.has_header others)
 same_rows s bytes records others fit one two = ap (λ (x : List CsvRecord). row_count (length s.scan.fields) (behind_header s.options.has_header x)) (one_list s.options fit (unmarked bytes) records others one two)
 
@@ -132,7 +132,7 @@ nothing-same gives other from to begin end one two three none =
     subst (λ n. GivesNothing other begin n) three (subst (λ n. GivesNothing other n to) two (subst (λ (x : Places). GivesNothing x from to) one none))
 
 -- what is passed up to the end of a file, and then of the files after it, gives nothing where both do
-file_over : (s : CsvScan) (make : Maker) (file : ℕ) (name : List ℕ) (position : ℕ) (bytes : List ℕ) (names files : List (List ℕ)) (from later to : ℕ) → AreOptions s.options
+file_over : (s : CsvScan) (make : Maker) (file : ℕ) (name : List ℕ) (position : ℕ) (bytes : List ℕ) (names files : List (List ℕ)) (from later to : ℕ) → IsDialect s.options
     → (let here = file_axis s make file name position bytes in
     GivesNothing (gives_of here) from (length bytes) → GivesNothing (gives_of (files_axis s make (file + 1) (position + rows_counted here) names files)) 0 later → length bytes + later ≡ to
     → GivesNothing (gives_of (files_axis s make file position (name ∷ names) (bytes ∷ files))) from to)
@@ -143,7 +143,7 @@ file_over s make file name position bytes names files from later to fit one two 
     nothing-same (gives_of here ++ gives_of rest) (gives_of (here ++ rest)) from (length (gives_of here) + later) from to (sym (gives_of-append here rest)) refl (ap (λ n. n + later) (sym size) ∙ is)
     (nothing-over (gives_of here) (gives_of rest) from later (subst (λ n. GivesNothing (gives_of here) from n) size one) two)
 
-file_later : (s : CsvScan) (make : Maker) (file : ℕ) (name : List ℕ) (position : ℕ) (bytes : List ℕ) (names files : List (List ℕ)) (begin end from to : ℕ) → AreOptions s.options
+file_later : (s : CsvScan) (make : Maker) (file : ℕ) (name : List ℕ) (position : ℕ) (bytes : List ℕ) (names files : List (List ℕ)) (begin end from to : ℕ) → IsDialect s.options
     → (let here = file_axis s make file name position bytes in
     GivesNothing (gives_of (files_axis s make (file + 1) (position + rows_counted here) names files)) begin end → length bytes + begin ≡ from → length bytes + end ≡ to
     → GivesNothing (gives_of (files_axis s make file position (name ∷ names) (bytes ∷ files))) from to)
@@ -160,7 +160,7 @@ first_begins s Q [] source place rows is = absurd is
 first_begins s Q (bytes ∷ files) source place rows is = inr (refl, refl)
 
 -- what is passed between two places with as many rows before the one as before the other gives nothing, where it is UTF-8
-pub nothing_passed : (s : CsvScan) (make : Maker) (file position : ℕ) (names files : List (List ℕ)) (i j from to rows : ℕ) (name : List ℕ) → AreOptions s.options → slice_get names j ≡ Some name
+pub nothing_passed : (s : CsvScan) (make : Maker) (file position : ℕ) (names files : List (List ℕ)) (i j from to rows : ℕ) (name : List ℕ) → IsDialect s.options → slice_get names j ≡ Some name
     → StandsIn s (BeginsHere s) files i from rows → StandsIn s (AreRowsUpTo s) files j to rows → from ≤ to → ((number : ℕ) → IsUtf8 (bytes_between files number from to))
     → GivesNothing (gives_of (files_axis s make file position names files)) from to
 nothing_passed s make file position [] files i j from to rows name fit named begin end order utf8 = absurd (cc)
@@ -205,7 +205,7 @@ first_or_none s [] = inl refl
 first_or_none s (bytes ∷ files) = inr (inr (refl, refl))
 
 -- what is passed from a place to the end of all files gives nothing, where all rows come before it
-pub nothing_to_end : (s : CsvScan) (make : Maker) (file position : ℕ) (names files : List (List ℕ)) (i from rows : ℕ) → AreOptions s.options → length names ≡ length files
+pub nothing_to_end : (s : CsvScan) (make : Maker) (file position : ℕ) (names files : List (List ℕ)) (i from rows : ℕ) → IsDialect s.options → length names ≡ length files
     → StandsIn s (BeginsHere s) files i from rows → HaveRows s files rows → ((number : ℕ) → IsUtf8 (bytes_between files number from (sum_by length files)))
     → GivesNothing (gives_of (files_axis s make file position names files)) from (sum_by length files)
 nothing_to_end s make file position names [] i from rows fit same begin have utf8 = absurd begin

@@ -2,7 +2,7 @@
 use Rattle.std.proofs.Common.{◌≡◌, ◌≢◌, ℕ, zero, suc, ◌+◌, ◌-◌, ◌<◌, ◌≤◌, ap, sym, subst, refl, ◌∙◌, inl, inr, arith, append_assoc, append-nil, length-append, take, cond}
 use Rattle.std.specs.Prelude.{Bool, true, false, not, ◌⊎◌, if◌then◌else◌, Option, Some, None, List, [], ◌∷◌, ◌++◌, length}
 use Rattle.std.proofs.lemmas.List.Sums.{sum_by-cons}
-use Rattle.morsel_grammar.specs.Options.{Options, AreOptions}
+use Rattle.morsel_grammar.specs.Dialect.{Dialect, IsDialect}
 use Rattle.morsel_grammar.specs.Grammar.{CsvRecord, IsRecord, Records}
 use Rattle.morsel_grammar.specs.Rows.{is_header, behind_header}
 use Rattle.morsel_grammar.specs.GrammarRows.{AreWholeRecords, awaits_header_after}
@@ -19,12 +19,12 @@ abbrev pub found_part : List ℕ → CsvRecord → TextPart
 found_part bytes r = record { bytes = bytes; found = Some r }
 
 -- what holds of no text, of one that begins with no record, and of one whose rest it holds of, holds of every text
-pub record HoldsByRecords (o : Options) (P : List ℕ → Type 0) : Type 0 where
+pub record HoldsByRecords (o : Dialect) (P : List ℕ → Type 0) : Type 0 where
   pub nothing : P []
   pub none : (text : List ℕ) → text ≢ [] → record_at o text ≡ None → P text
   pub first : (r : CsvRecord) (text next bytes : List ℕ) → IsTaken o r text next bytes → P next → P text
 
-holds_by : (o : Options) (P : List ℕ → Type 0) → AreOptions o → HoldsByRecords o P → (text : List ℕ) → text ≢ [] → (found : Option (CsvRecord × List ℕ)) → record_at o text ≡ found
+holds_by : (o : Dialect) (P : List ℕ → Type 0) → IsDialect o → HoldsByRecords o P → (text : List ℕ) → text ≢ [] → (found : Option (CsvRecord × List ℕ)) → record_at o text ≡ found
     → ((next : List ℕ) → length next < length text → P next) → P text
 holds_by o P fit holds text some None is later = holds.none text some is
 holds_by o P fit holds text some (Some split) is later =
@@ -33,17 +33,17 @@ holds_by o P fit holds text some (Some split) is later =
     let all = record_taken o split.0 text split.1 fit begins some in
     holds.first split.0 text split.1 all.0 all.1 (later split.1 all.1.shorter)
 
-holds_up_to : (n : ℕ) (o : Options) (P : List ℕ → Type 0) → AreOptions o → HoldsByRecords o P → (text : List ℕ) → length text ≤ n → P text
+holds_up_to : (n : ℕ) (o : Dialect) (P : List ℕ → Type 0) → IsDialect o → HoldsByRecords o P → (text : List ℕ) → length text ≤ n → P text
 holds_up_to n o P fit holds [] few = holds.nothing
 holds_up_to zero o P fit holds (b ∷ bs) few = absurd (omega arith)
 holds_up_to (suc n) o P fit holds (b ∷ bs) few =
     holds_by o P fit holds (b ∷ bs) (λ none. cc) (record_at o (b ∷ bs)) refl (λ next shorter. holds_up_to n o P fit holds next (omega arith))
 
-pub by_records : (o : Options) (P : List ℕ → Type 0) → AreOptions o → HoldsByRecords o P → (text : List ℕ) → P text
+pub by_records : (o : Dialect) (P : List ℕ → Type 0) → IsDialect o → HoldsByRecords o P → (text : List ℕ) → P text
 by_records o P fit holds text = holds_up_to (length text) o P fit holds text (omega arith)
 
 -- where the rest has the same parts, the whole has
-then_same : (o : Options) (text : List ℕ) (found : Option (CsvRecord × List ℕ)) (a b : List ℕ → List TextPart) → AreOptions o → text ≢ [] → record_at o text ≡ found
+then_same : (o : Dialect) (text : List ℕ) (found : Option (CsvRecord × List ℕ)) (a b : List ℕ → List TextPart) → IsDialect o → text ≢ [] → record_at o text ≡ found
     → ((rest : List ℕ) → length rest < length text → a rest ≡ b rest) → part_then text found a ≡ part_then text found b
 then_same o text None a b fit some is same = refl
 then_same o text (Some split) a b fit some is same =
@@ -52,7 +52,7 @@ then_same o text (Some split) a b fit some is same =
     let all = record_taken o split.0 text split.1 fit begins some in
     ap (λ (x : List TextPart). record { bytes = take (length text - length split.1) text; found = Some split.0 } ∷ x) (same split.1 all.1.shorter)
 
-parts_up_to-enough : (n m : ℕ) (o : Options) (text : List ℕ) → AreOptions o → length text ≤ n → length text ≤ m → parts_up_to n o text ≡ parts_up_to m o text
+parts_up_to-enough : (n m : ℕ) (o : Dialect) (text : List ℕ) → IsDialect o → length text ≤ n → length text ≤ m → parts_up_to n o text ≡ parts_up_to m o text
 parts_up_to-enough zero zero o text fit one two = refl
 parts_up_to-enough zero (suc m) o [] fit one two = refl
 parts_up_to-enough (suc n) zero o [] fit one two = refl
@@ -63,25 +63,25 @@ parts_up_to-enough (suc n) (suc m) o (b ∷ bs) fit one two =
     then_same o (b ∷ bs) (record_at o (b ∷ bs)) (λ rest. parts_up_to n o rest) (λ rest. parts_up_to m o rest) fit (λ none. cc) refl
     (λ rest shorter. parts_up_to-enough n m o rest fit (omega arith) (omega arith))
 
-parts-split : (o : Options) (text : List ℕ) → AreOptions o → text ≢ [] → text_parts o text ≡ part_then text (record_at o text) (λ rest. text_parts o rest)
+parts-split : (o : Dialect) (text : List ℕ) → IsDialect o → text ≢ [] → text_parts o text ≡ part_then text (record_at o text) (λ rest. text_parts o rest)
 parts-split o [] fit some = absurd (some refl)
 parts-split o (b ∷ bs) fit some =
     then_same o (b ∷ bs) (record_at o (b ∷ bs)) (λ rest. parts_up_to (length bs) o rest) (λ rest. text_parts o rest) fit some refl
     (λ rest shorter. parts_up_to-enough (length bs) (length rest) o rest fit (omega arith) (omega arith))
 
 -- a text that begins with no record is one part
-pub parts-none : (o : Options) (text : List ℕ) → AreOptions o → text ≢ [] → record_at o text ≡ None → text_parts o text ≡ record { bytes = text; found = None } ∷ []
+pub parts-none : (o : Dialect) (text : List ℕ) → IsDialect o → text ≢ [] → record_at o text ≡ None → text_parts o text ≡ record { bytes = text; found = None } ∷ []
 parts-none o text fit some none = parts-split o text fit some ∙ ap (λ found. part_then text found (λ rest. text_parts o rest)) none
 
 -- a text's first record is its first part
-pub parts-record : (o : Options) (r : CsvRecord) (text next bytes : List ℕ) → AreOptions o → IsTaken o r text next bytes
+pub parts-record : (o : Dialect) (r : CsvRecord) (text next bytes : List ℕ) → IsDialect o → IsTaken o r text next bytes
     → text_parts o text ≡ found_part bytes r ∷ text_parts o next
 parts-record o r text next bytes fit taken =
     parts-split o text fit taken.some
     ∙ ap (λ found. part_then text found (λ rest. text_parts o rest)) (record_at-written o r text next fit taken.is)
     ∙ ap (λ x. found_part x r ∷ text_parts o next) (bytes_taken o r text next bytes taken)
 
-pub line_taken : (o : Options) (r : CsvRecord) (text line next : List ℕ) → IsRecord o r text next → text ≡ line ++ o.eol ∷ next → IsTaken o r text next (line ++ o.eol ∷ [])
+pub line_taken : (o : Dialect) (r : CsvRecord) (text line next : List ℕ) → IsRecord o r text next → text ≡ line ++ o.eol ∷ next → IsTaken o r text next (line ++ o.eol ∷ [])
 line_taken o r text line next is split =
     let size : length text ≡ length line + suc (length next) = ap length split ∙ length-append line (o.eol ∷ next) in
     let one : length (line ++ o.eol ∷ []) ≡ length line + 1 = length-append line (o.eol ∷ []) in
@@ -98,12 +98,12 @@ line_taken o r text line next is split =
     some_line [] is = cc
     some_line (b ∷ line) is = cc
 
-parts-nothing : (o : Options) (front rest : List ℕ) → front ≡ [] → text_parts o (front ++ rest) ≡ text_parts o front ++ text_parts o rest
+parts-nothing : (o : Dialect) (front rest : List ℕ) → front ≡ [] → text_parts o (front ++ rest) ≡ text_parts o front ++ text_parts o rest
 parts-nothing o [] rest none = refl
 parts-nothing o (b ∷ front) rest none = absurd (cc)
 
 -- whole records are parts of their own
-pub parts-whole : (o : Options) (front rest : List ℕ) (records : List CsvRecord) → AreOptions o → AreWholeRecords o front records
+pub parts-whole : (o : Dialect) (front rest : List ℕ) (records : List CsvRecord) → IsDialect o → AreWholeRecords o front records
     → text_parts o (front ++ rest) ≡ text_parts o front ++ text_parts o rest
 parts-whole o front rest [] fit whole = parts-nothing o front rest whole
 parts-whole o front rest (r ∷ records) fit whole =
@@ -118,7 +118,7 @@ parts-whole o front rest (r ∷ records) fit whole =
     ∙ ap (λ (x : List TextPart). x ++ text_parts o rest) (sym (parts-record o r front next bytes fit (line_taken o r front line next whole.3 whole.2)))
 
 -- a text of whole records, or of its last ones, is parts of its own
-pub parts-front : (o : Options) (front rest : List ℕ) (records : List CsvRecord) → AreOptions o → (AreWholeRecords o front records) ⊎ (rest ≡ [])
+pub parts-front : (o : Dialect) (front rest : List ℕ) (records : List CsvRecord) → IsDialect o → (AreWholeRecords o front records) ⊎ (rest ≡ [])
     → text_parts o (front ++ rest) ≡ text_parts o front ++ text_parts o rest
 parts-front o front rest records fit (inl whole) = parts-whole o front rest records fit whole
 parts-front o front rest records fit (inr last) =
@@ -185,7 +185,7 @@ count_nothing columns true = refl
 count_nothing columns false = refl
 
 -- what follows records begins after all their bytes and rows
-pub start_past-records : (o : Options) (columns : ℕ) (start : PartStart) (text : List ℕ) (records : List CsvRecord) → AreOptions o → Records o text records
+pub start_past-records : (o : Dialect) (columns : ℕ) (start : PartStart) (text : List ℕ) (records : List CsvRecord) → IsDialect o → Records o text records
     → start_past columns start (text_parts o text)
     ≡ start_at start (length text) (row_count columns (behind_header start.awaits_header records)) (awaits_header_after start.awaits_header records)
 start_past-records o columns start text [] fit none =

@@ -5,7 +5,7 @@ use Rattle.std.proofs.lemmas.Str.{IsUtf8-past_char}
 use lib.Utf8.{encode}
 use Rattle.std.proofs.lemmas.List.{take-append-drop, take-append-le, drop_at, take_at, drop-drop}
 use Rattle.std.proofs.Math.Seq.{take-append_seam}
-use Rattle.morsel_grammar.specs.Options.{AreOptions}
+use Rattle.morsel_grammar.specs.Dialect.{IsDialect}
 use Rattle.morsel_grammar.specs.Grammar.{CsvRecord, Records}
 use Rattle.morsel_grammar.specs.Rows.{is_header, behind_header, mark_len, unmarked}
 use Rattle.morsel_grammar.specs.GrammarRows.{AreWholeRecords, awaits_header_after}
@@ -60,7 +60,7 @@ pub record AreRowsUpTo (s : CsvScan) (bytes : List ℕ) (at rows : ℕ) : Type 0
   pub place : at ≡ mark_len bytes + length front
   pub rows_are : rows ≡ row_count (length s.scan.fields) (behind_header s.options.has_header records)
 
-pub rows_upto : (s : CsvScan) (bytes : List ℕ) (at rows : ℕ) (awaits_header : Bool) → AreOptions s.options → HasRowsUpTo s bytes at rows awaits_header → AreRowsUpTo s bytes at rows
+pub rows_upto : (s : CsvScan) (bytes : List ℕ) (at rows : ℕ) (awaits_header : Bool) → IsDialect s.options → HasRowsUpTo s bytes at rows awaits_header → AreRowsUpTo s bytes at rows
 rows_upto s bytes at rows awaits_header fit has = record {
   front = has.front;
   rest = has.rest;
@@ -115,7 +115,7 @@ record StandsBetween (s : CsvScan) (front records_text : List ℕ) (head : Bool)
   are : Records s.options mid later
   rows : row_count (length s.scan.fields) (behind_header head records) ≡ row_count (length s.scan.fields) (behind_header head before) + row_count (length s.scan.fields) (behind_header (awaits_header_after head before) later)
 
-between : (s : CsvScan) (front rest upto left : List ℕ) (before records : List CsvRecord) → AreOptions s.options → AreWholeRecords s.options front before → Records s.options upto records
+between : (s : CsvScan) (front rest upto left : List ℕ) (before records : List CsvRecord) → IsDialect s.options → AreWholeRecords s.options front before → Records s.options upto records
     → front ++ rest ≡ upto ++ left → length front ≤ length upto → StandsBetween s front upto s.options.has_header before records
 between s front rest upto left before records fit whole are same within =
     let mid : List ℕ = drop (length front) upto in
@@ -131,7 +131,7 @@ between s front rest upto left before records fit whole are same within =
     }
 
 -- the rows before a place are no more than those before a later one
-pub rows_rise : (s : CsvScan) (bytes : List ℕ) (at to rows more : ℕ) → AreOptions s.options → BeginsHere s bytes at rows → AreRowsUpTo s bytes to more → at ≤ to → rows ≤ more
+pub rows_rise : (s : CsvScan) (bytes : List ℕ) (at to rows more : ℕ) → IsDialect s.options → BeginsHere s bytes at rows → AreRowsUpTo s bytes to more → at ≤ to → rows ≤ more
 rows_rise s bytes at to rows more fit (inr (start, none)) upto order = omega (arith, none)
 rows_rise s bytes at to rows more fit (inl (awaits_header, has)) upto order =
     let one = has.place in
@@ -142,11 +142,11 @@ rows_rise s bytes at to rows more fit (inl (awaits_header, has)) upto order =
     let five = gap.rows in
     omega (arith, three, four, five)
 
-pub size_of : (s : CsvScan) (make : Maker) (start : PartStart) (text : List ℕ) → AreOptions s.options → length (gives_of (text_axis s make start (text_parts s.options text))) ≡ length text
+pub size_of : (s : CsvScan) (make : Maker) (start : PartStart) (text : List ℕ) → IsDialect s.options → length (gives_of (text_axis s make start (text_parts s.options text))) ≡ length text
 size_of s make start text fit = length-gives_of (text_axis s make start (text_parts s.options text)) ∙ bytes_of-text s make fit text start
 
 -- what a file gives, its text being cut after records
-pub file-cut : (s : CsvScan) (make : Maker) (file : ℕ) (name : List ℕ) (position : ℕ) (bytes front rest : List ℕ) (records : List CsvRecord) → AreOptions s.options → unmarked bytes ≡ front ++ rest
+pub file-cut : (s : CsvScan) (make : Maker) (file : ℕ) (name : List ℕ) (position : ℕ) (bytes front rest : List ℕ) (records : List CsvRecord) → IsDialect s.options → unmarked bytes ≡ front ++ rest
     → (AreWholeRecords s.options front records) ⊎ (rest ≡ [])
     → (let start : PartStart = file_start s file name position bytes in
     gives_of (file_axis s make file name position bytes)
@@ -161,7 +161,7 @@ file-cut s make file name position bytes front rest records fit split ends =
     ∙ ap (λ (x : Places). mark ++ x) (gives_of-append (text_axis s make start (text_parts s.options front)) (text_axis s make past (text_parts s.options rest)))
 
 -- what a text gives, cut after whole records
-text-cut : (s : CsvScan) (make : Maker) (start : PartStart) (front mid : List ℕ) (records : List CsvRecord) → AreOptions s.options → AreWholeRecords s.options front records
+text-cut : (s : CsvScan) (make : Maker) (start : PartStart) (front mid : List ℕ) (records : List CsvRecord) → IsDialect s.options → AreWholeRecords s.options front records
     → gives_of (text_axis s make start (text_parts s.options (front ++ mid)))
     ≡ gives_of (text_axis s make start (text_parts s.options front)) ++ gives_of (text_axis s make (start_past (length s.scan.fields) start (text_parts s.options front)) (text_parts s.options mid))
 text-cut s make start front mid records fit whole =
@@ -190,7 +190,7 @@ slice_start bytes front rest to split to_is =
     ap (take (to - 0)) whole ∙ take_at (mark ++ front) rest (to - 0) size
 
 -- what stands between two places of a file with as many rows before the one as before the other gives nothing, where it is UTF-8
-pub nothing_between : (s : CsvScan) (make : Maker) (file : ℕ) (name : List ℕ) (position : ℕ) (bytes : List ℕ) (at to rows : ℕ) → AreOptions s.options
+pub nothing_between : (s : CsvScan) (make : Maker) (file : ℕ) (name : List ℕ) (position : ℕ) (bytes : List ℕ) (at to rows : ℕ) → IsDialect s.options
     → BeginsHere s bytes at rows → AreRowsUpTo s bytes to rows → at ≤ to → IsUtf8 (slice_range bytes at to) → GivesNothing (gives_of (file_axis s make file name position bytes)) at to
 nothing_between s make file name position bytes at to rows fit (inr (begin, none)) upto order utf8 =
     let start : PartStart = file_start s file name position bytes in

@@ -6,7 +6,7 @@ use Rattle.std.proofs.lemmas.List.{take_at, get_or_append_left, get_or-append_ri
 use Rattle.std.proofs.lemmas.List.Sums.{sum_by-append, sum_by-cons}
 use Rattle.std.proofs.lemmas.List.Concat.{flat_map-append}
 use Rattle.std.proofs.Math.Seq.{take-add, take-append_seam, drop-append_seam}
-use Rattle.morsel_grammar.specs.Options.{Options, AreOptions}
+use Rattle.morsel_grammar.specs.Dialect.{Dialect, IsDialect}
 use Rattle.morsel_grammar.specs.Grammar.{CsvRecord, IsRecord, Records}
 use Rattle.morsel_grammar.specs.Rows.{behind_header, mark_len, unmarked}
 use Rattle.morsel_grammar.specs.GrammarRows.{AreWholeRecords, awaits_header_after}
@@ -39,7 +39,7 @@ sum_false zero = refl
 sum_false (suc n) = sum_last (suc n) false (omega arith)
 
 -- as many rows end in a text as it has
-ends_counted : (s : CsvScan) (make : Maker) → AreOptions s.options → (text : List ℕ) (start : PartStart)
+ends_counted : (s : CsvScan) (make : Maker) → IsDialect s.options → (text : List ℕ) (start : PartStart)
     → sum_by one_if (ends_of (text_axis s make start (text_parts s.options text))) ≡ rows_counted (text_axis s make start (text_parts s.options text))
 ends_counted s make fit text =
     let P : List ℕ → Type 0 = λ text. (start : PartStart) → sum_by one_if (ends_of (text_axis s make start (text_parts s.options text))) ≡ rows_counted (text_axis s make start (text_parts s.options text)) in
@@ -62,7 +62,7 @@ ends_counted s make fit text =
           (omega (arith, sum, last, more, count));
     }) text
 
-ends_of_file : (s : CsvScan) (make : Maker) (file : ℕ) (name : List ℕ) (position : ℕ) (bytes : List ℕ) → AreOptions s.options
+ends_of_file : (s : CsvScan) (make : Maker) (file : ℕ) (name : List ℕ) (position : ℕ) (bytes : List ℕ) → IsDialect s.options
     → sum_by one_if (ends_of (file_axis s make file name position bytes)) ≡ rows_counted (file_axis s make file name position bytes)
 ends_of_file s make file name position bytes fit =
     let start : PartStart = file_start s file name position bytes in
@@ -77,7 +77,7 @@ take-over : (n : ℕ) (xs ys : List Bool) → take (length xs + n) (xs ++ ys) �
 take-over n xs ys = take-add (length xs) n (xs ++ ys) ∙ ap (λ a. a ++ take n (drop (length xs) (xs ++ ys))) (take-append_seam xs ys) ∙ ap (λ b. xs ++ take n b) (drop-append_seam xs ys)
 
 -- the rows before a place are those that end before it
-pub rows_before : (s : CsvScan) (make : Maker) (file position : ℕ) (names files : List (List ℕ)) (i at rows : ℕ) → AreOptions s.options → length names ≡ length files
+pub rows_before : (s : CsvScan) (make : Maker) (file position : ℕ) (names files : List (List ℕ)) (i at rows : ℕ) → IsDialect s.options → length names ≡ length files
     → StandsIn s (BeginsHere s) files i at rows → rows ≡ sum_by one_if (take at (ends_of (files_axis s make file position names files)))
 rows_before s make file position names [] i at rows fit same is = absurd is
 rows_before s make file position [] (bytes ∷ files) i at rows fit same is = absurd (omega (arith, same))
@@ -124,7 +124,7 @@ rows_before s make file position (name ∷ names) (bytes ∷ files) (suc i) at r
     sym (ap (sum_by one_if) taken ∙ total)
 
 -- the text is records up to the end of a byte, each with its eol byte unless they end with the text
-pub record EndsRecords (o : Options) (text : List ℕ) (i : ℕ) : Type 0 where
+pub record EndsRecords (o : Dialect) (text : List ℕ) (i : ℕ) : Type 0 where
   pub front : List ℕ
   pub rest : List ℕ
   pub records : List CsvRecord
@@ -151,7 +151,7 @@ some_rest [] rest n size is = absurd (omega (arith, size))
 some_rest (b ∷ front) rest n size is = cc
 
 -- the first record alone
-first_ends : (o : Options) (r : CsvRecord) (text next bytes : List ℕ) (i : ℕ) → AreOptions o → IsTaken o r text next bytes → length bytes ≡ i + 1 → EndsRecords o text i
+first_ends : (o : Dialect) (r : CsvRecord) (text next bytes : List ℕ) (i : ℕ) → IsDialect o → IsTaken o r text next bytes → length bytes ≡ i + 1 → EndsRecords o text i
 first_ends o r text next bytes i fit taken size = by taken.end
   where
     by : (next ≡ []) ⊎ ((line : List ℕ) × (bytes ≡ line ++ o.eol ∷ [])) → EndsRecords o text i
@@ -179,7 +179,7 @@ first_ends o r text next bytes i fit taken size = by taken.end
         }
 
 -- the first record, and records after it
-later_ends : (o : Options) (r : CsvRecord) (text next bytes : List ℕ) (i k : ℕ) → AreOptions o → IsTaken o r text next bytes → EndsRecords o next k → length bytes + k ≡ i → EndsRecords o text i
+later_ends : (o : Dialect) (r : CsvRecord) (text next bytes : List ℕ) (i k : ℕ) → IsDialect o → IsTaken o r text next bytes → EndsRecords o next k → length bytes + k ≡ i → EndsRecords o text i
 later_ends o r text next bytes i k fit taken more place = by taken.end
   where
     by : (next ≡ []) ⊎ ((line : List ℕ) × (bytes ≡ line ++ o.eol ∷ [])) → EndsRecords o text i
@@ -217,7 +217,7 @@ less_or_not (suc a) (suc b) = next (less_or_not a b)
     next (inr is) = inr (omega (arith, is))
 
 -- where a row ends, records end
-text_ends : (s : CsvScan) (make : Maker) → AreOptions s.options → (text : List ℕ) (start : PartStart) (i : ℕ)
+text_ends : (s : CsvScan) (make : Maker) → IsDialect s.options → (text : List ℕ) (start : PartStart) (i : ℕ)
     → get_or (ends_of (text_axis s make start (text_parts s.options text))) i false ≡ true → EndsRecords s.options text i
 text_ends s make fit text =
     let P : List ℕ → Type 0 = λ text. (start : PartStart) (i : ℕ) → get_or (ends_of (text_axis s make start (text_parts s.options text))) i false ≡ true → EndsRecords s.options text i in
@@ -286,7 +286,7 @@ get_mark (suc zero) (suc i) later less = absurd (omega arith)
 get_mark (suc (suc n)) zero later less = refl
 get_mark (suc (suc n)) (suc i) later less = get_mark (suc n) i later (omega arith)
 
-file_ends : (s : CsvScan) (make : Maker) (file : ℕ) (name : List ℕ) (position : ℕ) (bytes : List ℕ) (files : List (List ℕ)) (place : ℕ) → AreOptions s.options
+file_ends : (s : CsvScan) (make : Maker) (file : ℕ) (name : List ℕ) (position : ℕ) (bytes : List ℕ) (files : List (List ℕ)) (place : ℕ) → IsDialect s.options
     → get_or (ends_of (file_axis s make file name position bytes)) place false ≡ true → BeginsAfter s (bytes ∷ files) (place + 1)
 file_ends s make file name position bytes files place fit is = by (less_or_not place (mark_len bytes))
   where
@@ -306,7 +306,7 @@ begins_later s bytes files place later records split is (inl (i, rows, stands)) 
 begins_later s bytes files place later records split is (inr end) = inr (omega (arith, is, end, sum_by-cons length bytes files))
 
 -- where a row ends, a stretch may begin after it, or the files end
-pub row_ends_begin : (s : CsvScan) (make : Maker) (file position : ℕ) (names files : List (List ℕ)) (source earlier place : ℕ) → AreOptions s.options → length names ≡ length files
+pub row_ends_begin : (s : CsvScan) (make : Maker) (file position : ℕ) (names files : List (List ℕ)) (source earlier place : ℕ) → IsDialect s.options → length names ≡ length files
     → HaveRows s (take source files) earlier → place < sum_by length (take (suc source) files) → get_or (ends_of (files_axis s make file position names files)) place false ≡ true
     → BeginsAfter s files (place + 1)
 row_ends_begin s make file position names [] source earlier place fit same have within is = absurd (omega (arith, within))
@@ -432,7 +432,7 @@ sum_take_rises xs n m order =
     ap (λ k. sum_by one_if (take k xs)) same ∙ ap (sum_by one_if) (take-add n (m - n) xs) ∙ sum_by-append one_if (take n xs) (take (m - n) (drop n xs)) in
     omega (arith, cut)
 
-no_row_ends : (s : CsvScan) (make : Maker) (first given later rows source earlier : ℕ) (names files : List (List ℕ)) → AreOptions s.options → length names ≡ length files
+no_row_ends : (s : CsvScan) (make : Maker) (first given later rows source earlier : ℕ) (names files : List (List ℕ)) → IsDialect s.options → length names ≡ length files
     → BeginsStretch s files given rows → HaveRows s (take source files) earlier → later ≤ sum_by length (take (source + 1) files) → later < sum_by length files
     → ((place more : ℕ) → BeginsStretch s files place more → place ≤ later → more ≤ rows)
     → (place : ℕ) → given ≤ place → place < later → (t : Bool) → get_or (ends_of (files_axis s make first 0 names files)) place false ≡ t → t ≡ false
@@ -455,7 +455,7 @@ no_row_ends s make first given later rows source earlier names files fit same be
         let two = sum_take_rises all given place low in
         omega (arith, most, count, one, two, counted)
 
-pub ends_no_more_rows : (s : CsvScan) → AreOptions s.options → EndsNoMoreRows s
+pub ends_no_more_rows : (s : CsvScan) → IsDialect s.options → EndsNoMoreRows s
 ends_no_more_rows s fit = λ first head given later rows source earlier names files opened text_of same begins have within left few place low high.
     let make : Maker = scanned_within s.scan (csv_keeps s first names files) in
     no_row_ends s make first given later rows source earlier names files fit same begins have within left few place low high

@@ -9,7 +9,7 @@ use Rattle.morsel_meaning.specs.declared.fault.Fault.TheVariants.{OutOfMemory}
 use Rattle.morsel_meaning.specs.Values.{Table}
 use Rattle.morsel_frame.specs.Names.{AreDistinctPlaces}
 use Rattle.morsel_frame.specs.Tables.{cells_at, fields_at}
-use Rattle.morsel_grammar.specs.Options.{AreOptions}
+use Rattle.morsel_grammar.specs.Dialect.{IsDialect}
 use Rattle.morsel_grammar.specs.Cells.{CsvCell}
 use Rattle.morsel_grammar.specs.Reading.{chosen, read_of, row_place}
 use Rattle.morsel_grammar.specs.Results.{IsRefused, ReadsRecords}
@@ -70,7 +70,7 @@ pub rest_checked : (s : CsvScan) (file at : ℕ) (text : List ℕ) (cut : ℕ) (
 rest_checked s file at text cut result checked = subst (λ (b : List ℕ). ChecksText s file (at + cut) b result) (take_rest text cut) checked
 
 -- where a text is cut before a row, by the place of its record
-pub row_cut : (s now : CsvScan) (at : ℕ) (text : List ℕ) (row place : ℕ) (found : Option ℕ) → s ≡ now → AreOptions s.options → found ≡ row_place (text_reading s at text).rows row → found ≡ Some place
+pub row_cut : (s now : CsvScan) (at : ℕ) (text : List ℕ) (row place : ℕ) (found : Option ℕ) → s ≡ now → IsDialect s.options → found ≡ row_place (text_reading s at text).rows row → found ≡ Some place
     → (at ≤ place) × IsCut now at text row (place - at)
 row_cut s now at text row place found is fit told some =
     let cut = cut_found s at text row place fit (sym told ∙ some) in (cut.0, subst (λ (x : CsvScan). IsCut x at text row (place - at)) is cut.1)
@@ -78,11 +78,11 @@ row_cut s now at text row place found is fit told some =
 pub row_uncut : (s now : CsvScan) (at : ℕ) (text : List ℕ) (row : ℕ) (found : Option ℕ) → s ≡ now → found ≡ row_place (text_reading s at text).rows row → found ≡ None → IsCut now at text row (length text)
 row_uncut s now at text row found is told none = subst (λ (x : CsvScan). IsCut x at text row (length text)) is (cut_none s at text row (sym told ∙ none))
 
-pub options_fit : (s now : CsvScan) → s ≡ now → AreOptions s.options → AreOptions now.options
-options_fit s now is fit = subst (λ (x : CsvScan). AreOptions x.options) is fit
+pub options_fit : (s now : CsvScan) → s ≡ now → IsDialect s.options → IsDialect now.options
+options_fit s now is fit = subst (λ (x : CsvScan). IsDialect x.options) is fit
 
 -- the rows of a piece that its slice keeps, once the text before them was checked
-pub kept_read : (s : CsvScan) (inner piece : Piece) (bytes : List ℕ) (cut : ℕ) (result : Result Table Fault) → inner ≡ piece → bytes ≡ inner.bytes → AreOptions s.options → IsCut s inner.at bytes inner.slice.0 cut
+pub kept_read : (s : CsvScan) (inner piece : Piece) (bytes : List ℕ) (cut : ℕ) (result : Result Table Fault) → inner ≡ piece → bytes ≡ inner.bytes → IsDialect s.options → IsCut s inner.at bytes inner.slice.0 cut
     → ChecksText s inner.file inner.at (take cut bytes) (Ok tt) → ReadsFirst s inner.file (inner.at + cut) (take (length bytes - cut) (drop cut bytes)) inner.slice.1 result → ReadsKept s piece result
 kept_read s inner piece bytes cut result is same fit found checked read =
     subst (λ (p : Piece). ReadsKept s p result) is (reads_kept s inner cut result fit
@@ -91,7 +91,7 @@ kept_read s inner piece bytes cut result is same fit found checked read =
     (subst (λ (b : List ℕ). ReadsFirst s inner.file (inner.at + cut) (drop cut b) inner.slice.1 result) same
     (subst (λ (b : List ℕ). ReadsFirst s inner.file (inner.at + cut) b inner.slice.1 result) (take_rest bytes cut) read)))
 
-pub kept_failed : (s : CsvScan) (inner piece : Piece) (bytes : List ℕ) (cut : ℕ) (fault : Fault) → inner ≡ piece → bytes ≡ inner.bytes → AreOptions s.options → IsCut s inner.at bytes inner.slice.0 cut
+pub kept_failed : (s : CsvScan) (inner piece : Piece) (bytes : List ℕ) (cut : ℕ) (fault : Fault) → inner ≡ piece → bytes ≡ inner.bytes → IsDialect s.options → IsCut s inner.at bytes inner.slice.0 cut
     → ChecksText s inner.file inner.at (take cut bytes) (Err fault) → ReadsKept s piece (Err fault)
 kept_failed s inner piece bytes cut fault is same fit found failed =
     subst (λ (p : Piece). ReadsKept s p (Err fault)) is (reads_kept_err s inner cut fault fit

@@ -9,7 +9,7 @@ use Rattle.morsel_meaning.specs.declared.value.Field.{Field}
 use Rattle.morsel_meaning.specs.declared.fault.ComputeKind.TheVariants as kinds
 use Rattle.morsel_meaning.specs.declared.fault.Fault.TheVariants as faults
 use Rattle.morsel_meaning.specs.Values.{kinds_of}
-use Rattle.morsel_grammar.specs.Options.{AreOptions}
+use Rattle.morsel_grammar.specs.Dialect.{IsDialect}
 use Rattle.morsel_grammar.specs.Grammar.{CsvRecord, Comment, Fields, Records}
 use Rattle.morsel_grammar.specs.Rows.{NoRow, is_empty, is_header, cells_of, row_or_misfit, row_of_nothing, row_of, behind_header}
 use Rattle.morsel_grammar.proofs.ByteLemmas.{either_second}
@@ -71,7 +71,7 @@ some_bytes : (n m k : ℕ) → n - m ≡ k → m < n → 0 < k
 some_bytes n m k is less = omega (arith, is)
 
 -- a text of records without a row gives nothing, where it is UTF-8
-pub nothing_given : (s : CsvScan) (make : Maker) (start : PartStart) (text : List ℕ) (records : List CsvRecord) → AreOptions s.options → Records s.options text records → IsUtf8 text
+pub nothing_given : (s : CsvScan) (make : Maker) (start : PartStart) (text : List ℕ) (records : List CsvRecord) → IsDialect s.options → Records s.options text records → IsUtf8 text
     → row_count (length s.scan.fields) (behind_header start.awaits_header records) ≡ 0 → collected (gives_of (text_axis s make start (text_parts s.options text))) ≡ Ok []
 nothing_given s make start text [] fit none utf8 no_rows = ap (λ t. collected (gives_of (text_axis s make start (text_parts s.options t)))) none
 nothing_given s make start text (r ∷ records) fit (some, next, is, later) utf8 no_rows =

@@ -7,7 +7,7 @@ use Rattle.morsel_meaning.specs.declared.fault.ComputeKind.TheVariants as kinds
 use Rattle.morsel_meaning.specs.declared.fault.Fault.{Fault}
 use Rattle.morsel_meaning.specs.declared.fault.Fault.TheVariants as faults
 use Rattle.morsel_meaning.specs.Values.{Row, kinds_of}
-use Rattle.morsel_grammar.specs.Options.{AreOptions}
+use Rattle.morsel_grammar.specs.Dialect.{IsDialect}
 use Rattle.morsel_grammar.specs.Grammar.{CsvRecord}
 use Rattle.morsel_grammar.specs.Rows.{RowOf, NoRow, IsRow, Misfit, row_of, behind_header, mark_len, unmarked, IsOfGrammar}
 use Rattle.morsel_grammar.specs.Reading.{used_values}
@@ -109,7 +109,7 @@ last_same gives other more less from begin one two three same =
     subst (λ n. SameLast more less n) three (subst (λ (x : Places). SameLast more x from) two (subst (λ (x : Places). SameLast x other from) one same))
 
 -- from where nothing is made of rows, all is as if nothing were ever made
-same_from : (s : CsvScan) (make : Maker) (file position : ℕ) (names files : List (List ℕ)) (i from rows : ℕ) → AreOptions s.options → length names ≡ length files
+same_from : (s : CsvScan) (make : Maker) (file position : ℕ) (names files : List (List ℕ)) (i from rows : ℕ) → IsDialect s.options → length names ≡ length files
     → StandsIn s (BeginsHere s) files i from rows → MakesNothing make (position + rows)
     → SameLast (gives_of (files_axis s make file position names files)) (gives_of (files_axis s makes_none file position names files)) from
 same_from s make file position names [] i from rows fit same begin none = absurd begin
@@ -179,7 +179,7 @@ none_gathered [] = refl
 none_gathered (row ∷ rows) = ap (gathered_then (Ok None)) (none_gathered rows)
 
 -- of files of the grammar nothing is made where nothing is made of rows
-none_made : (s : CsvScan) (file position : ℕ) (names files : List (List ℕ)) → AreOptions s.options → All (IsOfGrammar s.options (kinds_of s.scan.fields)) files
+none_made : (s : CsvScan) (file position : ℕ) (names files : List (List ℕ)) → IsDialect s.options → All (IsOfGrammar s.options (kinds_of s.scan.fields)) files
     → made_sources makes_none position (csv_sources s file names files) ≡ Ok []
 none_made s file position [] files fit of = refl
 none_made s file position (name ∷ names) [] fit of = refl
@@ -190,7 +190,7 @@ none_made s file position (name ∷ names) (bytes ∷ files) fit of =
     ∙ ap (λ x. followed_by x later) (none_gathered rows) ∙ followed_by-nothing later
     ∙ none_made s (file + 1) (position + length (file_reading s bytes).rows) names files fit (λ k d less. of (suc k) d (omega arith))
 
-nothing_of_grammar : (s : CsvScan) (make : Maker) (first given rows : ℕ) (names files : List (List ℕ)) → AreOptions s.options → length names ≡ length files → MakesNothing make (0 + rows) → IsAfterPieces s files given rows
+nothing_of_grammar : (s : CsvScan) (make : Maker) (first given rows : ℕ) (names files : List (List ℕ)) → IsDialect s.options → length names ≡ length files → MakesNothing make (0 + rows) → IsAfterPieces s files given rows
     → All (IsOfGrammar s.options (kinds_of s.scan.fields)) files → (let gives = gives_of (files_axis s make first 0 names files) in Gives gives given (length gives) [])
 nothing_of_grammar s make first given rows names files fit same none (inr end) of =
     let parts : List AxisPart = files_axis s make first 0 names files in
@@ -215,7 +215,7 @@ nothing_of_grammar s make first given rows names files fit same none (inl begins
     no_more [] ys is = is
     no_more (x ∷ xs) ys is = absurd (cc)
 
-pub gives_nothing_of_grammar : (s : CsvScan) → AreOptions s.options → GivesNothingOfGrammar s
+pub gives_nothing_of_grammar : (s : CsvScan) → IsDialect s.options → GivesNothingOfGrammar s
 gives_nothing_of_grammar s fit = λ first head given rows names files opened text_of same ends keeps_none of.
     let none : MakesNothing (scanned_within s.scan (csv_keeps s first names files)) (0 + rows) = λ row from.
     ap (λ t. if t && nat_le 4294967295 row.position then Err (faults.ComputeError kinds.TooManyRows 4294967295 0) else (if t then row_of_values s.scan row (used_values (used_columns s.scan) row.cells) else Ok None))

@@ -6,7 +6,7 @@ use Rattle.morsel_meaning.specs.declared.fault.ComputeKind.TheVariants as kinds
 use Rattle.morsel_meaning.specs.declared.fault.Fault.{Fault}
 use Rattle.morsel_meaning.specs.declared.fault.Fault.TheVariants as faults
 use Rattle.morsel_meaning.specs.Values.{Row, kinds_of}
-use Rattle.morsel_grammar.specs.Options.{Options}
+use Rattle.morsel_grammar.specs.Dialect.{Dialect}
 use Rattle.morsel_grammar.specs.Grammar.{CsvRecord}
 use Rattle.morsel_grammar.specs.Rows.{RowOf, NoRow, IsRow, Misfit, is_header, row_of, mark_len, unmarked}
 use Rattle.morsel_grammar.specs.Split.{record_at}
@@ -27,13 +27,13 @@ part_then text None later = record { bytes = text; found = None } ∷ []
 part_then text (Some split) later = record { bytes = take (length text - length split.1) text; found = Some split.0 } ∷ later split.1
 
 -- at most `n` parts of a text
-abbrev pub parts_up_to : ℕ → Options → List ℕ → List TextPart
+abbrev pub parts_up_to : ℕ → Dialect → List ℕ → List TextPart
 parts_up_to n o [] = []
 parts_up_to zero o (b ∷ bs) = []
 parts_up_to (suc n) o (b ∷ bs) = part_then (b ∷ bs) (record_at o (b ∷ bs)) (λ rest. parts_up_to n o rest)
 
 -- a text as its records, one after the other, up to its end or to where none begins
-abbrev pub text_parts : Options → List ℕ → List TextPart
+abbrev pub text_parts : Dialect → List ℕ → List TextPart
 text_parts o text = parts_up_to (length text) o text
 
 -- where a part of a text begins
