@@ -118,7 +118,7 @@ scans_chained s fit = λ first head given names files opened text_of pieces chai
     ∙ ap (followed_by (rows_of_pieces s pieces)) rest.all ∙ followed_by-end (rows_of_pieces s pieces) in
     chain_scanned s first head given names files opened text_of pieces fit chained (omega (arith, size, order)) all (rows_of_pieces s pieces) refl
 
-given_nothing : (gives : Places) (from to : ℕ) → to ≡ length gives → GivesNothing gives from to → Gives gives from (length gives) []
+pub given_nothing : (gives : Places) (from to : ℕ) → to ≡ length gives → GivesNothing gives from to → Gives gives from (length gives) []
 given_nothing gives from to end none =
     let order = midst-order none.is in
     let low = order.0 in record {
@@ -128,7 +128,7 @@ given_nothing gives from to end none =
     }
 
 -- after all places there is none
-none_left : (gives : Places) (from : ℕ) → from ≡ length gives → Gives gives from (length gives) []
+pub none_left : (gives : Places) (from : ℕ) → from ≡ length gives → Gives gives from (length gives) []
 none_left gives from end = record {
   order = omega (arith, end);
   within = omega arith;
@@ -188,7 +188,7 @@ part_no_rows s make start bytes (Some r) none = by (is_utf8 bytes) start.awaits_
     by true true = (refl, tt)
     by true false = record_no_rows make start (row_of s.options (kinds_of s.scan.fields) r) none
 
-makes_later : (make : Maker) (position more : ℕ) → position ≤ more → MakesNothing make position → MakesNothing make more
+pub makes_later : (make : Maker) (position more : ℕ) → position ≤ more → MakesNothing make position → MakesNothing make more
 makes_later make position more order none = λ row from. none row (omega arith)
 
 text_no_rows : (s : CsvScan) (make : Maker) (start : PartStart) (parts : List TextPart) → MakesNothing make start.position → GiveNoRows (gives_of (text_axis s make start parts))
@@ -248,7 +248,7 @@ no_more-same : (gives other : Places) (from begin : ℕ) → gives ≡ other →
 no_more-same gives other from begin one two more = subst (λ n. GivesNoMore other n) two (subst (λ (x : Places). GivesNoMore x from) one more)
 
 -- a file has all rows before a place of it
-rows_within : (s : CsvScan) (make : Maker) (file : ℕ) (name : List ℕ) (position : ℕ) (bytes : List ℕ) (at rows : ℕ) (awaits_header : Bool) → IsDialect s.options → HasRowsUpTo s bytes at rows awaits_header
+pub rows_within : (s : CsvScan) (make : Maker) (file : ℕ) (name : List ℕ) (position : ℕ) (bytes : List ℕ) (at rows : ℕ) (awaits_header : Bool) → IsDialect s.options → HasRowsUpTo s bytes at rows awaits_header
     → rows ≤ rows_counted (file_axis s make file name position bytes)
 rows_within s make file name position bytes at rows awaits_header fit has =
     let start : PartStart = file_start s file name position bytes in

@@ -22,7 +22,8 @@ use Rattle.morsel_scan.specs.ScanRows.{Placed, placed, scanned}
 use Rattle.morsel_scan.specs.CsvScans.{piece_keeps, piece_source, piece_placed, HasRowFault, UnlessOutOfMemory, IsPieceFault}
 use Rattle.morsel_scan.specs.CsvPieces.{IsPieceOf}
 use Rattle.morsel_scan.specs.StretchRows.{HasFaultWithin}
-use Rattle.morsel_scan.specs.CsvAxis.{text_parts, PartStart, is_row_part, awaits_header_past, rows_of_part, start_after, rows_made, record_gives, part_gives, text_axis, files_axis, last_of, gives_of}
+use Rattle.morsel_scan.specs.Ahead.{one_if}
+use Rattle.morsel_scan.specs.CsvAxis.{text_parts, PartStart, is_row_part, awaits_header_past, start_after, rows_made, record_gives, part_gives, text_axis, files_axis, last_of, gives_of}
 use Rattle.morsel_scan.proofs.CountLemmas.{counted}
 use Rattle.morsel_scan.proofs.ReadLemmas.{unless-map}
 use Rattle.morsel_scan.proofs.StretchLemmas.{Places}
@@ -60,19 +61,19 @@ row_fault make file name at position cells later fault (x ∷ before) row after 
 
 record_fault : (make : Maker) (file : ℕ) (name : List ℕ) (at position : ℕ) (row : RowOf) (counts : Bool) (later : Reading) (fault : Fault) → Agrees row counts
     → IsTextFault make file name position (row_then false at row later) fault
-    → (record_gives make (record { file = file; name = name; at = at; position = position; awaits_header = false }) row ≡ Err fault) ⊎ IsTextFault make file name (position + rows_of_part counts) later fault
+    → (record_gives make (record { file = file; name = name; at = at; position = position; awaits_header = false }) row ≡ Err fault) ⊎ IsTextFault make file name (position + one_if counts) later fault
 record_fault make file name at position NoRow counts later fault agrees is =
-    let none : rows_of_part counts ≡ 0 = ap rows_of_part agrees in
-    let same : position ≡ position + rows_of_part counts = omega (arith, none) in inr (subst (λ p. IsTextFault make file name p later fault) same is)
+    let none : one_if counts ≡ 0 = ap one_if agrees in
+    let same : position ≡ position + one_if counts = omega (arith, none) in inr (subst (λ p. IsTextFault make file name p later fault) same is)
 record_fault make file name at position (IsRow cells) counts later fault agrees (inl refused) = inr (inl refused)
 record_fault make file name at position (IsRow cells) counts later fault agrees (inr (before, row, after, is, made)) =
-    let one : rows_of_part counts ≡ 1 = ap rows_of_part agrees in
-    let same : position + 1 ≡ position + rows_of_part counts = omega (arith, one) in
+    let one : one_if counts ≡ 1 = ap one_if agrees in
+    let same : position + 1 ≡ position + one_if counts = omega (arith, one) in
     or_later (row_fault make file name at position cells later fault before row after is made) same
   where
     or_later : (rows_made (make (record { position = position; file = file; source = name; at = at; cells = cells })) ≡ Err fault) ⊎ IsTextFault make file name (position + 1) later fault
-        → position + 1 ≡ position + rows_of_part counts
-        → (rows_made (make (record { position = position; file = file; source = name; at = at; cells = cells })) ≡ Err fault) ⊎ IsTextFault make file name (position + rows_of_part counts) later fault
+        → position + 1 ≡ position + one_if counts
+        → (rows_made (make (record { position = position; file = file; source = name; at = at; cells = cells })) ≡ Err fault) ⊎ IsTextFault make file name (position + one_if counts) later fault
     or_later (inl here) same = inl here
     or_later (inr more) same = inr (subst (λ p. IsTextFault make file name p later fault) same more)
 record_fault make file name at position Misfit counts later fault agrees (inl refused) =
@@ -83,7 +84,7 @@ part_fault : (s : CsvScan) (make : Maker) (file : ℕ) (name : List ℕ) (at pos
     → (let start : PartStart = record { file = file; name = name; at = at; position = position; awaits_header = head } in
     IsTextFault make file name position (if t then (if head then later (not (is_header r)) else row_then false at (row_of s.options (kinds_of s.scan.fields) r) (later false)) else refuses head at NotUtf8) fault
     → ((if t then (if head then Ok [] else record_gives make start (row_of s.options (kinds_of s.scan.fields) r)) else Err (flaw_fault file at NotUtf8)) ≡ Err fault)
-    ⊎ IsTextFault make file name (position + rows_of_part (is_row_part (length s.scan.fields) head (Some r))) (later (awaits_header_past head (Some r))) fault)
+    ⊎ IsTextFault make file name (position + one_if (is_row_part (length s.scan.fields) head (Some r))) (later (awaits_header_past head (Some r))) fault)
 part_fault s make file name at position head false r later fault (inl refused) = let same : flaw_fault file at NotUtf8 ≡ fault = cc in inl (ap Err same)
 part_fault s make file name at position head false r later fault (inr (before, row, after, is, made)) = absurd (none_among before row after is)
 part_fault s make file name at position true true r later fault is =

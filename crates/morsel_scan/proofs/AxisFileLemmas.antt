@@ -79,7 +79,7 @@ rows_counted-file s make file name position bytes =
     sum_by-cons (λ (x : AxisPart). if x.counts then 1 else 0) (mark_axis (mark_len bytes)) parts ∙ none
 
 -- what is made of files, whose first row has this position
-pub made_sources : Maker → ℕ → List SourceRows → Result (List Row) Fault
+abbrev pub made_sources : Maker → ℕ → List SourceRows → Result (List Row) Fault
 made_sources make position [] = Ok []
 made_sources make position (source ∷ sources) =
     followed_by (ended_by source.fault (gathered make (placed position source.file source.name source.rows))) (made_sources make (position + length source.rows) sources)
@@ -97,7 +97,6 @@ no_fault file (Some refusal) none = absurd (cc)
 
 pub collected-files : (s : CsvScan) (make : Maker) (file position : ℕ) (names files : List (List ℕ)) → IsDialect s.options
     → collected (gives_of (files_axis s make file position names files)) ≡ made_sources make position (csv_sources s file names files)
-unfolding made_sources
 collected-files s make file position [] files fit = refl
 collected-files s make file position (name ∷ names) [] fit = refl
 collected-files s make file position (name ∷ names) (bytes ∷ files) fit =
@@ -112,7 +111,6 @@ collected-files s make file position (name ∷ names) (bytes ∷ files) fit =
     (λ none. ap (λ n. position + n) (rows_counted-file s make file name position bytes ∙ rows_counted-read s make (file_start s file name position bytes) (unmarked bytes) fit (no_fault file r.refusal none)))
 
 pub made_sources-scanned : (scan : Scan) (keeps : ℕ → Bool) (position : ℕ) (sources : List SourceRows) → made_sources (scanned scan keeps) position sources ≡ scanned_sources scan keeps position sources
-unfolding made_sources
 made_sources-scanned scan keeps position [] = refl
 made_sources-scanned scan keeps position (source ∷ sources) = ap (followed_by (scanned_source scan keeps position source)) (made_sources-scanned scan keeps (position + length source.rows) sources)
 
@@ -129,7 +127,6 @@ gathered-made make other position file name (row ∷ rows) alike =
     ∙ ap (gathered_then (other one)) (gathered-made make other (position + 1) file name rows (λ later from to. alike later (omega arith) (omega arith)))
 
 made_sources-alike : (make other : Maker) (position : ℕ) (sources : List SourceRows) → MakeAlike make other position (total_rows sources) → made_sources make position sources ≡ made_sources other position sources
-unfolding made_sources
 made_sources-alike make other position [] alike = refl
 made_sources-alike make other position (source ∷ sources) alike =
     let sum = sum_by-cons (λ (x : SourceRows). length x.rows) source sources in
@@ -184,7 +181,6 @@ ended-more (Some fault) (Err first) b rows more is = absurd (cc)
 
 pub made_sources-more : (make other : Maker) → MakesMore make other → (position : ℕ) (sources : List SourceRows) (rows : List Row)
     → made_sources make position sources ≡ Ok rows → made_sources other position sources ≡ Ok rows
-unfolding made_sources
 made_sources-more make other more position [] rows is = is
 made_sources-more make other more position (source ∷ sources) rows is =
     let xs : List Placed = placed position source.file source.name source.rows in

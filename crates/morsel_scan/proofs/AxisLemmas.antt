@@ -25,7 +25,8 @@ use Rattle.morsel_cut.proofs.CountLemmas.{Agrees, record_agrees, counts_rows}
 use Rattle.morsel_scan.specs.Scans.{CsvScan}
 use Rattle.morsel_scan.specs.ScanRows.{Placed, placed, gathered_then, gathered, ended_by, followed_by}
 use Rattle.morsel_scan.specs.StretchRows.{collected}
-use Rattle.morsel_scan.specs.CsvAxis.{TextPart, text_parts, PartStart, is_row_part, awaits_header_past, rows_of_part, start_after, rows_made, record_gives, part_gives, AxisPart, axis_part, text_axis, rows_counted, last_of, gives_of}
+use Rattle.morsel_scan.specs.Ahead.{one_if}
+use Rattle.morsel_scan.specs.CsvAxis.{TextPart, text_parts, PartStart, is_row_part, awaits_header_past, start_after, rows_made, record_gives, part_gives, AxisPart, axis_part, text_axis, rows_counted, last_of, gives_of}
 use Rattle.morsel_scan.proofs.GatherLemmas.{followed_by-nothing}
 use Rattle.morsel_scan.proofs.StretchLemmas.{Places}
 use Rattle.morsel_scan.proofs.PartLemmas.{by_records, found_part, parts-none, parts-record, start_past, start_past-records}
@@ -105,21 +106,21 @@ then_made (Ok (Some row)) (Some fault) (Ok rows) = refl
 then_made (Ok (Some row)) (Some fault) (Err first) = refl
 
 row_made : (make : Maker) (file : ℕ) (name : List ℕ) (at position : ℕ) (row : RowOf) (counts : Bool) (later : Reading) → Agrees row counts
-    → followed_by (record_gives make (record { file = file; name = name; at = at; position = position; awaits_header = false }) row) (made make file name (position + rows_of_part counts) later)
+    → followed_by (record_gives make (record { file = file; name = name; at = at; position = position; awaits_header = false }) row) (made make file name (position + one_if counts) later)
     ≡ made make file name position (row_then false at row later)
 row_made make file name at position NoRow counts later agrees =
-    let same : position + rows_of_part false ≡ position = omega arith in
-    followed_by-nothing (made make file name (position + rows_of_part counts) later) ∙ ap (λ t. made make file name (position + rows_of_part t) later) agrees ∙ ap (λ p. made make file name p later) same
+    let same : position + one_if false ≡ position = omega arith in
+    followed_by-nothing (made make file name (position + one_if counts) later) ∙ ap (λ t. made make file name (position + one_if t) later) agrees ∙ ap (λ p. made make file name p later) same
 row_made make file name at position (IsRow cells) counts later agrees =
     let one : Placed = record { position = position; file = file; source = name; at = at; cells = cells } in
-    ap (λ t. followed_by (rows_made (make one)) (made make file name (position + rows_of_part t) later)) agrees
+    ap (λ t. followed_by (rows_made (make one)) (made make file name (position + one_if t) later)) agrees
     ∙ then_made (make one) (refusal_fault file later.refusal) (gathered make (placed (position + 1) file name later.rows))
 row_made make file name at position Misfit counts later agrees = refl
 
 record_made : (s : CsvScan) (make : Maker) (file : ℕ) (name : List ℕ) (at position : ℕ) (head t : Bool) (r : CsvRecord) (later : Bool → Reading)
     → (let start : PartStart = record { file = file; name = name; at = at; position = position; awaits_header = head } in
     followed_by (if t then (if head then Ok [] else record_gives make start (row_of s.options (kinds_of s.scan.fields) r)) else Err (flaw_fault file at NotUtf8))
-    (made make file name (position + rows_of_part (is_row_part (length s.scan.fields) head (Some r))) (later (awaits_header_past head (Some r))))
+    (made make file name (position + one_if (is_row_part (length s.scan.fields) head (Some r))) (later (awaits_header_past head (Some r))))
     ≡ made make file name position (if t then (if head then later (not (is_header r)) else row_then false at (row_of s.options (kinds_of s.scan.fields) r) (later false)) else refuses head at NotUtf8))
 record_made s make file name at position head false r later = refl
 record_made s make file name at position true true r later =
@@ -169,12 +170,12 @@ rows_counted-past s make start (part ∷ parts) =
     let after : PartStart = start_after (length s.scan.fields) start part in
     let later = rows_counted-past s make after parts in
     let t : Bool = is_row_part (length s.scan.fields) start.awaits_header part.found in
-    let one : rows_of_part t ≡ cond t 1 0 = counted_one t in
+    let one : one_if t ≡ cond t 1 0 = counted_one t in
     let sum : rows_counted (text_axis s make start (part ∷ parts)) ≡ cond t 1 0 + rows_counted (text_axis s make after parts) =
     sum_by-cons (λ (x : AxisPart). cond x.counts 1 0) (axis_part s make start part) (text_axis s make after parts) in
     omega (arith, later, one, sum)
   where
-    counted_one : (t : Bool) → rows_of_part t ≡ cond t 1 0
+    counted_one : (t : Bool) → one_if t ≡ cond t 1 0
     counted_one true = refl
     counted_one false = refl
 

@@ -32,3 +32,5 @@ pub mod AxisEndLemmas
 pub mod AxisRowLemmas
 mod AxisFacts
 pub mod RowEndLemmas
+pub mod UnreadLemmas
+pub mod TextLemmas

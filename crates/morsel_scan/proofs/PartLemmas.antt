@@ -11,7 +11,8 @@ use Rattle.morsel_grammar.proofs.RecordLemmas.{IsFound, record_at-read, record_a
 use Rattle.morsel_grammar.proofs.FirstRecordLemmas.{IsTaken, bytes_taken, record_taken}
 use Rattle.morsel_grammar.proofs.WholeRecordLemmas.{record_again}
 use Rattle.morsel_cut.specs.RowCounts.{is_row, row_count}
-use Rattle.morsel_scan.specs.CsvAxis.{TextPart, part_then, parts_up_to, text_parts, PartStart, is_row_part, awaits_header_past, rows_of_part, start_after}
+use Rattle.morsel_scan.specs.Ahead.{one_if}
+use Rattle.morsel_scan.specs.CsvAxis.{TextPart, part_then, parts_up_to, text_parts, PartStart, is_row_part, awaits_header_past, start_after}
 
 -- the part of a record
 abbrev pub found_part : List ℕ → CsvRecord → TextPart
@@ -140,13 +141,13 @@ awaits_not : (t : Bool) (records : List CsvRecord) → (if t then false else awa
 awaits_not true records = refl
 awaits_not false records = refl
 
-one_counted : (t : Bool) → rows_of_part t ≡ cond t 1 0
+one_counted : (t : Bool) → one_if t ≡ cond t 1 0
 one_counted true = refl
 one_counted false = refl
 
 -- a record, and then others, count as rows
 rows_past : (columns : ℕ) (head : Bool) (r : CsvRecord) (records : List CsvRecord)
-    → rows_of_part (is_row_part columns head (Some r)) + row_count columns (behind_header (awaits_header_past head (Some r)) records) ≡ row_count columns (behind_header head (r ∷ records))
+    → one_if (is_row_part columns head (Some r)) + row_count columns (behind_header (awaits_header_past head (Some r)) records) ≡ row_count columns (behind_header head (r ∷ records))
 rows_past columns true r records =
     let none : 0 + row_count columns (behind_header (not (is_header r)) records) ≡ row_count columns (behind_header (not (is_header r)) records) = omega arith in
     none ∙ ap (row_count columns) (behind_not (is_header r) records)
@@ -199,6 +200,6 @@ start_past-records o columns start text (r ∷ records) fit (some, next, is, lat
     let size : length taken.0 + length next ≡ length text = sym (length-append taken.0 next) ∙ sym (ap length taken.1.split) in
     ap (start_past columns start) (parts-record o r text next taken.0 fit taken.1)
     ∙ start_past-records o columns (start_after columns start part) next records fit later
-    ∙ start_twice start (length taken.0) (length next) (rows_of_part (is_row_part columns head (Some r))) (row_count columns (behind_header past records)) past (awaits_header_after past records)
-    ∙ start_same start (length taken.0 + length next) (length text) (rows_of_part (is_row_part columns head (Some r)) + row_count columns (behind_header past records))
+    ∙ start_twice start (length taken.0) (length next) (one_if (is_row_part columns head (Some r))) (row_count columns (behind_header past records)) past (awaits_header_after past records)
+    ∙ start_same start (length taken.0 + length next) (length text) (one_if (is_row_part columns head (Some r)) + row_count columns (behind_header past records))
     (row_count columns (behind_header head (r ∷ records))) (awaits_header_after past records) (awaits_header_after head (r ∷ records)) size (rows_past columns head r records) (header_past head r records)

@@ -1,12 +1,11 @@
 -- Where rows end: how many end before a place, and that a stretch may begin where one ends.
 use Rattle.std.proofs.Common.{◌≡◌, ◌≢◌, ℕ, zero, suc, ◌+◌, ◌-◌, ◌<◌, ◌≤◌, ap, sym, subst, refl, ◌∙◌, inl, inr, arith, append_assoc, append-nil, length-append, cond, true≢false}
-use Rattle.std.specs.Prelude.{Bool, true, false, ◌⊎◌, Option, Some, None, List, [], ◌∷◌, ◌++◌, length, take, drop, get_or, slice_get}
-use Rattle.std.specs.List.{sum_by, flat_map}
+use Rattle.std.specs.Prelude.{Bool, true, false, ◌⊎◌, Some, None, List, [], ◌∷◌, ◌++◌, length, take, drop, get_or, slice_get}
+use Rattle.std.specs.List.{sum_by}
 use Rattle.std.proofs.lemmas.List.{take_at, get_or_append_left, get_or-append_right}
 use Rattle.std.proofs.lemmas.List.Sums.{sum_by-append, sum_by-cons}
 use Rattle.std.proofs.lemmas.List.Concat.{flat_map-append}
 use Rattle.std.proofs.Math.Seq.{take-add, take-append_seam, drop-append_seam}
-use Rattle.morsel_meaning.specs.Values.{Row}
 use Rattle.morsel_grammar.specs.Dialect.{Dialect, IsDialect}
 use Rattle.morsel_grammar.specs.Grammar.{CsvRecord, IsRecord, Records}
 use Rattle.morsel_grammar.specs.Rows.{behind_header, mark_len, unmarked}
@@ -15,13 +14,13 @@ use Rattle.morsel_grammar.proofs.FirstRecordLemmas.{IsTaken}
 use Rattle.morsel_grammar.proofs.WholeRecordLemmas.{record_again, records_whole}
 use Rattle.morsel_cut.specs.RowCounts.{row_count}
 use Rattle.morsel_scan.specs.Scans.{CsvScan}
-use Rattle.morsel_scan.specs.CsvPieces.{HaveRows, HasRowsUpTo, IsRowPlace, IsFileStart, BeginsStretch}
-use Rattle.morsel_scan.specs.Ahead.{one_if, EndsNoRow}
+use Rattle.morsel_scan.specs.CsvPieces.{HaveRows, BeginsStretch}
+use Rattle.morsel_scan.specs.Ahead.{one_if}
 use Rattle.morsel_scan.specs.CsvAxis.{text_parts, PartStart, start_after, scanned_within, AxisPart, axis_part, text_axis, file_axis, rows_counted, files_axis, last_of, csv_keeps}
 use Rattle.morsel_scan.specs.CsvAxisLaws.{EndsNoMoreRows}
-use Rattle.morsel_scan.proofs.PartLemmas.{HoldsByRecords, by_records, found_part, parts-none, parts-record, parts-whole, start_past}
-use Rattle.morsel_scan.proofs.AxisLemmas.{Maker, length-last_of, bytes_of, text_axis-append, bytes_of-text, rows_counted-records}
-use Rattle.morsel_scan.proofs.AxisFileLemmas.{file_start, mark_size, bytes_of-file, bytes_of-files, rows_counted-file}
+use Rattle.morsel_scan.proofs.PartLemmas.{by_records, found_part, parts-none, parts-record, parts-whole, start_past}
+use Rattle.morsel_scan.proofs.AxisLemmas.{Maker, length-last_of, text_axis-append, bytes_of-text, rows_counted-records}
+use Rattle.morsel_scan.proofs.AxisFileLemmas.{file_start, mark_size, bytes_of-file, rows_counted-file}
 use Rattle.morsel_scan.proofs.PassedLemmas.{BeginsHere}
 use Rattle.morsel_scan.proofs.FilesPassedLemmas.{StandsIn, begin_stands}
 use Rattle.morsel_scan.proofs.AxisRowLemmas.{ends_of, length-ends_of}

@@ -53,7 +53,7 @@ before_fault-append (Ok a ∷ xs) ys rows e =
     let k : a ≡ h.0 = let z = h.2 in cc in
     ap (λ r. a ++ r) (before_fault-append xs ys h.1 h.3) ∙ sym (append_assoc a h.1 (before_fault ys)) ∙ ap (λ r. (r ++ h.1) ++ before_fault ys) k ∙ ap (λ r. r ++ before_fault ys) (sym h.4)
 
-from_front : (xs : Places) (m : ℕ) → slice_range xs 0 m ≡ take m xs
+pub from_front : (xs : Places) (m : ℕ) → slice_range xs 0 m ≡ take m xs
 from_front xs m = let e : m - 0 ≡ m = omega arith in ap (λ k. take k xs) e
 
 -- the rows before the first fault, after what the first places give

@@ -14,7 +14,7 @@ use Rattle.morsel_cut.specs.RowCounts.{is_row}
 use Rattle.morsel_scan.specs.Scans.{Scan, CsvScan}
 use Rattle.morsel_scan.specs.ScanRows.{Placed, scanned, slice_keeps, total_rows}
 use Rattle.morsel_scan.specs.CsvScans.{csv_sources}
-use Rattle.morsel_scan.specs.Ahead.{Axis}
+use Rattle.morsel_scan.specs.Ahead.{Axis, one_if}
 
 -- a record of a text with its bytes, its end among them; or, without one, the bytes that are left where none begins
 pub record TextPart : Type 0 where
@@ -54,18 +54,13 @@ abbrev pub awaits_header_past : Bool → Option CsvRecord → Bool
 awaits_header_past awaits_header None = awaits_header
 awaits_header_past awaits_header (Some r) = awaits_header && not (is_header r)
 
--- one for a row
-abbrev pub rows_of_part : Bool → ℕ
-rows_of_part true = 1
-rows_of_part false = 0
-
 -- where the part after this one begins
 abbrev pub start_after : ℕ → PartStart → TextPart → PartStart
 start_after columns start part = record {
   file = start.file;
   name = start.name;
   at = start.at + length part.bytes;
-  position = start.position + rows_of_part (is_row_part columns start.awaits_header part.found);
+  position = start.position + one_if (is_row_part columns start.awaits_header part.found);
   awaits_header = awaits_header_past start.awaits_header part.found;
 }
 

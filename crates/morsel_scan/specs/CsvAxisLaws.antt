@@ -1,8 +1,9 @@
 -- What the places of a CSV scan's bytes give is what the scan means, and the stretch of a piece gives what is made of the piece by itself.
 use Rattle.std.specs.Prelude.{◌≡◌, ◌⊎◌, ℕ, ◌+◌, ◌<◌, ◌≤◌, false, Ok, List, [], ◌∷◌, length, take, slice_range, IsUtf8}
-use Rattle.std.specs.List.{sum_by}
+use Rattle.std.specs.List.{All, sum_by}
 use Rattle.morsel_meaning.specs.declared.fault.Fault.{Fault}
-use Rattle.morsel_meaning.specs.Values.{Row}
+use Rattle.morsel_meaning.specs.Values.{Row, kinds_of}
+use Rattle.morsel_grammar.specs.Rows.{IsOfGrammar}
 use Rattle.morsel_pipe.specs.Pieces.{Piece}
 use Rattle.morsel_scan.specs.Scans.{CsvScan}
 use Rattle.morsel_scan.specs.ScanRows.{total_rows}
@@ -65,6 +66,13 @@ GivesNothingPastSlice s = (first head given rows : ℕ) (names files : List (Lis
     → IsAfterPieces s files given rows → ((position : ℕ) → rows ≤ position → csv_keeps s first names files position ≡ false)
     → (let gives = (csv_axis s first names files opened head text_of).gives in
     ((fault : Fault) → HasFaultWithin gives given (length gives) fault → ⊥) → Gives gives given (length gives) [])
+
+-- the same where all files are of the grammar
+abbrev pub GivesNothingOfGrammar : CsvScan → Type 0
+GivesNothingOfGrammar s = (first head given rows : ℕ) (names files : List (List ℕ)) (opened : List ℕ) (text_of : List Row → List ℕ) → length names ≡ length files
+    → IsAfterPieces s files given rows → ((position : ℕ) → rows ≤ position → csv_keeps s first names files position ≡ false)
+    → All (IsOfGrammar s.options (kinds_of s.scan.fields)) files
+    → (let gives = (csv_axis s first names files opened head text_of).gives in Gives gives given (length gives) [])
 
 -- places at which no row ends are of one record at most
 abbrev pub EndsEachRowOfFiles : CsvScan → Type 0

@@ -1,8 +1,9 @@
 -- What stretches one after the other give, and what the first of them are of all.
-use Rattle.std.specs.Prelude.{◌≡◌, ◌↔◌, ℕ, ◌+◌, ◌≤◌, Result, Ok, Err, List, ◌++◌, length, take, drop}
+use Rattle.std.specs.Prelude.{◌≡◌, ◌↔◌, ℕ, ◌+◌, ◌≤◌, Result, Ok, Err, List, [], ◌++◌, length, take, drop}
 use Rattle.morsel_meaning.specs.declared.fault.Fault.{Fault}
 use Rattle.morsel_meaning.specs.Values.{Row}
 use Rattle.morsel_scan.specs.ScanRows.{followed_by}
+use Rattle.morsel_scan.specs.Ahead.{Axis, text_to}
 use Rattle.morsel_scan.specs.StretchRows.{collected, Gives, before_fault, HasFaultWithin}
 
 -- places in two parts give what the one gives, and then the other
@@ -34,3 +35,13 @@ GivesMidst = (gives : List (Result (List Row) Fault)) (from to skip len : ℕ) (
 -- a stretch whose places do not give rows has the fault that they give
 abbrev pub GivesFaults : Type 0
 GivesFaults = (gives : List (Result (List Row) Fault)) (fault : Fault) → collected gives ≡ Err fault → HasFaultWithin gives 0 (length gives) fault
+
+-- rows one after the other add their texts one after the other
+pub record AddsTexts (text_of : List Row → List ℕ) : Type 0 where
+  pub nothing : text_of [] ≡ []
+  pub more : (first later : List Row) → text_of (first ++ later) ≡ text_of first ++ text_of later
+
+-- the text before the end of a stretch is that before its beginning and that of the rows which the stretch gives
+abbrev pub TextGoesOn : Type 0
+TextGoesOn = (axis : Axis) (from to : ℕ) (rows : List Row) → AddsTexts axis.text_of → Gives axis.gives from to rows
+    → text_to axis to ≡ text_to axis from + length (axis.text_of rows)

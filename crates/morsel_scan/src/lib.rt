@@ -24,9 +24,10 @@ pub use laws::{
 };
 pub use place_laws::{
     a_fault_is_that_of_a_place, a_part_of_a_stretch_has_its_place,
-    a_stretch_gives_the_rows_of_its_piece, all_places_give_all_rows, each_byte_has_its_place,
-    first_places_give_first_rows, no_row_ends_up_to_a_place_with_no_more_rows,
-    nothing_is_given_after_the_last_row, nothing_is_given_past_the_slice,
+    a_stretch_adds_the_text_of_its_rows, a_stretch_gives_the_rows_of_its_piece,
+    all_places_give_all_rows, each_byte_has_its_place, first_places_give_first_rows,
+    no_row_ends_up_to_a_place_with_no_more_rows, nothing_is_given_after_the_last_row,
+    nothing_is_given_past_the_slice, nothing_is_given_past_the_slice_of_valid_files,
     pieces_one_after_the_other_are_the_scan, places_at_which_no_row_ends_are_of_one_record,
     places_give_part_by_part, places_give_the_rows_of_the_scan, places_give_what_the_scan_means,
     stretches_follow_one_another,

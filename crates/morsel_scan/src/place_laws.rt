@@ -1,8 +1,8 @@
 //! Laws of places: what stretches of the sources' bytes give, and that it is what a scan means.
 ghost use Rattle.morsel_grammar.specs.Dialect.{IsDialect};
 ghost use Rattle.morsel_scan.specs.Scans.{CsvScan};
-ghost use Rattle.morsel_scan.specs.CsvAxisLaws.{HasEachByte, EndsEachRowOfFiles, GivesScanRows, GivesScan, GivesPieces, ScansChained, GivesNothingAtEnd, GivesNothingPastSlice, EndsNoMoreRows};
-ghost use Rattle.morsel_scan.specs.StretchLaws.{CollectsParts, GivesOn, GivesFront, GivesAll, GivesMidst, GivesFaults};
+ghost use Rattle.morsel_scan.specs.CsvAxisLaws.{HasEachByte, EndsEachRowOfFiles, GivesScanRows, GivesScan, GivesPieces, ScansChained, GivesNothingAtEnd, GivesNothingPastSlice, GivesNothingOfGrammar, EndsNoMoreRows};
+ghost use Rattle.morsel_scan.specs.StretchLaws.{CollectsParts, GivesOn, GivesFront, GivesAll, GivesMidst, GivesFaults, TextGoesOn};
 
 /// Places in two parts give what the one gives, and then the other.
 #[tactic(auto, using(crate::proofs::StretchLemmas::collects_parts))]
@@ -37,6 +37,11 @@ pub fn a_fault_is_that_of_a_place()
     ensures { GivesFaults }
 {}
 
+/// The text before the end of a stretch is that before its beginning and that of its rows.
+pub fn a_stretch_adds_the_text_of_its_rows()
+    ensures { TextGoesOn }
+{}
+
 /// Where all places of a scan's files give rows, these are the scan's.
 pub fn places_give_the_rows_of_the_scan()
     ensures { (s : CsvScan) → IsDialect s.options → GivesScanRows s }
@@ -65,6 +70,11 @@ pub fn nothing_is_given_after_the_last_row()
 /// No place gives anything from where the slice keeps no more, unless it has a fault.
 pub fn nothing_is_given_past_the_slice()
     ensures { (s : CsvScan) → IsDialect s.options → GivesNothingPastSlice s }
+{}
+
+/// No place of files of the grammar gives anything from where the slice keeps no more.
+pub fn nothing_is_given_past_the_slice_of_valid_files()
+    ensures { (s : CsvScan) → IsDialect s.options → GivesNothingOfGrammar s }
 {}
 
 /// Each byte of a scan's files has its place.
