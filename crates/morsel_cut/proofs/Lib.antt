@@ -12,3 +12,4 @@ pub mod PieceReadLemmas
 mod PieceFacts
 pub mod LineLemmas
 pub mod MarkLemmas
+pub mod HeadLemmas

@@ -104,6 +104,21 @@ impl Cutter {
         Ok(passed.end)
     }
 
+    /// Whether the text may end here: `Malformed` with the place of the last record's first byte where a quoted field is open, or a
+    /// closing quote was followed by what may not follow it.
+    pub fn may_end(&self) -> Result<(), Fault>
+        ensures ok { OnOk result (RefusesEnd self.now.state → ⊥) }
+        ensures malformed { IfErr result (λ fault. (fault ≡ begun_fault self.now) × RefusesEnd self.now.state) }
+    {
+        if matches!(self.standing.place, ByteAt::InQuotes | ByteAt::BrokenQuote) {
+            return Err(Fault::Malformed {
+                file: self.file,
+                at: self.begun,
+            });
+        }
+        Ok(())
+    }
+
     /// Ends the text: `Malformed` with the place of the last record's first byte where a quoted field is open, or a closing quote
     /// was followed by what may not follow it.
     pub fn finish(self) -> Result<(), Fault>
