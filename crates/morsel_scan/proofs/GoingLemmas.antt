@@ -19,7 +19,7 @@ use Rattle.morsel_cut.proofs.CuttingLemmas.{feeds_pieces}
 use Rattle.morsel_cut.proofs.PieceLemmas.{chunk_end}
 use Rattle.morsel_cut.proofs.PieceReadLemmas.{stops_at_refused, stops_at_open_end}
 use Rattle.morsel_scan.specs.FileReads.{IsTold, IsChunk, AreNextReads, HoldsNoRecord, ReadWithoutRecord}
-use Rattle.morsel_scan.specs.Blocks.{BlocksRead, given_to, IsOpenFile, IsSameFile, IsReadOf, IsLastCut, IsBlockFault, HasFound, FindsBlock, ReadsOn, ReadsForBlock, compression_code}
+use Rattle.morsel_scan.specs.Blocks.{BlocksRead, given_to, IsOpenFile, IsSameFile, IsReadOf, IsLastCut, IsBlockFault, HasFound, FindsBlock, ReadsChunksOn, ReadsForBlock, compression_code}
 use Rattle.morsel_scan.specs.Chunks.{HasReadChunk, with_chunk, end_with_chunk, ReadsChunk, FindsLast}
 use Rattle.morsel_scan.proofs.BlockLemmas.{asked_more, holds_no_record, is_block, is_last_block, cut_stays, cut_moves, compression-front}
 
@@ -43,7 +43,7 @@ reads_open_none file size chunk from to (ReadingRange number place some ∷ read
 reads_open_none file size chunk from to (action ∷ reads) are = absurd are
 
 -- what is held of the files stays, and so do their sizes
-pub reads_keep_held : (before after : Outside) (old : BlocksRead) (chunk to : ℕ) → ReadsOn before old chunk after to → after.held ≡ before.held
+pub reads_keep_held : (before after : Outside) (old : BlocksRead) (chunk to : ℕ) → ReadsChunksOn before old chunk after to → after.held ≡ before.held
 reads_keep_held before after old chunk to r =
     r.does.held ∙ ap (with_more before.held) (reads_open_none old.file old.size chunk old.asked to r.reads r.are) ∙ with_more-nil before.held
 
@@ -63,7 +63,7 @@ cut_before o bytes asked at (inr end) = inr end
 pub record IsGoingOn (before : Outside) (old : BlocksRead) (chunk : ℕ) (now : Outside) (b : BlocksRead) : Type 0 where
   pub is_open : IsOpenFile now b
   pub same : IsSameFile old b
-  pub reads : ReadsOn before old chunk now b.asked
+  pub reads : ReadsChunksOn before old chunk now b.asked
   pub told : (o : Options) (bytes : List ℕ) → AreOptions o → IsReadOf o bytes old → IsLastCut o bytes old.asked (given_to old) → IsTold before.held old.file bytes
       → IsReadOf o bytes b × IsCutBefore o bytes b.asked (given_to b)
 
@@ -94,7 +94,7 @@ in_need_at before mid old b chunk o bytes g more fit is_read cut told =
     (holds_no_record o bytes (given_to b) b.asked fit (omega arith) (cut_before_end o bytes b.asked (given_to b) inside now.1))
 
 pub reads_more_on : (before mid after : Outside) (old b : BlocksRead) (chunk : ℕ) (piece : List ℕ) → IsGoingOn before old chunk mid b → b.asked < b.size
-    → HasReadChunk mid b chunk piece after → ReadsOn before old chunk after (b.asked + length piece)
+    → HasReadChunk mid b chunk piece after → ReadsChunksOn before old chunk after (b.asked + length piece)
 reads_more_on before mid after old b chunk piece g more read =
     let action : Action = ReadingRange old.file b.asked (length piece) in
     let does : Does mid (action ∷ []) after = subst (λ (n : ℕ). Does mid (ReadingRange n b.asked (length piece) ∷ []) after) g.same.file read.does in
@@ -142,6 +142,7 @@ open-with_chunk mid after b chunk piece was read =
       held_within = omega (arith, length-append b.held piece, was.held_within);
       fed = ap (λ (n : ℕ). n + length piece) was.fed;
       source_is = was.source_is;
+      fits = was.fits;
     }
 
 -- what is told of the file and of the chunk
@@ -198,9 +199,9 @@ goes_on before mid after old b new chunk len g more (piece, read, new_is, is) en
 
 -- a chunk with an end
 pub found_reads : (before mid after : Outside) (old b new : BlocksRead) (chunk len : ℕ) → IsGoingOn before old chunk mid b → b.asked < b.size
-    → ReadsChunk mid b chunk (Ok len) after new → ReadsOn before old chunk after new.asked
+    → ReadsChunk mid b chunk (Ok len) after new → ReadsChunksOn before old chunk after new.asked
 found_reads before mid after old b new chunk len g more (piece, read, new_is, is) =
-    subst (λ (x : BlocksRead). ReadsOn before old chunk after x.asked) (sym new_is) (reads_more_on before mid after old b chunk piece g more read)
+    subst (λ (x : BlocksRead). ReadsChunksOn before old chunk after x.asked) (sym new_is) (reads_more_on before mid after old b chunk piece g more read)
 
 pub found_block : (before mid after : Outside) (old b new : BlocksRead) (chunk len : ℕ) → IsGoingOn before old chunk mid b → b.asked < b.size
     → ReadsChunk mid b chunk (Ok len) after new → 0 < len → new.asked < new.size → (o : Options) (bytes : List ℕ) → AreOptions o → IsReadOf o bytes old → IsLastCut o bytes old.asked (given_to old)
@@ -230,7 +231,7 @@ found_block before mid after old b new chunk len g more (piece, read, new_is, is
 pub fault_reads : (before mid after : Outside) (old b new : BlocksRead) (chunk : ℕ) (fault : Fault) → IsGoingOn before old chunk mid b → b.asked < b.size
     → ReadsChunk mid b chunk (Err fault) after new → ReadsForBlock before old chunk (Err fault) after new
 fault_reads before mid after old b new chunk faults.OutOfMemory g more same =
-    (b.asked, subst (λ (x : Outside). ReadsOn before old chunk x b.asked) (sym same) g.reads)
+    (b.asked, subst (λ (x : Outside). ReadsChunksOn before old chunk x b.asked) (sym same) g.reads)
 fault_reads before mid after old b new chunk (faults.ReadFault number) g more (is, len, last, fails) = (
   is ∙ g.same.source,
   record {

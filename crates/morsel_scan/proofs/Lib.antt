@@ -19,3 +19,8 @@ pub mod RowCutLemmas
 pub mod ChunkLemmas
 pub mod BlockLemmas
 pub mod GoingLemmas
+pub mod FrontLemmas
+pub mod HeaderLemmas
+pub mod RowStretchLemmas
+pub mod PassingLemmas
+pub mod FoundLemmas

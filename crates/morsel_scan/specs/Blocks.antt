@@ -1,5 +1,5 @@
 -- A file that is read in chunks and given in blocks: each block is some whole records, and the last one may be a record that ends with the file.
-use Rattle.std.specs.Prelude.{◌≡◌, ◌⊎◌, ℕ, ◌+◌, ◌-◌, ◌<◌, ◌≤◌, ◌==◌, ◌&&◌, if◌then◌else◌, Option, Some, None, Result, Ok, Err, List, [], ◌∷◌, length, take, drop, slice_range, slice_index}
+use Rattle.std.specs.Prelude.{◌≡◌, ◌⊎◌, ℕ, ◌+◌, ◌-◌, ◌^◌, ◌<◌, ◌≤◌, ◌==◌, ◌&&◌, if◌then◌else◌, Option, Some, None, Result, Ok, Err, List, [], ◌∷◌, length, take, drop, slice_range, slice_index}
 use Rattle.morsel_meaning.specs.declared.fault.Fault.{Fault}
 use Rattle.morsel_meaning.specs.declared.fault.Fault.TheVariants as faults
 use Rattle.morsel_grammar.specs.Options.{Options, AreOptions}
@@ -37,6 +37,7 @@ pub record IsOpenFile (o : Outside) (b : BlocksRead) : Type 0 where
   pub held_within : length b.held ≤ b.asked
   pub fed : b.cutting.fed ≡ b.asked
   pub source_is : b.cutting.file ≡ b.source
+  pub fits : b.size < 2 ^ 64
 
 -- the same file, given up to the same place
 pub record IsSameFile (old new : BlocksRead) : Type 0 where
@@ -103,7 +104,7 @@ FindsBlock o bytes old (Ok len) new = HasFound o bytes (given_to old) len new
 FindsBlock o bytes old (Err fault) new = IsBlockFault o old.source bytes fault
 
 -- only the next chunks of the file were read, up to a place, each while no whole record was held
-pub record ReadsOn (before : Outside) (old : BlocksRead) (chunk : ℕ) (after : Outside) (to : ℕ) : Type 0 where
+pub record ReadsChunksOn (before : Outside) (old : BlocksRead) (chunk : ℕ) (after : Outside) (to : ℕ) : Type 0 where
   pub reads : List Action
   pub are : AreNextReads old.file old.size chunk old.asked reads to
   pub does : Does before reads after
@@ -114,7 +115,7 @@ pub record ReadsOn (before : Outside) (old : BlocksRead) (chunk : ℕ) (after : 
 pub record FailsToReadOn (before : Outside) (old : BlocksRead) (chunk : ℕ) (after : Outside) : Type 0 where
   pub between : Outside
   pub to : ℕ
-  pub reads : ReadsOn before old chunk between to
+  pub reads : ReadsChunksOn before old chunk between to
   pub len : ℕ
   pub last : IsChunk old.size chunk to len
   pub last_in_need : (o : Options) (bytes : List ℕ) → AreOptions o → IsReadOf o bytes old → IsLastCut o bytes old.asked (given_to old) → IsTold before.held old.file bytes
@@ -123,6 +124,6 @@ pub record FailsToReadOn (before : Outside) (old : BlocksRead) (chunk : ℕ) (af
 
 -- what a search for a block did to the outside
 abbrev pub ReadsForBlock : Outside → BlocksRead → ℕ → Result ℕ Fault → Outside → BlocksRead → Type 0
-ReadsForBlock before old chunk (Ok len) after new = ReadsOn before old chunk after new.asked
+ReadsForBlock before old chunk (Ok len) after new = ReadsChunksOn before old chunk after new.asked
 ReadsForBlock before old chunk (Err (faults.ReadFault number)) after new = (number ≡ old.source) × FailsToReadOn before old chunk after
-ReadsForBlock before old chunk (Err fault) after new = (to : ℕ) × ReadsOn before old chunk after to
+ReadsForBlock before old chunk (Err fault) after new = (to : ℕ) × ReadsChunksOn before old chunk after to

@@ -13,3 +13,5 @@ pub mod Nodes
 pub mod FileReads
 pub mod Blocks
 pub mod Chunks
+pub mod RowBlocks
+pub mod BlockRows

@@ -66,6 +66,13 @@ impl BlockReader {
         })
     }
 
+    /// The number that its faults tell.
+    pub fn source(&self) -> u32
+        ensures { result ≡ self.now.source }
+    {
+        self.source
+    }
+
     /// The size of the file.
     pub fn size(&self) -> u64
         ensures { result ≡ self.now.size }
