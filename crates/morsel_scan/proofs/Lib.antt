@@ -16,3 +16,6 @@ pub mod StepLemmas
 mod WorkedFacts
 mod PieceFacts
 pub mod RowCutLemmas
+pub mod ChunkLemmas
+pub mod BlockLemmas
+pub mod GoingLemmas

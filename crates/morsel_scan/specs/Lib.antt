@@ -10,3 +10,6 @@ pub mod AheadLaws
 pub mod Filters
 pub mod Decoding
 pub mod Nodes
+pub mod FileReads
+pub mod Blocks
+pub mod Chunks

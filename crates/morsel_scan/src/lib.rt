@@ -5,6 +5,7 @@ mod ahead;
 mod decode_steps;
 mod filter_step;
 mod laws;
+mod reader;
 mod spec;
 
 pub use ahead::{
@@ -17,4 +18,5 @@ pub use laws::{
     a_text_is_scanned_piece_by_piece, files_are_scanned_one_after_the_other, positions_go_on,
     rows_are_gathered_part_by_part,
 };
+pub use reader::BlockReader;
 pub use spec::{FileScanOptions, RowIndex, ScanFormat, ScanSpec};

@@ -1,0 +1,4 @@
+//! The readers of a scan's files.
+mod blocks;
+
+pub use blocks::BlockReader;
