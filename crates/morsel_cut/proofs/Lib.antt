@@ -11,5 +11,9 @@ pub mod PieceWholeLemmas
 pub mod PieceReadLemmas
 mod PieceFacts
 pub mod LineLemmas
+pub mod BitLemmas
 pub mod MarkLemmas
+pub mod QuoteLemmas
+pub mod BlockLemmas
+pub mod BlockRunLemmas
 pub mod HeadLemmas

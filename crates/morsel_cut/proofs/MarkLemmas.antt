@@ -1,94 +1,104 @@
--- Marks of 64 bytes: how many there are, and which follow each other.
-use Rattle.std.proofs.Common.{◌≡◌, ℕ, ◌+◌, ◌-◌, ◌<◌, ◌≤◌, ◌∙◌, sym, ap, refl, arith, cond, Bool, true, false, ◌==◌, List, length, take, drop, get_or, map, min, max, nat_eq, subst, inl, inr}
-use Rattle.std.proofs.lemmas.List.{get_or-drop, get_or-map, get_or-take, length-drop, length-take-le, take_rest}
-use Rattle.std.proofs.lemmas.Bool.{eqb-true, cases_lt}
-use Rattle.std.proofs.lemmas.List.Sums.{sum_by-append, sum_by-take-drop}
-use Rattle.std.proofs.Math.Seq.{take-add}
-use Rattle.std.specs.List.{count_by}
-use Rattle.std.proofs.lemmas.Nat.Bits.{bit_at_and, bit_at_or, bit_at-zero}
-use Rattle.std.proofs.lemmas.Simd.{bit_mask_l}
-use Rattle.std.specs.Int.{bit_at}
-use Rattle.std.specs.Int.Bits.{bit_and, bit_or}
+-- Masks of 64 bytes: what each bit tells, and how many bits there are.
+use Rattle.std.proofs.Common.{◌≡◌, refl, ℕ, zero, suc, ◌+◌, ◌-◌, ◌*◌, ◌^◌, ◌<◌, ◌≤◌, ◌∙◌, sym, ap, ap₂, arith, min, max, Bool, true, false, cond, not, ◌&&◌, ◌||◌, List, [], ◌∷◌, length, get_or, map, add-one, pow_mono, lt_of_lt_of_le, pow-suc}
+use Rattle.std.proofs.lemmas.Nat.Bits.{bit_at_and, bit_at_or, bit_at_not, same_from_bits_below}
+use Rattle.std.proofs.lemmas.Simd.{bit_mask_l, mask_l-lt, ones-mask_l, ones-mask_l_cons}
+use Rattle.std.specs.Int.{bit_at, w64}
+use Rattle.std.specs.Int.RustNames.{bit_and, bit_or, count_ones}
 use Rattle.std.specs.Simd.Lanes.{mask_l}
-use Rattle.std.specs.Prelude.{◌⊎◌, not}
-use Rattle.morsel_grammar.proofs.ByteLemmas.{true_not_false}
-use Rattle.morsel_cut.specs.PlainLines.{BeginsLine, BeginLines}
+use Rattle.morsel_grammar.specs.Machine.{place_or_later, last_place}
+use Rattle.morsel_cut.specs.Blocks.{tests_after, count_after}
+use Rattle.morsel_cut.proofs.BitLemmas.{HasBits}
 
--- the marks of this byte among the first 64
-abbrev pub marks_of : ℕ → List ℕ → ℕ
-marks_of byte text = mask_l (map (λ (b : ℕ). b == byte) (take 64 text))
+-- one bit of a number
+pub record Is (m k : ℕ) (b : Bool) : Type 0 where
+  pub bit : bit_at m k ≡ cond b 1 0
 
-mark_at : (byte : ℕ) (text : List ℕ) (k : ℕ) → k < 64 → 64 ≤ length text → bit_at (marks_of byte text) k ≡ cond (get_or text k 0 == byte) 1 0
-mark_at byte text k below room =
-    bit_mask_l (map (λ (b : ℕ). b == byte) (take 64 text)) k
-    ∙ ap (λ (t : Bool). let r : ℕ = cond t 1 0 in r)
-    (get_or-map (λ (b : ℕ). b == byte) (take 64 text) k 0 false (omega (arith, length-take-le 64 text room))
-    ∙ ap (λ (x : ℕ). x == byte) (get_or-take 64 text k 0 below))
+num_min : (a b : Bool) → min (cond a 1 0) (cond b 1 0) ≡ cond (a && b) 1 0
+num_min true true = refl
+num_min true false = refl
+num_min false true = refl
+num_min false false = refl
 
-from_zero : (t : Bool) → ◌≡◌ {A = ℕ} (cond t 1 0) 0 → t ≡ false
-from_zero true is = absurd (omega arith)
-from_zero false is = refl
+num_max : (a b : Bool) → max (cond a 1 0) (cond b 1 0) ≡ cond (a || b) 1 0
+num_max true true = refl
+num_max true false = refl
+num_max false true = refl
+num_max false false = refl
 
--- where no two marks follow each other, no line begins with either byte
-pub no_marks : (eol : ℕ) (text next : List ℕ) → 64 < length text → next ≡ drop 1 text
-    → bit_and (marks_of eol text) (bit_or (marks_of eol next) (marks_of 13 next)) ≡ 0 → BeginLines eol text 64
-no_marks eol text next room next_is none = λ k below more ends.
-    let size : 64 ≤ length next = omega (arith, ap length next_is, length-drop 1 text) in
-    let ended : bit_at (marks_of eol text) k ≡ 1 = mark_at eol text k below (omega arith) ∙ ap (λ (t : Bool). let r : ℕ = cond t 1 0 in r) ends in
-    let bit : min (bit_at (marks_of eol text) k) (max (bit_at (marks_of eol next) k) (bit_at (marks_of 13 next) k)) ≡ 0 =
-    ap (min (bit_at (marks_of eol text) k)) (sym (bit_at_or (marks_of eol next) (marks_of 13 next) k))
-    ∙ sym (bit_at_and (marks_of eol text) (bit_or (marks_of eol next) (marks_of 13 next)) k)
-    ∙ ap (λ (n : ℕ). bit_at n k) none ∙ bit_at-zero k in
-    let first : bit_at (marks_of eol next) k ≡ 0 = omega arith in
-    let second : bit_at (marks_of 13 next) k ≡ 0 = omega arith in
-    let same : get_or text (k + 1) 0 ≡ get_or next k 0 =
-    let place : 1 + k ≡ k + 1 = omega arith in
-    sym (ap (λ (x : List ℕ). get_or x k 0) next_is ∙ get_or-drop 1 text k 0 ∙ ap (λ (n : ℕ). get_or text n 0) place) in (
-      ap (λ (x : ℕ). x == eol) same ∙ from_zero (get_or next k 0 == eol) (sym (mark_at eol next k below size) ∙ first),
-      ap (λ (x : ℕ). x == 13) same ∙ from_zero (get_or next k 0 == 13) (sym (mark_at 13 next k below size) ∙ second),
-    )
+num_not : (a : Bool) → 1 - cond a 1 0 ≡ cond (not a) 1 0
+num_not true = refl
+num_not false = refl
 
-pub no_marks_of : (eol : ℕ) (text : List ℕ) (a b c : ℕ) → 64 < length text → a ≡ marks_of eol text → b ≡ marks_of eol (take (length text - 1) (drop 1 text))
-    → c ≡ marks_of 13 (take (length text - 1) (drop 1 text)) → nat_eq (bit_and a (bit_or b c)) 0 ≡ true → BeginLines eol text 64
-no_marks_of eol text a b c room a_is b_is c_is zero =
-    let rest : take (length text - 1) (drop 1 text) ≡ drop 1 text = take_rest text 1 in
-    no_marks eol text (drop 1 text) room refl
-    (ap (λ (x : ℕ). bit_and x (bit_or (marks_of eol (drop 1 text)) (marks_of 13 (drop 1 text)))) (sym a_is)
-    ∙ ap (λ (x : ℕ). bit_and a (bit_or x (marks_of 13 (drop 1 text)))) (ap (marks_of eol) (sym rest) ∙ sym b_is)
-    ∙ ap (λ (x : ℕ). bit_and a (bit_or b x)) (ap (marks_of 13) (sym rest) ∙ sym c_is)
-    ∙ eqb-true (bit_and a (bit_or b c)) 0 zero)
+pub and_is : {m n k : ℕ} {a b : Bool} → Is m k a → Is n k b → Is (bit_and m n) k (a && b)
+and_is {m} {n} {k} {a} {b} x y = record { bit = bit_at_and m n k ∙ ap₂ min x.bit y.bit ∙ num_min a b }
 
--- so many bytes more
-pub count_on : (byte : ℕ) (text : List ℕ) (at n count more : ℕ) → count ≡ count_by (λ (b : ℕ). b == byte) (take at text)
-    → more ≡ count_by (λ (b : ℕ). b == byte) (take n (take (length text - at) (drop at text))) → count + more ≡ count_by (λ (b : ℕ). b == byte) (take (at + n) text)
-count_on byte text at n count more counted counted_more =
-    let rest : more ≡ count_by (λ (b : ℕ). b == byte) (take n (drop at text)) = counted_more ∙ ap (λ (x : List ℕ). count_by (λ (b : ℕ). b == byte) (take n x)) (take_rest text at) in
-    let both : count_by (λ (b : ℕ). b == byte) (take (at + n) text)
-    ≡ count_by (λ (b : ℕ). b == byte) (take at text) + count_by (λ (b : ℕ). b == byte) (take n (drop at text)) =
-    ap (count_by (λ (b : ℕ). b == byte)) (take-add at n text) ∙ sum_by-append (λ (b : ℕ). cond (b == byte) 1 0) (take at text) (take n (drop at text)) in
-    omega (arith, rest, both, counted)
+pub or_is : {m n k : ℕ} {a b : Bool} → Is m k a → Is n k b → Is (bit_or m n) k (a || b)
+or_is {m} {n} {k} {a} {b} x y = record { bit = bit_at_or m n k ∙ ap₂ max x.bit y.bit ∙ num_max a b }
 
-pub count_rest : (byte : ℕ) (text : List ℕ) (at count more : ℕ) → count ≡ count_by (λ (b : ℕ). b == byte) (take at text)
-    → more ≡ count_by (λ (b : ℕ). b == byte) (take (length text - at) (drop at text)) → count + more ≡ count_by (λ (b : ℕ). b == byte) text
-count_rest byte text at count more counted counted_more =
-    let rest : more ≡ count_by (λ (b : ℕ). b == byte) (drop at text) = counted_more ∙ ap (count_by (λ (b : ℕ). b == byte)) (take_rest text at) in
-    omega (arith, rest, counted, sum_by-take-drop (λ (b : ℕ). cond (b == byte) 1 0) text at)
+pub not_is : {m k : ℕ} {a : Bool} → m < 2 ^ 64 → k < 64 → Is m k a → Is (18446744073709551615 - m) k (not a)
+not_is {m} {k} {a} fits below x = record { bit = bit_at_not w64 m k fits below ∙ ap (λ (n : ℕ). 1 - n) x.bit ∙ num_not a }
 
--- 64 places more
-pub begin_on : (eol : ℕ) (text : List ℕ) (at : ℕ) → BeginLines eol text at → BeginLines eol (take (length text - at) (drop at text)) 64 → BeginLines eol text (at + 64)
-begin_on eol text at before later = λ k below more ends. by k below more ends (cases_lt k at)
+pub same_is : {m k : ℕ} {a b : Bool} → a ≡ b → Is m k a → Is m k b
+same_is {m} {k} {a} {b} e x = record { bit = x.bit ∙ ap (λ (t : Bool). cond t 1 0) e }
+
+-- whether the byte at a place passes a test
+abbrev pub has : (ℕ → Bool) → List ℕ → ℕ → Bool
+has test bytes k = get_or (map test bytes) k false
+
+pub mask_is : (test : ℕ → Bool) (bytes : List ℕ) (m k : ℕ) → m ≡ mask_l (map test bytes) → Is m k (has test bytes k)
+mask_is test bytes m k is = record { bit = ap (λ (x : ℕ). bit_at x k) is ∙ bit_mask_l (map test bytes) k }
+
+short_mask : (marks : List Bool) → length marks ≤ 64 → mask_l marks < 2 ^ 64
+short_mask marks most = lt_of_lt_of_le (mask_l-lt marks) (pow_mono most)
+
+-- a number whose bits are these marks
+pub mask_from_bits : (marks : List Bool) (m : ℕ) → length marks ≤ 64 → m < 2 ^ 64 → ((k : ℕ) → k < 64 → Is m k (get_or marks k false)) → m ≡ mask_l marks
+mask_from_bits marks m most fits is = same_from_bits_below 64 m (mask_l marks) fits (short_mask marks most) (λ k below. (is k below).bit ∙ sym (bit_mask_l marks k))
+
+-- the bits one place on tell of the bytes before
+pub shifted_is : (bits moved k : ℕ) (first : Bool) (f : ℕ → Bool) → bit_at moved 0 ≡ cond first 1 0 → ((j : ℕ) → j + 1 < 64 → bit_at moved (j + 1) ≡ bit_at bits j)
+    → first ≡ f 0 → ((j : ℕ) → j < k → Is bits j (f (suc j))) → k < 64 → Is moved k (f k)
+shifted_is bits moved zero first f low high begins later below = same_is begins (record { bit = low })
+shifted_is bits moved (suc j) first f low high begins later below =
+    record { bit = ap (bit_at moved) (sym (add-one j)) ∙ high j (omega arith) ∙ (later j (omega arith)).bit }
+
+-- no mark is set
+no_bit : (t : Bool) (m : ℕ) → cond t 1 0 + 2 * m ≡ 0 → (t ≡ false) × (m ≡ 0)
+no_bit true m none = absurd (omega arith)
+no_bit false m none = (refl, omega arith)
+
+pub none_marked : (test : ℕ → Bool) (bytes : List ℕ) → mask_l (map test bytes) ≡ 0 → (k : ℕ) → k < length bytes → test (get_or bytes k 0) ≡ false
+none_marked test [] none k below = absurd (omega arith)
+none_marked test (b ∷ bs) none zero below = (no_bit (test b) (mask_l (map test bs)) none).0
+none_marked test (b ∷ bs) none (suc k) below = none_marked test bs (no_bit (test b) (mask_l (map test bs)) none).1 k (omega arith)
+
+pub length_tests : {S : Type 0} (step : S → ℕ → S) (test : S → Bool) (s : S) (bytes : List ℕ) → length (tests_after step test s bytes) ≡ length bytes
+length_tests step test s [] = refl
+length_tests step test s (b ∷ bs) = ap suc (length_tests step test (step s b) bs)
+
+-- as many bits as places
+pub ones_tests : {S : Type 0} (step : S → ℕ → S) (test : S → Bool) (s : S) (bytes : List ℕ) → count_ones (mask_l (tests_after step test s bytes)) ≡ count_after step test s bytes
+ones_tests step test s [] = ones-mask_l {X = ℕ} (λ (b : ℕ). false) []
+ones_tests step test s (b ∷ bs) =
+    ones-mask_l_cons (test (step s b)) (tests_after step test (step s b) bs) ∙ ap (λ (n : ℕ). cond (test (step s b)) 1 0 + n) (ones_tests step test (step s b) bs)
+
+-- and as many bits up to the highest as bytes up to the last place
+last_bits : (t : Bool) (m last : ℕ) → HasBits m last → HasBits (cond t 1 0 + 2 * m) (place_or_later t last)
+last_bits true m zero bits = (omega arith, omega arith)
+last_bits false m zero bits = (omega arith, omega arith)
+last_bits t m (suc last) bits =
+    let one : 2 ^ suc last ≡ 2 ^ last * 2 = pow-suc 2 last in
+    let two : 2 ^ suc (suc last) ≡ 2 ^ suc last * 2 = pow-suc 2 (suc last) in
+    by t one two
   where
-    by : (k : ℕ) → k < at + 64 → k + 1 < length text → (get_or text k 0 == eol) ≡ true → (k < at) ⊎ (at ≤ k) → BeginsLine eol text (k + 1)
-    by k below more ends (inl first) = before k first more ends
-    by k below more ends (inr second) =
-        let here : BeginLines eol (drop at text) 64 = subst (λ (x : List ℕ). BeginLines eol x 64) (take_rest text at) later in
-        let place : at + (k - at) ≡ k = omega arith in
-        let next : at + (k - at + 1) ≡ k + 1 = omega arith in
-        let ended : (get_or (drop at text) (k - at) 0 == eol) ≡ true = ap (λ (x : ℕ). x == eol) (get_or-drop at text (k - at) 0 ∙ ap (λ (n : ℕ). get_or text n 0) place) ∙ ends in
-        let begins = here (k - at) (omega arith) (omega (arith, length-drop at text)) ended in
-        let same : get_or text (k + 1) 0 ≡ get_or (drop at text) (k - at + 1) 0 = sym (get_or-drop at text (k - at + 1) 0 ∙ ap (λ (n : ℕ). get_or text n 0) next) in
-        (ap (λ (x : ℕ). x == eol) same ∙ begins.0, ap (λ (x : ℕ). x == 13) same ∙ begins.1)
+    by : (t : Bool) → 2 ^ suc last ≡ 2 ^ last * 2 → 2 ^ suc (suc last) ≡ 2 ^ suc last * 2 → HasBits (cond t 1 0 + 2 * m) (suc (suc last))
+    by true one two = (omega (arith, bits.0, one, two), omega (arith, bits.1, one, two))
+    by false one two = (omega (arith, bits.0, one, two), omega (arith, bits.1, one, two))
 
-pub held : (t : Bool) → not t ≡ false → t ≡ true
-held true is = refl
-held false is = absurd (true_not_false true refl is)
+pub last_tests : {S : Type 0} (step : S → ℕ → S) (test : S → Bool) (s : S) (bytes : List ℕ) → HasBits (mask_l (tests_after step test s bytes)) (last_place step test s bytes)
+last_tests step test s [] = (omega arith, omega arith)
+last_tests step test s (b ∷ bs) = last_bits (test (step s b)) (mask_l (tests_after step test (step s b) bs)) (last_place step test (step s b) bs) (last_tests step test (step s b) bs)
+
+pub mask_none : (bytes : List ℕ) → mask_l (map (λ (b : ℕ). false) bytes) ≡ 0
+mask_none [] = refl
+mask_none (b ∷ bs) = omega (arith, mask_none bs)

@@ -5,4 +5,4 @@ pub mod Cutting
 pub mod Pieces
 pub mod FirstEnds
 pub mod RowCounts
-pub mod PlainLines
+pub mod Blocks

@@ -1,11 +1,11 @@
 -- The places of the code, as the places of the machine.
 use Rattle.std.specs.Prelude.{true, false, Option, None, List, [], ℕ}
-use Rattle.morsel_grammar.specs.Options.{Options, options_of}
+use Rattle.morsel_grammar.specs.Dialect.{Dialect, options_of}
 use Rattle.morsel_grammar.specs.Machine.{CutState, CutPlace, AtOpening, InMarkOne, InMarkTwo, AfterMark, AfterEol, AfterSeparator, InPlain, InQuotes, AfterQuote, AfterReturn, InComment, BrokenQuote}
 use Rattle.morsel_cut.specs.declared.step.ByteAt.{ByteAt}
 use Rattle.morsel_cut.specs.declared.step.ByteAt.TheVariants as places
-use Rattle.morsel_cut.specs.declared.step.Signs.{Signs}
-use Rattle.morsel_cut.specs.declared.prefix.Standing.{Standing}
+use Rattle.morsel_cut.specs.declared.step.Delimiters.{Delimiters}
+use Rattle.morsel_cut.specs.declared.prefix.MachineState.{MachineState}
 
 -- the place of the machine
 abbrev pub cut_place : ByteAt → CutPlace
@@ -23,8 +23,8 @@ cut_place places.InComment = InComment
 cut_place places.BrokenQuote = BrokenQuote
 
 -- options with these bytes, and without comments
-abbrev pub sign_options : Signs → Options
-sign_options signs = options_of signs.separator signs.quote signs.eol None true [] false
+abbrev pub delimiter_options : Delimiters → Dialect
+delimiter_options delimiters = options_of delimiters.separator delimiters.quote delimiters.eol None true [] false
 
 -- up to the next quote, each byte is one of a field without quotes, or ends one
 abbrev pub IsOutside : CutPlace → Type 0
@@ -35,9 +35,9 @@ IsOutside InPlain = Unit {0}
 IsOutside place = ⊥
 
 -- options with these bytes and this comment prefix
-abbrev pub options_with : Signs → Option (List ℕ) → Options
-options_with signs prefix = options_of signs.separator signs.quote signs.eol prefix true [] false
+abbrev pub options_with : Delimiters → Option (List ℕ) → Dialect
+options_with delimiters prefix = options_of delimiters.separator delimiters.quote delimiters.eol prefix true [] false
 
 -- the state of the machine
-abbrev pub cut_state : Standing → CutState
-cut_state standing = record { matched = standing.matched; place = cut_place standing.place }
+abbrev pub cut_state : MachineState → CutState
+cut_state state = record { matched = state.matched; place = cut_place state.place }

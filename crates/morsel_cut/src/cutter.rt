@@ -1,14 +1,14 @@
 //! Where a CSV text that comes in pieces may be cut.
 ghost use Rattle.std.specs.Prelude.{◌≡◌, ◌+◌, ◌<◌, ◌≤◌, ◌^◌, None, length, IfOk, IfErr, OnOk, IsOk, IsOkUnless};
-ghost use Rattle.morsel_grammar.specs.Options.{AreOptions};
+ghost use Rattle.morsel_grammar.specs.Dialect.{IsDialect};
 ghost use Rattle.morsel_grammar.specs.Machine.{RefusesEnd};
 ghost use Rattle.morsel_cut.specs.Places.{cut_state, options_with};
 ghost use Rattle.morsel_cut.specs.Runs.{Passes};
 ghost use Rattle.morsel_cut.specs.Cutting.{cut_opening, fed_with, begun_fault, Feeds};
 
 use crate::pass::whole_run;
-use crate::prefix::{Passed, Standing, pass_bytes};
-use crate::step::{ByteAt, Signs};
+use crate::prefix::{MachineState, StateRun, pass_bytes};
+use crate::step::{ByteAt, Delimiters};
 use morsel_grammar::CsvOptions;
 use morsel_meaning::{Fault, Name};
 use std::marker::Model;
@@ -18,31 +18,31 @@ use std::marker::Model;
 /// It takes one piece after the other, from the file's first byte on.
 #[derive(Debug, Drop)]
 pub struct Cutter {
-    signs: Signs,
+    delimiters: Delimiters,
     prefix: Option<Name>,
     file: u32,
-    standing: Standing,
+    state: MachineState,
     fed: u64,
     begun: u64,
 }
 
 impl Model for Cutter {
     ghost use Rattle.std.specs.Prelude.{◌≡◌, None};
-    ghost use Rattle.morsel_grammar.specs.Options.{AreOptions};
+    ghost use Rattle.morsel_grammar.specs.Dialect.{IsDialect};
     ghost use Rattle.morsel_cut.specs.Places.{cut_state, options_with};
     ghost use Rattle.morsel_cut.specs.Cutting.{Cutting};
 
     ghost Value = { Cutting };
 
     ghost view = { λ c. record {
-      options = options_with c.signs c.prefix;
+      options = options_with c.delimiters c.prefix;
       file = c.file;
-      state = cut_state c.standing;
+      state = cut_state c.state;
       fed = c.fed;
       begun = c.begun;
     } };
 
-    ghost invariant = { λ c. AreOptions (options_with c.signs c.prefix) × (c.prefix ≡ None → c.standing.matched ≡ None) };
+    ghost invariant = { λ c. IsDialect (options_with c.delimiters c.prefix) × (c.prefix ≡ None → c.state.matched ≡ None) };
 }
 
 impl Cutter {
@@ -52,13 +52,13 @@ impl Cutter {
         ensures out_of_memory { IsOkUnless result Fault.OutOfMemory }
         ensures without_comments { options.now.comment ≡ None → IsOk result }
     {
-        let signs = Signs::of(options);
+        let delimiters = Delimiters::of(options);
         let Some(prefix) = options.comment() else {
             return Ok(Cutter {
-                signs,
+                delimiters,
                 prefix: None,
                 file,
-                standing: Standing {
+                state: MachineState {
                     matched: None,
                     place: ByteAt::AtOpening,
                 },
@@ -67,10 +67,10 @@ impl Cutter {
             });
         };
         Ok(Cutter {
-            signs,
+            delimiters,
             prefix: Some(prefix.clone()?),
             file,
-            standing: Standing {
+            state: MachineState {
                 matched: Some(0),
                 place: ByteAt::AtOpening,
             },
@@ -89,13 +89,13 @@ impl Cutter {
         ensures answer { Feeds self.old piece.now result }
         ensures within { IfOk result (λ len. len ≤ length piece.now) }
     {
-        let passed = pass(self.standing, piece, self.signs, &self.prefix);
+        let passed = pass(self.state, piece, self.delimiters, &self.prefix);
         if passed.begin > 0 {
             self.begun = self.fed + passed.begin as u64;
         }
         self.fed += piece.len() as u64;
-        self.standing = passed.standing;
-        if passed.standing.matched.is_none() && passed.standing.place == ByteAt::BrokenQuote {
+        self.state = passed.state;
+        if passed.state.matched.is_none() && passed.state.place == ByteAt::BrokenQuote {
             return Err(Fault::Malformed {
                 file: self.file,
                 at: self.begun,
@@ -110,7 +110,7 @@ impl Cutter {
         ensures ok { OnOk result (RefusesEnd self.now.state → ⊥) }
         ensures malformed { IfErr result (λ fault. (fault ≡ begun_fault self.now) × RefusesEnd self.now.state) }
     {
-        if matches!(self.standing.place, ByteAt::InQuotes | ByteAt::BrokenQuote) {
+        if matches!(self.state.place, ByteAt::InQuotes | ByteAt::BrokenQuote) {
             return Err(Fault::Malformed {
                 file: self.file,
                 at: self.begun,
@@ -125,31 +125,25 @@ impl Cutter {
         ensures ok { OnOk result (RefusesEnd self.state → ⊥) }
         ensures malformed { IfErr result (λ fault. (fault ≡ begun_fault self) × RefusesEnd self.state) }
     {
-        if matches!(self.standing.place, ByteAt::InQuotes | ByteAt::BrokenQuote) {
-            return Err(Fault::Malformed {
-                file: self.file,
-                at: self.begun,
-            });
-        }
-        Ok(())
+        self.may_end()
     }
 }
 
 /// What a piece does.
-fn pass(from: Standing, piece: &[u8], signs: Signs, prefix: &Option<Name>) -> Passed
-    requires fit { AreOptions (options_with signs prefix.now) }
+fn pass(from: MachineState, piece: &[u8], delimiters: Delimiters, prefix: &Option<Name>) -> StateRun
+    requires fit { IsDialect (options_with delimiters prefix.now) }
     requires matched { prefix.now ≡ None → from.matched ≡ None }
-    ensures passes { Passes (options_with signs prefix.now) (cut_state from) piece.now result }
-    ensures matched { prefix.now ≡ None → result.standing.matched ≡ None }
+    ensures passes { Passes (options_with delimiters prefix.now) (cut_state from) piece.now result }
+    ensures matched { prefix.now ≡ None → result.state.matched ≡ None }
     ensures ends { result.end ≤ length piece.now }
     ensures begins { result.begin ≤ length piece.now }
 {
     if let Some(prefix) = prefix {
-        return pass_bytes(from, piece, signs, prefix.as_str().as_bytes());
+        return pass_bytes(from, piece, delimiters, prefix.as_str().as_bytes());
     }
-    let run = whole_run(from.place, piece, signs);
-    Passed {
-        standing: Standing {
+    let run = whole_run(from.place, piece, delimiters);
+    StateRun {
+        state: MachineState {
             matched: None,
             place: run.place,
         },

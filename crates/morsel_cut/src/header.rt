@@ -3,7 +3,7 @@ ghost use Rattle.std.specs.Prelude.{◌≡◌, ◌≤◌, List, length};
 ghost use Rattle.morsel_grammar.specs.Grammar.{CsvRecord, Records};
 ghost use Rattle.morsel_cut.specs.RowCounts.{EndsHead, EndsHeadWhole};
 
-use crate::record::{is_row, record_size};
+use crate::record::{is_header, record_size};
 use morsel_grammar::CsvOptions;
 
 /// Where the header of a text ends.
@@ -25,9 +25,9 @@ pub fn head_end(bytes: &[u8], options: &CsvOptions) -> HeadEnd
     let mut at = 0;
     while at < bytes.len() {
         let rest = &bytes[at..];
-        let is_header = is_row(rest, 0, options);
+        let found = is_header(rest, options);
         at += record_size(rest, options);
-        if is_header {
+        if found {
             return HeadEnd {
                 len: at,
                 awaits_header: false,

@@ -1,10 +1,12 @@
 //! Where a CSV text that comes in pieces may be cut, and how many rows whole records are.
 #![tactic(auto)]
 
+mod blocks;
 mod cutter;
 mod header;
 mod laws;
 mod lines;
+mod marks;
 mod pass;
 mod pieces;
 mod prefix;

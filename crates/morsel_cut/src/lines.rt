@@ -1,113 +1,51 @@
-//! Lines without quotes, 64 bytes at a time: how many there are, and whether one of them may be blank.
-ghost use Rattle.std.specs.Prelude.{◌≡◌, ◌==◌, ◌+◌, ◌<◌, ◌≤◌, length, map, take, IsTrue};
-ghost use Rattle.std.specs.List.{count_by};
+//! Records counted 64 bytes at a time.
+ghost use Rattle.std.specs.Prelude.{◌≡◌, ◌≤◌, ◌<◌, false, length, take, IsTrue};
 ghost use Rattle.std.specs.Simd.Lanes.{mask_l};
-ghost use Rattle.morsel_cut.specs.PlainLines.{BeginsLine, BeginLines, IsWithoutBlanks};
+ghost use Rattle.morsel_grammar.specs.Dialect.{IsDialect};
+ghost use Rattle.morsel_grammar.specs.Machine.{is_after_eol, place_step};
+ghost use Rattle.morsel_cut.specs.Places.{cut_place, delimiter_options};
+ghost use Rattle.morsel_cut.specs.Blocks.{tests_after, has_blank, AreCountedLines};
 
-use std::simd::prelude::*;
+use crate::blocks::block_of;
+use crate::marks::{LANES, bits_up_to_highest, byte_marks, one_on};
+use crate::pass::later_place;
+use crate::step::{ByteAt, Delimiters};
 
-/// How many bytes are looked at at once.
-const LANES: usize = 64;
-
-/// Which of the first 64 bytes are this one; the lowest bit tells of the first.
+/// Whether none of the records that begin among 64 bytes begins with the eol byte or with 13, where these bytes end records.
 #[inline(always)]
-fn byte_marks(text: &[u8], byte: u8) -> u64
-    requires { LANES ≤ length text.now }
-    ensures { result ≡ mask_l (map (λ b. b == byte) (take LANES text.now)) }
+fn is_without_blanks(from: ByteAt, lane: &[u8], ends: u64, delimiters: Delimiters) -> bool
+    requires room { LANES ≤ length lane.now }
+    requires ends { ends ≡ mask_l (tests_after (place_step (delimiter_options delimiters)) is_after_eol (cut_place from) (take LANES lane.now)) }
+    ensures { IsTrue result → has_blank (delimiter_options delimiters) (cut_place from) (take LANES lane.now) ≡ false }
 {
-    u8x64::from_slice(text)
-        .simd_eq(u8x64::splat(byte))
-        .to_bitmask()
+    let begins = one_on(ends, from.is_after_eol());
+    begins & (byte_marks(lane, delimiters.eol) | byte_marks(lane, b'\r')) == 0
 }
 
-/// How many of the first 64 bytes are this one.
-#[inline(always)]
-fn count_lanes(text: &[u8], byte: u8) -> usize
-    requires { LANES ≤ length text.now }
-    ensures value { result ≡ count_by (λ b. b == byte) (take LANES text.now) }
-    ensures few { result ≤ LANES }
+/// How many bytes some records take that a text begins with, and how many they are: none where that is not told 64 bytes at a
+/// time, or where one may be blank and be no row.
+pub fn count_lines(text: &[u8], columns: usize, delimiters: Delimiters) -> (usize, usize)
+    requires fit { IsDialect (delimiter_options delimiters) }
+    ensures within { result.0 ≤ length text.now }
+    ensures few { result.1 ≤ result.0 }
+    ensures lines { 0 < result.0 → AreCountedLines (delimiter_options delimiters) columns (take result.0 text.now) result.1 }
 {
-    byte_marks(text, byte).count_ones() as usize
-}
-
-/// How many bytes are this one.
-#[inline(always)]
-fn count_few(text: &[u8], byte: u8) -> usize
-    ensures { result ≡ count_by (λ b. b == byte) text.now }
-{
-    let mut count = 0;
-    for b in text {
-        if *b == byte {
-            count += 1;
-        }
-    }
-    count
-}
-
-/// How many bytes are this one, 64 at a time.
-pub fn count_bytes(text: &[u8], byte: u8) -> usize
-    ensures { result ≡ count_by (λ b. b == byte) text.now }
-{
+    let mut place = ByteAt::AfterEol;
+    let mut end = 0;
     let mut count = 0;
     let mut at = 0;
     while text.len() - at >= LANES {
-        count += count_lanes(&text[at..], byte);
+        let lane = &text[at..];
+        let Some(block) = block_of(place, lane, delimiters) else {
+            return (end, count);
+        };
+        if columns != 1 && !is_without_blanks(place, lane, block.ends, delimiters) {
+            return (end, count);
+        }
+        end = later_place(end, at, bits_up_to_highest(block.ends));
+        count += block.ends.count_ones() as usize;
+        place = block.place;
         at += LANES;
     }
-    count + count_few(&text[at..], byte)
-}
-
-/// Whether none of the lines that begin at the second of 65 bytes or later, up to the last, begins with the eol or 13.
-#[inline(always)]
-fn lanes_without_blanks(text: &[u8], eol: u8) -> bool
-    requires { LANES < length text.now }
-    ensures { IsTrue result → BeginLines eol text.now LANES }
-{
-    let next = &text[1..];
-    let ends = byte_marks(text, eol);
-    ends & (byte_marks(next, eol) | byte_marks(next, b'\r')) == 0
-}
-
-/// Whether no line begins with the eol or 13. The text itself begins one.
-pub fn is_without_blanks(text: &[u8], eol: u8) -> bool
-    ensures { IsTrue result → IsWithoutBlanks eol text.now }
-{
-    if !begins_line(text, 0, eol) {
-        return false;
-    }
-    let mut at = 0;
-    while text.len() - at > LANES {
-        if !lanes_without_blanks(&text[at..], eol) {
-            return false;
-        }
-        at += LANES;
-    }
-    few_without_blanks(text, at, eol)
-}
-
-/// The same of the bytes from a place on, where it is known of those before it.
-fn few_without_blanks(text: &[u8], from: usize, eol: u8) -> bool
-    requires within { from ≤ length text.now }
-    requires before { BeginLines eol text.now from }
-    ensures { IsTrue result → BeginLines eol text.now (length text.now) }
-{
-    for at in from..text.len() {
-        if text[at] == eol {
-            if !begins_line(text, at + 1, eol) {
-                return false;
-            }
-        }
-    }
-    true
-}
-
-/// Whether the text is over, or goes on with neither the eol nor 13.
-#[inline(always)]
-fn begins_line(text: &[u8], at: usize, eol: u8) -> bool
-    ensures { IsTrue result → at < length text.now → BeginsLine eol text.now at }
-{
-    if at >= text.len() {
-        return true;
-    }
-    text[at] != eol && text[at] != b'\r'
+    (end, count)
 }

@@ -7,44 +7,44 @@ ghost use Rattle.morsel_grammar.specs.Machine.{is_after_eol, begins_record, matc
 ghost use Rattle.morsel_cut.specs.Places.{cut_place, cut_state, options_with};
 ghost use Rattle.morsel_cut.specs.Runs.{Passes};
 
-use crate::step::{ByteAt, Signs};
+use crate::step::{ByteAt, Delimiters};
 
 /// The state of the machine.
 #[derive(Clone, Copy, Debug)]
-pub struct Standing {
+pub struct MachineState {
     /// The record so far is so many bytes of the comment prefix, and may still become a comment.
     pub matched: Option<usize>,
     /// Where the next byte stands, if the record is no comment.
     pub place: ByteAt,
 }
 
-/// What some bytes did.
+/// What some bytes do to the state of the machine.
 #[derive(Clone, Copy, Debug)]
-pub struct Passed {
+pub struct StateRun {
     /// The state after them.
-    pub standing: Standing,
+    pub state: MachineState,
     /// How many of them there are up to the last end of a record, or 0.
     pub end: usize,
     /// How many of them there are up to where the last record begins, or 0.
     pub begin: usize,
 }
 
-impl Passed {
+impl StateRun {
     /// These bytes, and one more, which is the last of `len` bytes.
     #[inline(always)]
-    fn then(self, len: usize, standing: Standing) -> Passed
-        ensures standing { result.standing ≡ standing }
-        ensures end { result.end ≡ (if is_after_eol (cut_place standing.place) then len else self.end) }
-        ensures begin { result.begin ≡ (if begins_record (cut_place standing.place) then len else self.begin) }
+    fn then(self, len: usize, state: MachineState) -> StateRun
+        ensures state { result.state ≡ state }
+        ensures end { result.end ≡ (if is_after_eol (cut_place state.place) then len else self.end) }
+        ensures begin { result.begin ≡ (if begins_record (cut_place state.place) then len else self.begin) }
     {
-        Passed {
-            standing,
-            end: if standing.place.is_after_eol() {
+        StateRun {
+            state,
+            end: if state.place.is_after_eol() {
                 len
             } else {
                 self.end
             },
-            begin: if standing.place.begins_record() {
+            begin: if state.place.begins_record() {
                 len
             } else {
                 self.begin
@@ -65,40 +65,45 @@ fn matched_step(prefix: &[u8], matched: Option<usize>, b: u8) -> Option<usize>
 }
 
 /// The state after one byte more.
-pub fn prefix_step(from: Standing, b: u8, signs: Signs, prefix: &[u8]) -> Standing
-    ensures { cut_state result ≡ cut_step (options_with signs (Some prefix.now)) (cut_state from) b }
+pub fn prefix_step(from: MachineState, b: u8, delimiters: Delimiters, prefix: &[u8]) -> MachineState
+    ensures { cut_state result ≡ cut_step (options_with delimiters (Some prefix.now)) (cut_state from) b }
 {
-    let place = signs.step(from.place, b);
+    let place = delimiters.step(from.place, b);
     if place.begins_record() {
-        return Standing {
+        return MachineState {
             matched: Some(0),
             place,
         };
     }
     let matched = matched_step(prefix, from.matched, b);
     if matched == Some(prefix.len()) {
-        return Standing {
+        return MachineState {
             matched: None,
             place: ByteAt::InComment,
         };
     }
-    Standing { matched, place }
+    MachineState { matched, place }
 }
 
 /// What a text does where comments begin with this prefix.
-pub fn pass_bytes(from: Standing, text: &[u8], signs: Signs, prefix: &[u8]) -> Passed
-    ensures passes { Passes (options_with signs (Some prefix.now)) (cut_state from) text.now result }
+pub fn pass_bytes(
+    from: MachineState,
+    text: &[u8],
+    delimiters: Delimiters,
+    prefix: &[u8],
+) -> StateRun
+    ensures passes { Passes (options_with delimiters (Some prefix.now)) (cut_state from) text.now result }
     ensures ends { result.end ≤ length text.now }
     ensures begins { result.begin ≤ length text.now }
 {
-    let mut passed = Passed {
-        standing: from,
+    let mut passed = StateRun {
+        state: from,
         end: 0,
         begin: 0,
     };
     for at in 0..text.len() {
-        let standing = prefix_step(passed.standing, text[at], signs, prefix);
-        passed = passed.then(at + 1, standing);
+        let state = prefix_step(passed.state, text[at], delimiters, prefix);
+        passed = passed.then(at + 1, state);
     }
     passed
 }

@@ -1,66 +1,67 @@
 //! The record that a text begins with: how many bytes it takes, and whether it is a row.
 ghost use Rattle.std.specs.Prelude.{◌≡◌, ◌≢◌, ◌==◌, ◌<◌, ◌≤◌, ℕ, Some, List, false, length, take, slice_index, is_some};
-ghost use Rattle.morsel_grammar.specs.Options.{AreOptions};
+ghost use Rattle.morsel_grammar.specs.Dialect.{IsDialect};
 ghost use Rattle.morsel_grammar.specs.Grammar.{CsvRecord};
+ghost use Rattle.morsel_grammar.specs.Rows.{is_header};
 ghost use Rattle.morsel_grammar.specs.Split.{is_quote, behind_front, comment_body, record_at};
 ghost use Rattle.morsel_grammar.specs.Machine.{is_after_eol, state_after, place_step};
-ghost use Rattle.morsel_cut.specs.Places.{cut_place, options_with, sign_options};
+ghost use Rattle.morsel_cut.specs.Places.{cut_place, options_with, delimiter_options};
 ghost use Rattle.morsel_cut.specs.FirstEnds.{first_place, record_size, ends_line, is_blank};
 ghost use Rattle.morsel_cut.specs.RowCounts.{is_row};
 
 use crate::pass::unquoted_len;
-use crate::prefix::{Standing, prefix_step};
-use crate::step::{ByteAt, Signs};
+use crate::prefix::{MachineState, prefix_step};
+use crate::step::{ByteAt, Delimiters};
 use memchr::{memchr, memchr2};
 use morsel_grammar::CsvOptions;
 
 /// How many bytes come before the next quote or eol byte.
 #[inline(always)]
-fn line_part_len(text: &[u8], signs: Signs) -> usize
+fn line_part_len(text: &[u8], delimiters: Delimiters) -> usize
     ensures within { result ≤ length text.now }
-    ensures unquoted { (k : ℕ) → k < result → is_quote signs.quote (slice_index text.now k) ≡ false }
-    ensures no_eol { (k : ℕ) → k < result → (slice_index text.now k == signs.eol) ≡ false }
+    ensures unquoted { (k : ℕ) → k < result → is_quote delimiters.quote (slice_index text.now k) ≡ false }
+    ensures no_eol { (k : ℕ) → k < result → (slice_index text.now k == delimiters.eol) ≡ false }
 {
-    let Some(quote) = signs.quote else {
-        return memchr(signs.eol, text).unwrap_or(text.len());
+    let Some(quote) = delimiters.quote else {
+        return memchr(delimiters.eol, text).unwrap_or(text.len());
     };
-    memchr2(quote, signs.eol, text).unwrap_or(text.len())
+    memchr2(quote, delimiters.eol, text).unwrap_or(text.len())
 }
 
 /// The place after the front of a text within which no record ends but with its last byte, and how many bytes it has.
 #[inline(always)]
-fn next_place(from: ByteAt, text: &[u8], signs: Signs) -> (ByteAt, usize)
+fn next_place(from: ByteAt, text: &[u8], delimiters: Delimiters) -> (ByteAt, usize)
     requires some { 0 < length text.now }
-    requires apart { signs.separator ≢ signs.eol }
+    requires apart { delimiters.separator ≢ delimiters.eol }
     ensures some { 0 < result.1 }
     ensures within { result.1 ≤ length text.now }
-    ensures place { cut_place result.0 ≡ state_after (place_step (sign_options signs)) (cut_place from) (take result.1 text.now) }
-    ensures first { first_place (place_step (sign_options signs)) is_after_eol (cut_place from) (take result.1 text.now) ≡ result.1 }
+    ensures place { cut_place result.0 ≡ state_after (place_step (delimiter_options delimiters)) (cut_place from) (take result.1 text.now) }
+    ensures first { first_place (place_step (delimiter_options delimiters)) is_after_eol (cut_place from) (take result.1 text.now) ≡ result.1 }
 {
     if from.is_outside() {
-        let len = line_part_len(text, signs);
+        let len = line_part_len(text, delimiters);
         if len > 0 {
-            return (signs.plain_step(text[len - 1]), len);
+            return (delimiters.plain_step(text[len - 1]), len);
         }
     }
     if from.is_in_quotes() {
-        let len = unquoted_len(text, signs.quote);
+        let len = unquoted_len(text, delimiters.quote);
         if len > 0 {
             return (from, len);
         }
     }
-    (signs.step(from, text[0]), 1)
+    (delimiters.step(from, text[0]), 1)
 }
 
 /// How many bytes the record takes that a text begins with, where there are no comments.
-fn plain_size(text: &[u8], signs: Signs) -> usize
-    requires apart { signs.separator ≢ signs.eol }
-    ensures { result ≡ first_place (place_step (sign_options signs)) is_after_eol (cut_place ByteAt.AfterEol) text.now }
+fn plain_size(text: &[u8], delimiters: Delimiters) -> usize
+    requires apart { delimiters.separator ≢ delimiters.eol }
+    ensures { result ≡ first_place (place_step (delimiter_options delimiters)) is_after_eol (cut_place ByteAt.AfterEol) text.now }
 {
     let mut place = ByteAt::AfterEol;
     let mut at = 0;
     while at < text.len() {
-        let (next, len) = next_place(place, &text[at..], signs);
+        let (next, len) = next_place(place, &text[at..], delimiters);
         at += len;
         if next.is_after_eol() {
             return at;
@@ -71,16 +72,16 @@ fn plain_size(text: &[u8], signs: Signs) -> usize
 }
 
 /// How many bytes the record takes that a text begins with, where comments begin with this prefix.
-fn prefix_size(text: &[u8], signs: Signs, prefix: &[u8]) -> usize
-    ensures { result ≡ record_size (options_with signs (Some prefix.now)) text.now }
+fn prefix_size(text: &[u8], delimiters: Delimiters, prefix: &[u8]) -> usize
+    ensures { result ≡ record_size (options_with delimiters (Some prefix.now)) text.now }
 {
-    let mut standing = Standing {
+    let mut state = MachineState {
         matched: Some(0),
         place: ByteAt::AfterEol,
     };
     for at in 0..text.len() {
-        standing = prefix_step(standing, text[at], signs, prefix);
-        if standing.place.is_after_eol() {
+        state = prefix_step(state, text[at], delimiters, prefix);
+        if state.place.is_after_eol() {
             return at + 1;
         }
     }
@@ -92,12 +93,12 @@ pub fn record_size(text: &[u8], options: &CsvOptions) -> usize
     ensures value { result ≡ record_size options.now text.now }
     ensures within { result ≤ length text.now }
     ensures some { 0 < length text.now → 0 < result }
-    ensures fit { AreOptions options.now }
+    ensures fit { IsDialect options.now }
 {
-    let signs = Signs::of(options);
+    let delimiters = Delimiters::of(options);
     match options.comment() {
-        Some(prefix) => prefix_size(text, signs, prefix.as_str().as_bytes()),
-        None => plain_size(text, signs),
+        Some(prefix) => prefix_size(text, delimiters, prefix.as_str().as_bytes()),
+        None => plain_size(text, delimiters),
     }
 }
 
@@ -138,12 +139,22 @@ fn is_blank(text: &[u8], eol: u8) -> bool
 /// Whether a text begins with the comment prefix, where there is one.
 fn is_comment(text: &[u8], options: &CsvOptions) -> bool
     ensures value { result ≡ is_some (comment_body options.now.comment text.now) }
-    ensures fit { AreOptions options.now }
+    ensures fit { IsDialect options.now }
 {
     match options.comment() {
         Some(prefix) => begins_with(text, prefix.as_str().as_bytes()),
         None => false,
     }
+}
+
+/// Whether the record that a text begins with may be a header: neither comment nor empty.
+pub fn is_header(text: &[u8], options: &CsvOptions) -> bool
+    ensures { (r : CsvRecord) (rest : List ℕ) → record_at options.now text.now ≡ Some (r, rest) → result ≡ is_header r }
+{
+    if is_comment(text, options) {
+        return false;
+    }
+    !is_blank(text, options.eol())
 }
 
 /// Whether the record that a text begins with is a row of so many columns, or would be one if it had as many fields.

@@ -1,18 +1,12 @@
-//! How many rows whole records are: lines without quotes 64 bytes at a time, and other records one by one.
-ghost use Rattle.std.specs.Prelude.{◌≡◌, ◌==◌, ◌⊎◌, ◌<◌, ◌≤◌, ℕ, true, false, List, None, length, take, slice_index, if◌then◌else◌};
-ghost use Rattle.morsel_grammar.specs.Options.{AreOptions};
+//! How many rows whole records are: 64 bytes at a time, and one by one where these do not tell.
+ghost use Rattle.std.specs.Prelude.{◌≡◌, ◌<◌, ◌≤◌, List, length, if◌then◌else◌};
 ghost use Rattle.morsel_grammar.specs.Grammar.{CsvRecord, Records};
-ghost use Rattle.morsel_grammar.specs.GrammarRows.{AreWholeRecords};
-ghost use Rattle.morsel_cut.specs.PlainLines.{ArePlainLines, IsWithoutBlanks};
 ghost use Rattle.morsel_cut.specs.RowCounts.{row_count, TakesRows};
 
-use crate::lines::{count_bytes, is_without_blanks};
-use crate::pass::{len_up_to_last, unquoted_len};
+use crate::lines::count_lines;
 use crate::record::{is_row, record_size};
+use crate::step::Delimiters;
 use morsel_grammar::CsvOptions;
-
-/// How many bytes are looked at for lines that are counted in one way: where one of them may be blank, these are counted one by one.
-const FRONT: usize = 4096;
 
 /// How many rows of so many columns the records of `bytes` are, which follow the header.
 ///
@@ -40,9 +34,9 @@ fn front_rows(text: &[u8], columns: usize, options: &CsvOptions) -> (usize, usiz
     ensures rows { (records : List CsvRecord) → Records options.now text.now records
         → TakesRows options.now columns text.now records result.0 result.1 }
 {
-    let len = plain_lines_len(text, options);
+    let (len, rows) = line_rows(text, columns, options);
     if len > 0 {
-        return (len, line_rows(&text[..len], columns, options));
+        return (len, rows);
     }
     (
         record_size(text, options),
@@ -50,54 +44,18 @@ fn front_rows(text: &[u8], columns: usize, options: &CsvOptions) -> (usize, usiz
     )
 }
 
-/// How many bytes the lines without quotes have that a text begins with, or 0 where there may be comments.
-fn plain_lines_len(text: &[u8], options: &CsvOptions) -> usize
-    ensures within { result ≤ length text.now }
-    ensures lines { 0 < result → ArePlainLines options.now (take result text.now) }
+/// How many bytes some records take that a text begins with, and how many rows they are, where these are told 64 bytes at a
+/// time; else none.
+fn line_rows(text: &[u8], columns: usize, options: &CsvOptions) -> (usize, usize)
+    ensures within { result.0 ≤ length text.now }
+    ensures few { result.1 ≤ result.0 }
+    ensures rows { 0 < result.0 → (records : List CsvRecord) → Records options.now text.now records
+        → TakesRows options.now columns text.now records result.0 result.1 }
 {
     let None = options.comment() else {
-        return 0;
+        return (0, 0);
     };
-    let front = front_of(text);
-    let len = unquoted_len(front, options.quote());
-    len_up_to_last(options.eol(), &front[..len])
-}
-
-/// The first bytes of a text, of which all lines are counted in one way.
-fn front_of(text: &[u8]) -> &[u8]
-    ensures { result.now ≡ take FRONT text.now }
-{
-    if text.len() <= FRONT {
-        return text;
-    }
-    &text[..FRONT]
-}
-
-/// How many rows lines without quotes are.
-fn line_rows(lines: &[u8], columns: usize, options: &CsvOptions) -> usize
-    requires { ArePlainLines options.now lines.now }
-    ensures rows { (records : List CsvRecord) → AreWholeRecords options.now lines.now records → result ≡ row_count columns records }
-    ensures few { result ≤ length lines.now }
-{
-    if columns == 1 || is_without_blanks(lines, options.eol()) {
-        return count_bytes(lines, options.eol());
-    }
-    rows_one_by_one(lines, columns, options)
-}
-
-/// How many rows the records are, one by one.
-fn rows_one_by_one(bytes: &[u8], columns: usize, options: &CsvOptions) -> usize
-    ensures rows { (records : List CsvRecord) → Records options.now bytes.now records → result ≡ row_count columns records }
-    ensures few { result ≤ length bytes.now }
-{
-    let mut rows = 0;
-    let mut at = 0;
-    while at < bytes.len() {
-        let rest = &bytes[at..];
-        rows += one_if(is_row(rest, columns, options));
-        at += record_size(rest, options);
-    }
-    rows
+    count_lines(text, columns, Delimiters::of(options))
 }
 
 /// One where the test holds, and else none.

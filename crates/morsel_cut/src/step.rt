@@ -10,7 +10,8 @@
 ghost use Rattle.std.specs.Prelude.{◌≡◌, ◌↔◌, IsTrue};
 ghost use Rattle.morsel_grammar.specs.Split.{is_quote};
 ghost use Rattle.morsel_grammar.specs.Machine.{is_after_eol, begins_record, plain_step, first_step, closed_step, place_step};
-ghost use Rattle.morsel_cut.specs.Places.{cut_place, options_with, sign_options, IsOutside};
+ghost use Rattle.morsel_cut.specs.Places.{cut_place, options_with, delimiter_options, IsOutside};
+ghost use Rattle.morsel_cut.specs.Blocks.{IsAmongFields, is_in_plain, is_in_quotes, is_after_quote};
 ghost use Rattle.morsel_cut.specs.Cutting.{cut_options};
 
 use morsel_grammar::CsvOptions;
@@ -46,7 +47,7 @@ pub enum ByteAt {
 
 /// The bytes that end fields and records, and the quote.
 #[derive(Clone, Copy, Debug)]
-pub struct Signs {
+pub struct Delimiters {
     pub separator: u8,
     pub quote: Option<u8>,
     pub eol: u8,
@@ -80,21 +81,54 @@ impl ByteAt {
         )
     }
 
+    /// Whether a field without quotes has begun and goes on.
+    #[inline(always)]
+    pub fn is_in_plain(self) -> bool
+        ensures { result ≡ is_in_plain (cut_place self) }
+    {
+        matches!(self, ByteAt::InPlain)
+    }
+
     /// Whether the last quote was an opening one.
     #[inline(always)]
     pub fn is_in_quotes(self) -> bool
-        ensures { IsTrue result ↔ (self ≡ ByteAt.InQuotes) }
+        ensures value { result ≡ is_in_quotes (cut_place self) }
+        ensures place { IsTrue result ↔ (self ≡ ByteAt.InQuotes) }
     {
         matches!(self, ByteAt::InQuotes)
     }
+
+    /// Whether the last byte is a quote in quotes, which closes or is the first of two.
+    #[inline(always)]
+    pub fn is_after_quote(self) -> bool
+        ensures { result ≡ is_after_quote (cut_place self) }
+    {
+        matches!(self, ByteAt::AfterQuote)
+    }
+
+    /// Whether the next byte is one of a field, or begins or follows one.
+    #[inline(always)]
+    pub fn is_among_fields(self) -> bool
+        ensures { IsTrue result ↔ IsAmongFields (cut_place self) }
+    {
+        matches!(
+            self,
+            ByteAt::AfterMark
+                | ByteAt::AfterEol
+                | ByteAt::AfterSeparator
+                | ByteAt::InPlain
+                | ByteAt::InQuotes
+                | ByteAt::AfterQuote
+        )
+    }
 }
 
-impl Signs {
+impl Delimiters {
     /// Those of a text that is written so.
-    pub fn of(options: &CsvOptions) -> Signs
+    pub fn of(options: &CsvOptions) -> Delimiters
         ensures { options_with result options.now.comment ≡ cut_options options.now }
     {
-        Signs {
+        Delimiters {
             separator: options.separator(),
             quote: options.quote(),
             eol: options.eol(),
@@ -115,7 +149,7 @@ impl Signs {
     /// The place after a byte of a field without quotes.
     #[inline(always)]
     pub fn plain_step(self, b: u8) -> ByteAt
-        ensures { cut_place result ≡ plain_step (sign_options self) b }
+        ensures { cut_place result ≡ plain_step (delimiter_options self) b }
     {
         if b == self.separator {
             return ByteAt::AfterSeparator;
@@ -129,7 +163,7 @@ impl Signs {
     /// The place after the first byte of a field, or after what ends an empty one.
     #[inline(always)]
     fn first_step(self, b: u8) -> ByteAt
-        ensures { cut_place result ≡ first_step (sign_options self) b }
+        ensures { cut_place result ≡ first_step (delimiter_options self) b }
     {
         if self.is_quote(b) {
             return ByteAt::InQuotes;
@@ -140,7 +174,7 @@ impl Signs {
     /// The place after a byte that follows a closing quote.
     #[inline(always)]
     fn closed_step(self, b: u8) -> ByteAt
-        ensures { cut_place result ≡ closed_step (sign_options self) b }
+        ensures { cut_place result ≡ closed_step (delimiter_options self) b }
     {
         if b == self.separator {
             return ByteAt::AfterSeparator;
@@ -157,7 +191,7 @@ impl Signs {
     /// The place after one byte more.
     #[inline]
     pub fn step(self, at: ByteAt, b: u8) -> ByteAt
-        ensures { cut_place result ≡ place_step (sign_options self) (cut_place at) b }
+        ensures { cut_place result ≡ place_step (delimiter_options self) (cut_place at) b }
     {
         match at {
             ByteAt::AtOpening if b == 0xEF => ByteAt::InMarkOne,

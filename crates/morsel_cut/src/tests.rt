@@ -1,4 +1,4 @@
-//! Worked texts, and short texts cut at every place, under each kind of options.
+//! Worked texts, and texts cut at every place, under each kind of options.
 use crate::{Cutter, HeadEnd, head_end, rows_of};
 use morsel_grammar::CsvOptions;
 use morsel_meaning::{Fault, Name, Why};
@@ -7,6 +7,7 @@ use std::mem::drop;
 use std::process::Abort;
 use std::test::Fail;
 
+mod blocks;
 mod every_cut;
 
 /// Options without a header and with an empty null text.
@@ -106,6 +107,41 @@ fn a_prefix_may_be_longer_than_a_piece(rt: HostRuntime) {
     let got = answers(&rt, &options, b"#!", b"##,\"\n#!\"\n");
     drop(options);
     assert!(rt; got == (Ok(0), Ok(9), Ok(())));
+}
+
+#[test]
+fn two_bytes_of_a_mark_and_another_are_a_field(rt: HostRuntime) -> Result<(), Fail> {
+    let options = CsvOptions::standard(rt.alloc())?;
+    let got = answers(&rt, &options, b"\xEF\xBB", b"\"a\n");
+    drop(options);
+    assert!(rt; got == (Ok(0), Ok(3), Ok(())));
+    Ok(())
+}
+
+#[test]
+fn a_comment_may_follow_the_mark(rt: HostRuntime) {
+    let options = options_of(&rt, rt.alloc(), b',', Some(b'"'), b'\n', Some("#"));
+    let got = answers(&rt, &options, b"\xEF\xBB\xBF#", b"\"\na\n\"");
+    drop(options);
+    assert!(rt; got == (Ok(0), Ok(4), Err(Fault::Malformed { file: 3, at: 8 })));
+}
+
+#[test]
+fn a_record_may_become_a_comment_after_a_broken_quote(rt: HostRuntime) {
+    let options = options_of(&rt, rt.alloc(), b',', Some(b'"'), b'\n', Some("\"ab\"cd"));
+    let got = answers(&rt, &options, b"\"ab\"c", b"d\"\n");
+    drop(options);
+    assert!(rt; got == (Ok(0), Ok(3), Ok(())));
+}
+
+#[test]
+fn a_record_that_is_not_all_of_the_prefix_is_refused(rt: HostRuntime) {
+    let options = options_of(&rt, rt.alloc(), b',', Some(b'"'), b'\n', Some("\"ab\"cd"));
+    let got = answers(&rt, &options, b"\"ab\"c", b"e\n");
+    drop(options);
+    let fault = Fault::Malformed { file: 3, at: 0 };
+    let again = Fault::Malformed { file: 3, at: 0 };
+    assert!(rt; got == (Ok(0), Err(fault), Err(again)));
 }
 
 #[test]

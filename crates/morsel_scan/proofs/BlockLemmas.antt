@@ -3,7 +3,7 @@ use Rattle.std.proofs.Common.{◌≡◌, ◌≢◌, ℕ, zero, suc, ◌+◌, ◌
 use Rattle.std.proofs.Math.Seq.{take-add}
 use Rattle.std.proofs.lemmas.List.{take_all, take-take, take-append-drop, drop-take, length-take-le, length-drop}
 use Rattle.std.specs.Prelude.{◌==◌, ◌&&◌, Bool, true, false, if◌then◌else◌, Some, List, [], ◌∷◌, ◌++◌, length, take, drop, slice_range}
-use Rattle.morsel_grammar.specs.Options.{Options, AreOptions}
+use Rattle.morsel_grammar.specs.Dialect.{Dialect, IsDialect}
 use Rattle.morsel_grammar.specs.Grammar.{CsvRecord, IsRecord, Records}
 use Rattle.morsel_grammar.specs.Rows.{mark_len, unmarked}
 use Rattle.morsel_grammar.specs.GrammarRows.{AreWholeRecords}
@@ -31,7 +31,7 @@ asked_more asked len bytes piece held =
     take-add asked len bytes ∙ ap (λ (x : List ℕ). take asked bytes ++ x) (ap (λ (n : ℕ). take n (drop asked bytes)) (sym same) ∙ held)
 
 -- at a last cut what is held begins with no whole record
-pub holds_no_record : (o : Options) (bytes : List ℕ) (given at : ℕ) → AreOptions o → at ≤ length bytes → given ≡ last_cut o (take at bytes) → HoldsNoRecord o bytes given at
+pub holds_no_record : (o : Dialect) (bytes : List ℕ) (given at : ℕ) → IsDialect o → at ≤ length bytes → given ≡ last_cut o (take at bytes) → HoldsNoRecord o bytes given at
 holds_no_record o bytes zero at fit within cut =
     let came : List ℕ = take at bytes in
     let P : List ℕ → Type 0 = λ x. BeginsNoWholeRecord o (unmarked x) in
@@ -50,7 +50,7 @@ joined_is : (before given m cut len : ℕ) → joined_place before given m ≡ c
 joined_is before given zero cut len is within cut_is some = absurd (omega arith)
 joined_is before given (suc m) cut len is within cut_is some = omega arith
 
-next_end : (o : Options) (came later : List ℕ) (given len : ℕ) → AreOptions o → given ≢ 0 → given ≡ last_cut o came → take given later ≡ take given came → given ≤ length later
+next_end : (o : Dialect) (came later : List ℕ) (given len : ℕ) → IsDialect o → given ≢ 0 → given ≡ last_cut o came → take given later ≡ take given came → given ≤ length later
     → given + len ≡ last_cut o later → 0 < len → last_end o (first_state o AfterEol) (drop given later) ≡ len
 next_end o came later given len fit some cut same within next more =
     let opening : CutState = first_state o AtOpening in
@@ -68,11 +68,11 @@ next_end o came later given len fit some cut same within next more =
     joined_is (last_cut o front) given end (last_cut o later) len joined (omega (arith, last_cut-within o front)) (sym next) more
 
 -- a text of whole records
-abbrev pub IsWholeText : Options → List ℕ → Type 0
+abbrev pub IsWholeText : Dialect → List ℕ → Type 0
 IsWholeText o text = (records : List CsvRecord) × AreWholeRecords o text records
 
 -- what is between two cuts is whole records
-between_cuts : (o : Options) (came later : List ℕ) (given len : ℕ) → AreOptions o → given ≡ last_cut o came → take given later ≡ take given came → given ≤ length later
+between_cuts : (o : Dialect) (came later : List ℕ) (given len : ℕ) → IsDialect o → given ≡ last_cut o came → take given later ≡ take given came → given ≤ length later
     → given + len ≡ last_cut o later → 0 < len → IsWholeText o (text_at given (take len (drop given later)))
 between_cuts o came later zero len fit cut same within next more =
     let is : last_cut o later ≡ len = omega arith in
@@ -82,7 +82,7 @@ between_cuts o came later (suc given) len fit cut same within next more =
     subst (λ (n : ℕ). IsWholeText o (take n (drop (suc given) later))) is (cuts_after_whole o fit AfterEol (drop (suc given) later) tt).0
 
 -- the bytes up to a cut have the mark of the file
-mark_before_cut : (o : Options) (bytes : List ℕ) (at cut : ℕ) → AreOptions o → cut ≡ last_cut o (take at bytes) → cut ≢ 0 → cut ≤ at → mark_len (take cut bytes) ≡ mark_len bytes
+mark_before_cut : (o : Dialect) (bytes : List ℕ) (at cut : ℕ) → IsDialect o → cut ≡ last_cut o (take at bytes) → cut ≢ 0 → cut ≤ at → mark_len (take cut bytes) ≡ mark_len bytes
 mark_before_cut o bytes at cut fit is some order =
     let came : List ℕ = take at bytes in
     let some_cut : last_cut o came ≢ 0 = λ none. some (is ∙ none) in
@@ -92,7 +92,7 @@ mark_before_cut o bytes at cut fit is some order =
     sym (mark_len-front o (take cut bytes) (drop cut bytes) fit after) ∙ ap mark_len (take-append-drop cut bytes)
 
 -- the bytes between two cuts are a block
-pub is_block : (o : Options) (bytes held : List ℕ) (asked next given len : ℕ) → AreOptions o → asked ≤ next → next ≤ length bytes → given ≡ last_cut o (take asked bytes)
+pub is_block : (o : Dialect) (bytes held : List ℕ) (asked next given len : ℕ) → IsDialect o → asked ≤ next → next ≤ length bytes → given ≡ last_cut o (take asked bytes)
     → given + len ≡ last_cut o (take next bytes) → 0 < len → held ≡ drop given (take next bytes) → IsBlock o bytes given (take len held)
 is_block o bytes held asked next given len fit order within cut next_cut more held_is =
     let came : List ℕ = take asked bytes in
@@ -124,15 +124,15 @@ is_block o bytes held asked next given len fit order within cut next_cut more he
     }
 
 -- the records from a place on to the end of the bytes
-abbrev pub HasRecords : Options → List ℕ → Type 0
+abbrev pub HasRecords : Dialect → List ℕ → Type 0
 HasRecords o text = (records : List CsvRecord) × Records o text records
 
-left_are : (o : Options) (left : List ℕ) → (left ≢ [] → (r : CsvRecord) × IsRecord o r left []) → HasRecords o left
+left_are : (o : Dialect) (left : List ℕ) → (left ≢ [] → (r : CsvRecord) × IsRecord o r left []) → HasRecords o left
 left_are o [] is = ([], refl)
 left_are o (b ∷ left) is = let some : b ∷ left ≢ [] = λ none. cc in let one = is some in (one.0 ∷ [], (some, [], one.1, refl))
 
 -- bytes that may end are records
-records_to_end : (o : Options) (place : CutPlace) (bytes : List ℕ) → AreOptions o → IsFirstPlace place → (RefusesEnd (cut_after o (first_state o place) bytes) → ⊥) → HasRecords o (text_from place bytes)
+records_to_end : (o : Dialect) (place : CutPlace) (bytes : List ℕ) → IsDialect o → IsFirstPlace place → (RefusesEnd (cut_after o (first_state o place) bytes) → ⊥) → HasRecords o (text_from place bytes)
 records_to_end o place bytes fit first may_end =
     let before = begins_after_whole o fit place bytes first in
     let n : ℕ = last_begin o (first_state o place) bytes in
@@ -143,7 +143,7 @@ records_to_end o place bytes fit first may_end =
     )
 
 -- bytes from an earlier cut on are records, where the file may end
-records_from_cut : (o : Options) (bytes : List ℕ) (at given : ℕ) → AreOptions o → at ≤ length bytes → given ≡ last_cut o (take at bytes)
+records_from_cut : (o : Dialect) (bytes : List ℕ) (at given : ℕ) → IsDialect o → at ≤ length bytes → given ≡ last_cut o (take at bytes)
     → (RefusesEnd (cut_after o (first_state o AtOpening) bytes) → ⊥) → HasRecords o (text_at given (drop given bytes))
 records_from_cut o bytes at zero fit within cut may_end = records_to_end o AtOpening bytes fit tt may_end
 records_from_cut o bytes at (suc given) fit within cut may_end =
@@ -158,7 +158,7 @@ records_from_cut o bytes at (suc given) fit within cut may_end =
     ∙ ap (cut_after o opening) (take-append-drop (suc given) bytes) in
     records_to_end o AfterEol (drop (suc given) bytes) fit tt (λ refused. may_end (subst RefusesEnd state refused))
 
-pub is_last_block : (o : Options) (bytes held : List ℕ) (at given len : ℕ) → AreOptions o → at ≤ length bytes → given ≡ last_cut o (take at bytes) → held ≡ drop given bytes → len ≡ length held → 0 < len
+pub is_last_block : (o : Dialect) (bytes held : List ℕ) (at given len : ℕ) → IsDialect o → at ≤ length bytes → given ≡ last_cut o (take at bytes) → held ≡ drop given bytes → len ≡ length held → 0 < len
     → (RefusesEnd (cut_after o (first_state o AtOpening) bytes) → ⊥) → IsBlock o bytes given (take len held)
 is_last_block o bytes held at given len fit within cut held_is len_is more may_end =
     let all : take len held ≡ held = let over : length held ≤ len = omega arith in take_all len held over in
@@ -188,10 +188,10 @@ no_end_in_held : (held n : ℕ) → 0 ≡ joined_place 0 held n → n ≡ 0
 no_end_in_held held zero is = refl
 no_end_in_held held (suc n) is = absurd (omega arith)
 
-pub cut_stays : (o : Options) (came piece : List ℕ) (held : ℕ) → 0 ≡ joined_place 0 held (chunk_end o came piece) → last_cut o (came ++ piece) ≡ last_cut o came
+pub cut_stays : (o : Dialect) (came piece : List ℕ) (held : ℕ) → 0 ≡ joined_place 0 held (chunk_end o came piece) → last_cut o (came ++ piece) ≡ last_cut o came
 cut_stays o came piece held is = cut_none o came piece (no_end_in_held held (chunk_end o came piece) is)
 
-pub cut_moves : (o : Options) (came piece : List ℕ) (given held len : ℕ) → len ≡ joined_place 0 held (chunk_end o came piece) → 0 < len → given + held ≡ length came
+pub cut_moves : (o : Dialect) (came piece : List ℕ) (given held len : ℕ) → len ≡ joined_place 0 held (chunk_end o came piece) → 0 < len → given + held ≡ length came
     → given + len ≡ last_cut o (came ++ piece)
 cut_moves o came piece given held len is more size =
     let end = end_in_held held (chunk_end o came piece) len is more in

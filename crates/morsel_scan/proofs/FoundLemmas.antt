@@ -6,7 +6,7 @@ use Rattle.std.specs.Prelude.{◌⊎◌, Bool, true, false, Option, Some, None, 
 use Rattle.morsel_meaning.specs.declared.fault.Fault.{Fault}
 use Rattle.morsel_meaning.specs.declared.fault.Fault.TheVariants as faults
 use Rattle.morsel_meaning.specs.declared.fault.ComputeKind.TheVariants as kinds
-use Rattle.morsel_grammar.specs.Options.{Options, AreOptions}
+use Rattle.morsel_grammar.specs.Dialect.{Dialect, IsDialect}
 use Rattle.morsel_grammar.specs.Grammar.{CsvRecord, IsRecord, Records}
 use Rattle.morsel_grammar.specs.Rows.{mark_len, unmarked, behind_header}
 use Rattle.morsel_grammar.specs.GrammarRows.{AreWholeRecords, awaits_header_after}
@@ -26,10 +26,10 @@ use Rattle.morsel_scan.proofs.PassingLemmas.{IsPassing, IsBlockIn, block_of, tol
 
 -- what a search for a block answers
 abbrev pub Searched : Outside → BlocksRead → ℕ → BlocksRead → Type 0
-Searched mid r len b = (o : Options) (bytes : List ℕ) → AreOptions o → IsReadOf o bytes r → IsLastCut o bytes r.asked (given_to r) → IsTold mid.held r.file bytes → HasFound o bytes (given_to r) len b
+Searched mid r len b = (o : Dialect) (bytes : List ℕ) → IsDialect o → IsReadOf o bytes r → IsLastCut o bytes r.asked (given_to r) → IsTold mid.held r.file bytes → HasFound o bytes (given_to r) len b
 
 -- no more rows
-pub no_more : (o : Options) (columns : ℕ) (before mid : Outside) (old r : RowsRead) (chunk len : ℕ) (b : BlocksRead) → IsPassing o columns before old chunk mid r → Searched mid r.blocks len b → len ≡ 0
+pub no_more : (o : Dialect) (columns : ℕ) (before mid : Outside) (old r : RowsRead) (chunk len : ℕ) (b : BlocksRead) → IsPassing o columns before old chunk mid r → Searched mid r.blocks len b → len ≡ 0
     → (s : CsvScan) (bytes : List ℕ) (rows : ℕ) → IsToldFile o columns s bytes rows before old → HaveRows s (bytes ∷ []) rows × IsUtf8 (slice_range bytes (given_to old.blocks) (length bytes))
 no_more o columns before mid old r chunk len b p found none s bytes rows told =
     let now = p.told s bytes rows told in
@@ -42,8 +42,8 @@ no_more o columns before mid old r chunk len b p found none s bytes rows told =
     by_before end (inr all) = all.1
 
 -- a fault of a search for a block
-pub block_fault_rows : (o : Options) (columns : ℕ) (before mid : Outside) (old r : RowsRead) (chunk : ℕ) (fault : Fault) → IsPassing o columns before old chunk mid r
-    → ((o : Options) (bytes : List ℕ) → AreOptions o → IsReadOf o bytes r.blocks → IsLastCut o bytes r.blocks.asked (given_to r.blocks) → IsTold mid.held r.blocks.file bytes → IsBlockFault o r.blocks.source bytes fault)
+pub block_fault_rows : (o : Dialect) (columns : ℕ) (before mid : Outside) (old r : RowsRead) (chunk : ℕ) (fault : Fault) → IsPassing o columns before old chunk mid r
+    → ((o : Dialect) (bytes : List ℕ) → IsDialect o → IsReadOf o bytes r.blocks → IsLastCut o bytes r.blocks.asked (given_to r.blocks) → IsTold mid.held r.blocks.file bytes → IsBlockFault o r.blocks.source bytes fault)
     → (s : CsvScan) (bytes : List ℕ) (rows : ℕ) → IsToldFile o columns s bytes rows before old → IsRowsFault s.options old.blocks.source bytes fault
 block_fault_rows o columns before mid old r chunk fault p is s bytes rows told =
     let now = p.told s bytes rows told in
@@ -51,7 +51,7 @@ block_fault_rows o columns before mid old r chunk fault p is s bytes rows told =
     (is s.options bytes told.fit now.0.read now.0.cut (told_now o columns before mid old r chunk bytes p told.told))
 
 -- a record that is not UTF-8 in a block is one of the file
-more_none : (o : Options) (text : List ℕ) (records : List CsvRecord) (block more bytes : List ℕ) (given : ℕ) → bytes ≡ take given bytes ++ (block ++ more)
+more_none : (o : Dialect) (text : List ℕ) (records : List CsvRecord) (block more bytes : List ℕ) (given : ℕ) → bytes ≡ take given bytes ++ (block ++ more)
     → AreWholeRecords o text records ⊎ (given + length block ≡ length bytes) → given ≤ length bytes → AreWholeRecords o text records ⊎ (more ≡ [])
 more_none o text records block more bytes given split (inl whole) within = inl whole
 more_none o text records block more bytes given split (inr end) within =
@@ -62,7 +62,7 @@ more_none o text records block more bytes given split (inr end) within =
     none [] size = refl
     none (b ∷ x) size = absurd (omega arith)
 
-bad_in_file : (s : CsvScan) (bytes block : List ℕ) (given rows place : ℕ) (head : Bool) (records : List CsvRecord) → AreOptions s.options → HasRowsBeforePlace s bytes given rows head
+bad_in_file : (s : CsvScan) (bytes block : List ℕ) (given rows place : ℕ) (head : Bool) (records : List CsvRecord) → IsDialect s.options → HasRowsBeforePlace s bytes given rows head
     → slice_range bytes given (given + length block) ≡ block → (given ≡ 0 → mark_len block ≡ mark_len bytes) → given ≤ length bytes
     → AreWholeRecords s.options (text_at given block) records ⊎ (given + length block ≡ length bytes)
     → HasRecordNotUtf8 s.options (given + mark_at given block) (text_at given block) place → HasRecordNotUtf8 s.options (mark_len bytes) (unmarked bytes) place
@@ -87,7 +87,7 @@ bad_in_file s bytes block (suc given) rows place head records fit (inr h) held m
     (bad_behind s.options (mark_len bytes) (at + 0) place h.front (block ++ more) h.records fit
     (bad_in_text s.options (at + 0) place block more records fit bad (more_none s.options block records block more bytes at all ends within)) h.whole next)
 
-text_fault_of_file : (s : CsvScan) (bytes block : List ℕ) (given rows source number : ℕ) (head : Bool) (records : List CsvRecord) (fault : Fault) → source ≡ number → AreOptions s.options
+text_fault_of_file : (s : CsvScan) (bytes block : List ℕ) (given rows source number : ℕ) (head : Bool) (records : List CsvRecord) (fault : Fault) → source ≡ number → IsDialect s.options
     → HasRowsBeforePlace s bytes given rows head → slice_range bytes given (given + length block) ≡ block → (given ≡ 0 → mark_len block ≡ mark_len bytes) → given ≤ length bytes
     → AreWholeRecords s.options (text_at given block) records ⊎ (given + length block ≡ length bytes)
     → IsTextFault s.options source (given + mark_at given block) (text_at given block) fault → IsRowsFault s.options number bytes fault
@@ -96,7 +96,7 @@ text_fault_of_file s bytes block given rows source number head records (faults.C
     (is.0 ∙ same, bad_in_file s bytes block given rows place head records fit before held mark within ends is.1)
 text_fault_of_file s bytes block given rows source number head records fault same fit before held mark within ends is = absurd is
 
-pub front_fault_rows : (o : Options) (columns : ℕ) (before mid : Outside) (old r : RowsRead) (chunk len : ℕ) (b : BlocksRead) (fault : Fault) → IsPassing o columns before old chunk mid r
+pub front_fault_rows : (o : Dialect) (columns : ℕ) (before mid : Outside) (old r : RowsRead) (chunk len : ℕ) (b : BlocksRead) (fault : Fault) → IsPassing o columns before old chunk mid r
     → IsSameFile r.blocks b → len ≤ length b.held → Searched mid r.blocks len b → 0 < len
     → ((records : List CsvRecord) → Records o (text_at (given_to b) (take len b.held)) records
     → IsTextFault o b.source (given_to b + mark_at (given_to b) (take len b.held)) (text_at (given_to b) (take len b.held)) fault)
@@ -106,11 +106,11 @@ front_fault_rows o columns before mid old r chunk len b fault p same within foun
     let f = found s.options bytes told.fit now.0.read now.0.cut (told_now o columns before mid old r chunk bytes p told.told) in
     let block = block_in s bytes rows len r b now.0 same within some f in
     let part : List ℕ = take len b.held in
-    let split : Records o (text_at (given_to b) part) block.block.records = subst (λ (q : Options). Records q (text_at (given_to b) part) block.block.records) told.options block.block.split in
+    let split : Records o (text_at (given_to b) part) block.block.records = subst (λ (q : Dialect). Records q (text_at (given_to b) part) block.block.records) told.options block.block.split in
     let inside : given_to b ≤ length bytes = let asked = f.read.size_is in let g = f.cut in by_cut (given_to r.blocks) f.cut (sym same.given) in
     text_fault_of_file s bytes part (given_to b) rows b.source old.blocks.source r.awaits_header block.block.records fault (same.source ∙ p.same.source) told.fit block.before block.block.held block.block.mark
     inside block.block.ends
-    (subst (λ (q : Options). IsTextFault q b.source (given_to b + mark_at (given_to b) part) (text_at (given_to b) part) fault) (sym told.options) (is block.block.records split))
+    (subst (λ (q : Dialect). IsTextFault q b.source (given_to b + mark_at (given_to b) part) (text_at (given_to b) part) fault) (sym told.options) (is block.block.records split))
   where
     by_cut : (given : ℕ) → IsLastCut s.options bytes b.asked (given + len) → given ≡ given_to b → given_to b ≤ length bytes
     by_cut given (inl cut) place = omega (arith, cut.0, place, given_below b)
@@ -156,12 +156,12 @@ text_parts block given len within =
     ∙ ap (λ (x : List ℕ). x ++ drop n (text_at given block)) (sym (text-taken given n block) ∙ ap (λ (k : ℕ). text_at given (take k block)) same)
     ∙ ap (λ (x : List ℕ). text_at given (take len block) ++ x) (ap (drop n) (text-mark given block) ∙ drop-drop n mark block ∙ ap (λ (k : ℕ). drop k block) same)
 
-records_none : (o : Options) (text : List ℕ) (records : List CsvRecord) → text ≡ [] → Records o text records → records ≡ []
+records_none : (o : Dialect) (text : List ℕ) (records : List CsvRecord) → text ≡ [] → Records o text records → records ≡ []
 records_none o text [] none are = refl
 records_none o text (r ∷ records) none are = absurd (are.0 none)
 
 -- the front of a block with rows is whole records
-front_whole : (o : Options) (columns : ℕ) (head : Bool) (given : ℕ) (block : List ℕ) (records : List CsvRecord) (front : BlockFront) → IsFrontOf o columns head given block records front → 0 < front.rows
+front_whole : (o : Dialect) (columns : ℕ) (head : Bool) (given : ℕ) (block : List ℕ) (records : List CsvRecord) (front : BlockFront) → IsFrontOf o columns head given block records front → 0 < front.rows
     → AreWholeRecords o (text_at given (take front.len block)) (header_front head records)
 front_whole o columns head given block records front f some = by_whole f.whole
   where
@@ -172,7 +172,7 @@ front_whole o columns head given block records front f some = by_whole f.whole
         let no_rows : front.rows ≡ 0 = f.rows_are ∙ ap (row_count columns) none in
         absurd (omega arith)
 
-before_stretch : (s : CsvScan) (columns : ℕ) (bytes block : List ℕ) (given rows : ℕ) (head : Bool) (records : List CsvRecord) (front : BlockFront) → AreOptions s.options → length s.scan.fields ≡ columns
+before_stretch : (s : CsvScan) (columns : ℕ) (bytes block : List ℕ) (given rows : ℕ) (head : Bool) (records : List CsvRecord) (front : BlockFront) → IsDialect s.options → length s.scan.fields ≡ columns
     → HasRowsBeforePlace s bytes given rows head → slice_range bytes given (given + length block) ≡ block → (given ≡ 0 → mark_len block ≡ mark_len bytes) → front.len ≤ length block
     → IsFrontOf s.options columns head given block records front → 0 < front.rows → HasRowsUpTo s bytes (given + front.len) rows false
 before_stretch s columns bytes block given rows head records front fit columns_are before held mark within f some =
@@ -193,7 +193,7 @@ before_stretch s columns bytes block given rows head records front fit columns_a
         let here : mark_len block ≤ front.len = subst (λ (n : ℕ). mark_at n block ≤ front.len) start f.mark_within in
         front_mark block 0 front.len here ∙ mark start
 
-stretch_ends : (o : Options) (columns : ℕ) (bytes block : List ℕ) (given : ℕ) (head : Bool) (records : List CsvRecord) (front : BlockFront) → AreOptions o → front.len ≤ length block
+stretch_ends : (o : Dialect) (columns : ℕ) (bytes block : List ℕ) (given : ℕ) (head : Bool) (records : List CsvRecord) (front : BlockFront) → IsDialect o → front.len ≤ length block
     → IsFrontOf o columns head given block records front → 0 < front.rows → AreWholeRecords o (text_at given block) records ⊎ (given + length block ≡ length bytes)
     → AreWholeRecords o (drop front.len block) (behind_header head records) ⊎ (given + front.len + length (drop front.len block) ≡ length bytes)
 stretch_ends o columns bytes block given head records front fit within f some (inl whole) =
@@ -204,7 +204,7 @@ stretch_ends o columns bytes block given head records front fit within f some (i
     inl (subst (λ (x : List CsvRecord). AreWholeRecords o (drop front.len block) x) same left.2)
 stretch_ends o columns bytes block given head records front fit within f some (inr end) = inr (omega (arith, length-drop front.len block))
 
-pub gives_rows : (o : Options) (columns : ℕ) (before mid after : Outside) (old r : RowsRead) (chunk len : ℕ) (b : BlocksRead) (front : BlockFront) (stretch : RowStretch) (new : RowsRead)
+pub gives_rows : (o : Dialect) (columns : ℕ) (before mid after : Outside) (old r : RowsRead) (chunk len : ℕ) (b : BlocksRead) (front : BlockFront) (stretch : RowStretch) (new : RowsRead)
     → IsPassing o columns before old chunk mid r → IsOpenFile after b → IsSameFile r.blocks b → len ≤ length b.held → Searched mid r.blocks len b → 0 < len
     → ((records : List CsvRecord) → Records o (text_at (given_to b) (take len b.held)) records → IsFrontOf o columns r.awaits_header (given_to b) (take len b.held) records front)
     → front.len ≤ len → 0 < front.rows
@@ -218,9 +218,9 @@ gives_rows o columns before mid after old r chunk len b front stretch new p open
     let f = found s.options bytes told.fit now.0.read now.0.cut (told_now o columns before mid old r chunk bytes p told.told) in
     let block = block_in s bytes rows len r b now.0 same within more f in
     let part : List ℕ = take len b.held in
-    let split : Records o (text_at (given_to b) part) block.block.records = subst (λ (q : Options). Records q (text_at (given_to b) part) block.block.records) told.options block.block.split in
+    let split : Records o (text_at (given_to b) part) block.block.records = subst (λ (q : Dialect). Records q (text_at (given_to b) part) block.block.records) told.options block.block.split in
     let fr : IsFrontOf s.options columns r.awaits_header (given_to b) part block.block.records front =
-    subst (λ (q : Options). IsFrontOf q columns r.awaits_header (given_to b) part block.block.records front) (sym told.options) (is_front block.block.records split) in
+    subst (λ (q : Dialect). IsFrontOf q columns r.awaits_header (given_to b) part block.block.records front) (sym told.options) (is_front block.block.records split) in
     let size : length part ≡ len = block.size in
     let front_in : front.len ≤ length part = omega arith in
     let cut : IsLastCut s.options bytes b.asked (given_to b + len) = subst (λ (n : ℕ). IsLastCut s.options bytes b.asked (n + len)) (sym same.given) f.cut in

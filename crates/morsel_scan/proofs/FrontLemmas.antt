@@ -9,7 +9,7 @@ use lib.Utf8.{encode}
 use Rattle.morsel_meaning.specs.declared.fault.Fault.{Fault}
 use Rattle.morsel_meaning.specs.declared.fault.Fault.TheVariants as faults
 use Rattle.morsel_meaning.specs.declared.fault.ComputeKind.TheVariants as kinds
-use Rattle.morsel_grammar.specs.Options.{Options, AreOptions}
+use Rattle.morsel_grammar.specs.Dialect.{Dialect, IsDialect}
 use Rattle.morsel_grammar.specs.Grammar.{CsvRecord, IsRecord, Records}
 use Rattle.morsel_grammar.specs.Rows.{mark_len, unmarked, behind_header}
 use Rattle.morsel_grammar.specs.GrammarRows.{AreWholeRecords, awaits_header_after}
@@ -23,7 +23,7 @@ use Rattle.morsel_scan.specs.RowBlocks.{HasRecordNotUtf8, IsTextFault}
 use Rattle.morsel_scan.specs.BlockRows.{mark_at, header_front, IsHeaderPart, IsFrontOf}
 
 -- what comes after whole records of whole records is whole records
-pub whole_behind : (o : Options) (front rest : List ℕ) (records all : List CsvRecord) → AreOptions o → AreWholeRecords o front records → AreWholeRecords o (front ++ rest) all
+pub whole_behind : (o : Dialect) (front rest : List ℕ) (records all : List CsvRecord) → IsDialect o → AreWholeRecords o front records → AreWholeRecords o (front ++ rest) all
     → (left : List CsvRecord) × (all ≡ records ++ left) × AreWholeRecords o rest left
 whole_behind o front rest [] all fit none whole = (all, refl, subst (λ (x : List ℕ). AreWholeRecords o (x ++ rest) all) none whole)
 whole_behind o front rest (r ∷ records) [] fit (line, after, front_is, is, later) whole =
@@ -37,7 +37,7 @@ whole_behind o front rest (r ∷ records) (q ∷ all) fit (line, after, front_is
     (more.0, ap (λ (x : CsvRecord). x ∷ all) (sym same.0) ∙ ap (λ (x : List CsvRecord). r ∷ x) more.1, more.2)
 
 -- a record of a front of whole records is one of the text
-record_goes_on : (o : Options) (r : CsvRecord) (text rest more : List ℕ) (records : List CsvRecord) → AreOptions o → IsRecord o r text rest → text ≢ [] → AreWholeRecords o text records
+record_goes_on : (o : Dialect) (r : CsvRecord) (text rest more : List ℕ) (records : List CsvRecord) → IsDialect o → IsRecord o r text rest → text ≢ [] → AreWholeRecords o text records
     → IsRecord o r (text ++ more) (rest ++ more)
 record_goes_on o r text rest more [] fit is some none = absurd (some none)
 record_goes_on o r text rest more (q ∷ records) fit is some (line, after, text_is, other, later) =
@@ -51,7 +51,7 @@ not_nothing [] rest bad = λ none. absurd (bad IsUtf8-nil)
 not_nothing (b ∷ bytes) rest bad = λ none. cc
 
 -- a record that is not UTF-8 in the front of a text
-pub bad_in_text : (o : Options) (at place : ℕ) (part more : List ℕ) (records : List CsvRecord) → AreOptions o → HasRecordNotUtf8 o at part place
+pub bad_in_text : (o : Dialect) (at place : ℕ) (part more : List ℕ) (records : List CsvRecord) → IsDialect o → HasRecordNotUtf8 o at part place
     → AreWholeRecords o part records ⊎ (more ≡ []) → HasRecordNotUtf8 o at (part ++ more) place
 bad_in_text o at place part more records fit bad (inr none) =
     subst (λ (x : List ℕ). HasRecordNotUtf8 o at x place) (sym (ap (λ (x : List ℕ). part ++ x) none ∙ append-nil part)) bad
@@ -72,7 +72,7 @@ bad_in_text o at place part more records fit bad (inl whole) =
     }
 
 -- a record that is not UTF-8 after whole records of a text
-pub bad_behind : (o : Options) (at next place : ℕ) (part more : List ℕ) (records : List CsvRecord) → AreOptions o → HasRecordNotUtf8 o next more place
+pub bad_behind : (o : Dialect) (at next place : ℕ) (part more : List ℕ) (records : List CsvRecord) → IsDialect o → HasRecordNotUtf8 o next more place
     → AreWholeRecords o part records → next ≡ at + length part → HasRecordNotUtf8 o at (part ++ more) place
 bad_behind o at next place part more records fit bad whole next_is = record {
   front = part ++ bad.front;
@@ -87,7 +87,7 @@ bad_behind o at next place part more records fit bad whole next_is = record {
   not_utf8 = bad.not_utf8;
 }
 
-nothing_bad : (o : Options) (at place : ℕ) → HasRecordNotUtf8 o at [] place → ⊥
+nothing_bad : (o : Dialect) (at place : ℕ) → HasRecordNotUtf8 o at [] place → ⊥
 nothing_bad o at place bad =
     not_nothing bad.bytes bad.rest bad.not_utf8
     (none (bad.bytes ++ bad.rest) (let size : length (bad.front ++ (bad.bytes ++ bad.rest)) ≡ 0 = ap length (sym bad.split) in omega (arith, length-append bad.front (bad.bytes ++ bad.rest))))
@@ -97,18 +97,18 @@ nothing_bad o at place bad =
     none (b ∷ x) size = absurd (omega arith)
 
 -- a fault of a part is one of the text
-fault_with : (o : Options) (source at next : ℕ) (part text : List ℕ) (fault : Fault) → ((place : ℕ) → HasRecordNotUtf8 o next part place → HasRecordNotUtf8 o at text place)
+fault_with : (o : Dialect) (source at next : ℕ) (part text : List ℕ) (fault : Fault) → ((place : ℕ) → HasRecordNotUtf8 o next part place → HasRecordNotUtf8 o at text place)
     → IsTextFault o source next part fault → IsTextFault o source at text fault
 fault_with o source at next part text faults.OutOfMemory has is = tt
 fault_with o source at next part text (faults.ComputeError kinds.NotUtf8 number place) has is = (is.0, has place is.1)
 fault_with o source at next part text fault has is = absurd is
 
-part_whole : (o : Options) (head : Bool) (text : List ℕ) (records : List CsvRecord) (len : ℕ) → len ≤ length text
+part_whole : (o : Dialect) (head : Bool) (text : List ℕ) (records : List CsvRecord) (len : ℕ) → len ≤ length text
     → AreWholeRecords o (take len text) (header_front head records) ⊎ (length text ≤ len) → AreWholeRecords o (take len text) (header_front head records) ⊎ (drop len text ≡ [])
 part_whole o head text records len within (inl whole) = inl whole
 part_whole o head text records len within (inr over) = inr (drop_all len text over)
 
-pub front_fault : (o : Options) (source at : ℕ) (head : Bool) (text : List ℕ) (records : List CsvRecord) (end : HeadEnd) (fault : Fault) → AreOptions o → end.len ≤ length text
+pub front_fault : (o : Dialect) (source at : ℕ) (head : Bool) (text : List ℕ) (records : List CsvRecord) (end : HeadEnd) (fault : Fault) → IsDialect o → end.len ≤ length text
     → IsHeaderPart o head text records end → IsTextFault o source at (take end.len text) fault → IsTextFault o source at text fault
 front_fault o source at head text records end fault fit within part is =
     fault_with o source at at (take end.len text) text fault
@@ -116,7 +116,7 @@ front_fault o source at head text records end fault fit within part is =
     (bad_in_text o at place (take end.len text) (drop end.len text) (header_front head records) fit bad (part_whole o head text records end.len within part.whole)))
     is
 
-pub rest_fault : (o : Options) (source at next : ℕ) (head : Bool) (text : List ℕ) (records : List CsvRecord) (end : HeadEnd) (fault : Fault) → AreOptions o → end.len ≤ length text
+pub rest_fault : (o : Dialect) (source at next : ℕ) (head : Bool) (text : List ℕ) (records : List CsvRecord) (end : HeadEnd) (fault : Fault) → IsDialect o → end.len ≤ length text
     → next ≡ at + end.len → IsHeaderPart o head text records end → IsTextFault o source next (drop end.len text) fault → IsTextFault o source at text fault
 rest_fault o source at next head text records end fault fit within next_is part is =
     fault_with o source at next (drop end.len text) text fault
@@ -207,7 +207,7 @@ text-taken at n bytes =
     text-mark at part ∙ ap (λ (k : ℕ). drop k part) (mark_at-taken at n bytes) ∙ take_drop (mark_at at bytes) n bytes ∙ ap (take n) (sym (text-mark at bytes))
 
 -- the front that was found
-pub is_front : (o : Options) (columns : ℕ) (head : Bool) (at mark : ℕ) (block text : List ℕ) (records : List CsvRecord) (end : HeadEnd) (rows : ℕ) → mark ≡ mark_at at block
+pub is_front : (o : Dialect) (columns : ℕ) (head : Bool) (at mark : ℕ) (block text : List ℕ) (records : List CsvRecord) (end : HeadEnd) (rows : ℕ) → mark ≡ mark_at at block
     → text ≡ drop mark block → end.len ≤ length text → mark ≤ length block → IsHeaderPart o head text records end → IsUtf8 (take end.len text)
     → ((records : List CsvRecord) → Records o (drop (mark + end.len) block) records → rows ≡ row_count columns records)
     → (rows ≡ 0 → IsUtf8 (drop (mark + end.len) block))
@@ -238,18 +238,18 @@ is_front o columns head at mark block text records end rows mark_is text_is with
     by_whole len same (inr over) = inr (omega (arith, ap length text_is, length-drop mark block))
 
 -- the same of a block, given its parts
-block_records : (o : Options) (at mark : ℕ) (block text : List ℕ) (records : List CsvRecord) → mark ≡ mark_at at block → text ≡ drop mark block
+block_records : (o : Dialect) (at mark : ℕ) (block text : List ℕ) (records : List CsvRecord) → mark ≡ mark_at at block → text ≡ drop mark block
     → Records o (text_at at block) records → Records o text records
 block_records o at mark block text records mark_is text_is are =
     subst (λ (x : List ℕ). Records o x records) (text-mark at block ∙ ap (λ (k : ℕ). drop k block) (sym mark_is) ∙ sym text_is) are
 
-fault_of_block : (o : Options) (source at mark : ℕ) (block text : List ℕ) (fault : Fault) → mark ≡ mark_at at block → text ≡ drop mark block
+fault_of_block : (o : Dialect) (source at mark : ℕ) (block text : List ℕ) (fault : Fault) → mark ≡ mark_at at block → text ≡ drop mark block
     → IsTextFault o source (at + mark) text fault → IsTextFault o source (at + mark_at at block) (text_at at block) fault
 fault_of_block o source at mark block text fault mark_is text_is is =
     subst (λ (x : List ℕ). IsTextFault o source (at + mark_at at block) x fault) (text_is ∙ ap (λ (k : ℕ). drop k block) mark_is ∙ sym (text-mark at block))
     (subst (λ (k : ℕ). IsTextFault o source (at + k) text fault) mark_is is)
 
-pub front_refused : (o : Options) (source at mark : ℕ) (head : Bool) (block text part : List ℕ) (records : List CsvRecord) (end : HeadEnd) (fault : Fault) → AreOptions o
+pub front_refused : (o : Dialect) (source at mark : ℕ) (head : Bool) (block text part : List ℕ) (records : List CsvRecord) (end : HeadEnd) (fault : Fault) → IsDialect o
     → mark ≡ mark_at at block → text ≡ drop mark block → part ≡ take end.len text → end.len ≤ length text
     → ((records : List CsvRecord) → Records o text records → IsHeaderPart o head text records end) → Records o (text_at at block) records
     → IsTextFault o source (at + mark) part fault → IsTextFault o source (at + mark_at at block) (text_at at block) fault
@@ -258,7 +258,7 @@ front_refused o source at mark head block text part records end fault fit mark_i
     (front_fault o source (at + mark) head text records end fault fit within (is_part records (block_records o at mark block text records mark_is text_is are))
     (subst (λ (x : List ℕ). IsTextFault o source (at + mark) x fault) part_is is))
 
-pub rest_refused : (o : Options) (source at mark next : ℕ) (head : Bool) (block text part : List ℕ) (records : List CsvRecord) (end : HeadEnd) (fault : Fault) → AreOptions o
+pub rest_refused : (o : Dialect) (source at mark next : ℕ) (head : Bool) (block text part : List ℕ) (records : List CsvRecord) (end : HeadEnd) (fault : Fault) → IsDialect o
     → mark ≡ mark_at at block → text ≡ drop mark block → part ≡ drop (mark + end.len) block → end.len ≤ length text → next ≡ at + (mark + end.len)
     → ((records : List CsvRecord) → Records o text records → IsHeaderPart o head text records end) → Records o (text_at at block) records
     → IsTextFault o source next part fault → IsTextFault o source (at + mark_at at block) (text_at at block) fault
@@ -267,7 +267,7 @@ rest_refused o source at mark next head block text part records end fault fit ma
     (rest_fault o source (at + mark) next head text records end fault fit within (omega arith) (is_part records (block_records o at mark block text records mark_is text_is are))
     (subst (λ (x : List ℕ). IsTextFault o source next x fault) (part_is ∙ sym (drop-drop end.len mark block) ∙ ap (drop end.len) (sym text_is)) is))
 
-pub front_found : (o : Options) (columns : ℕ) (head : Bool) (at mark : ℕ) (block text part rest : List ℕ) (records : List CsvRecord) (end : HeadEnd) (rows : ℕ) → mark ≡ mark_at at block
+pub front_found : (o : Dialect) (columns : ℕ) (head : Bool) (at mark : ℕ) (block text part rest : List ℕ) (records : List CsvRecord) (end : HeadEnd) (rows : ℕ) → mark ≡ mark_at at block
     → text ≡ drop mark block → part ≡ take end.len text → rest ≡ drop (mark + end.len) block → end.len ≤ length text → mark ≤ length block
     → ((records : List CsvRecord) → Records o text records → IsHeaderPart o head text records end) → Records o (text_at at block) records → IsUtf8 part
     → ((records : List CsvRecord) → Records o rest records → rows ≡ row_count columns records)

@@ -6,7 +6,7 @@ use Rattle.std.specs.Prelude.{◌⊎◌, Option, Some, None, Result, Ok, Err, Li
 use Rattle.std.specs.List.{flat_map}
 use Rattle.morsel_meaning.specs.declared.fault.Fault.{Fault}
 use Rattle.morsel_meaning.specs.declared.fault.Fault.TheVariants as faults
-use Rattle.morsel_grammar.specs.Options.{Options, AreOptions}
+use Rattle.morsel_grammar.specs.Dialect.{Dialect, IsDialect}
 use Rattle.morsel_grammar.specs.Machine.{AtOpening, joined_place, first_state, cut_after, last_end, RefusesRecord, RefusesEnd}
 use Rattle.morsel_outside.specs.Outside.{Outside, with_more}
 use Rattle.morsel_outside.specs.Calls.{Holds}
@@ -31,7 +31,7 @@ next_reads-more file size chunk from at len (ReadingRange number place some ∷ 
     (are.0, are.1, are.2, next_reads-more file size chunk (from + some) at len reads are.3 last)
 next_reads-more file size chunk from at len (action ∷ reads) are last = absurd are
 
-in_need-more : (o : Options) (bytes : List ℕ) (given file at len : ℕ) (reads : List Action) → ReadWithoutRecord o bytes given reads → HoldsNoRecord o bytes given at
+in_need-more : (o : Dialect) (bytes : List ℕ) (given file at len : ℕ) (reads : List Action) → ReadWithoutRecord o bytes given reads → HoldsNoRecord o bytes given at
     → ReadWithoutRecord o bytes given (reads ++ ReadingRange file at len ∷ [])
 in_need-more o bytes given file at len [] all here = (here, tt)
 in_need-more o bytes given file at len (ReadingRange number place some ∷ reads) all here = (all.0, in_need-more o bytes given file at len reads all.1 here)
@@ -51,11 +51,11 @@ one_keeps_sizes : (before after : Outside) (file at len : ℕ) → Does before (
 one_keeps_sizes before after file at len does = does.sizes ∙ append-nil before.sizes
 
 -- a place is the last end of the bytes of a file that were asked at a time: at this one, unless all were; or it is the end of the file
-abbrev pub IsCutBefore : Options → List ℕ → ℕ → ℕ → Type 0
+abbrev pub IsCutBefore : Dialect → List ℕ → ℕ → ℕ → Type 0
 IsCutBefore o bytes asked at = ((then : ℕ) × (then ≤ length bytes) × (at ≡ last_cut o (take then bytes)) × (asked < length bytes → then ≡ asked))
     ⊎ ((asked ≡ length bytes) × (at ≡ length bytes))
 
-cut_before : (o : Options) (bytes : List ℕ) (asked at : ℕ) → IsLastCut o bytes asked at → IsCutBefore o bytes asked at
+cut_before : (o : Dialect) (bytes : List ℕ) (asked at : ℕ) → IsLastCut o bytes asked at → IsCutBefore o bytes asked at
 cut_before o bytes asked at (inl cut) = inl (asked, omega (arith, cut.0), cut.1, λ more. refl)
 cut_before o bytes asked at (inr end) = inr end
 
@@ -64,7 +64,7 @@ pub record IsGoingOn (before : Outside) (old : BlocksRead) (chunk : ℕ) (now : 
   pub is_open : IsOpenFile now b
   pub same : IsSameFile old b
   pub reads : ReadsChunksOn before old chunk now b.asked
-  pub told : (o : Options) (bytes : List ℕ) → AreOptions o → IsReadOf o bytes old → IsLastCut o bytes old.asked (given_to old) → IsTold before.held old.file bytes
+  pub told : (o : Dialect) (bytes : List ℕ) → IsDialect o → IsReadOf o bytes old → IsLastCut o bytes old.asked (given_to old) → IsTold before.held old.file bytes
       → IsReadOf o bytes b × IsCutBefore o bytes b.asked (given_to b)
 
 pub goes_from : (before : Outside) (old : BlocksRead) (chunk : ℕ) → IsOpenFile before old → IsGoingOn before old chunk before old
@@ -81,12 +81,12 @@ piece_of None file at bytes piece told holds = absurd told
 piece_of (Some files) file at bytes piece told holds = ap (λ (x : List ℕ). slice_range x at (at + length piece)) (sym told) ∙ holds
 
 -- at a cut before the end of the file
-cut_before_end : (o : Options) (bytes : List ℕ) (asked at : ℕ) → asked < length bytes → IsCutBefore o bytes asked at → at ≡ last_cut o (take asked bytes)
+cut_before_end : (o : Dialect) (bytes : List ℕ) (asked at : ℕ) → asked < length bytes → IsCutBefore o bytes asked at → at ≡ last_cut o (take asked bytes)
 cut_before_end o bytes asked at more (inl (then, within, cut, is)) = cut ∙ ap (λ (n : ℕ). last_cut o (take n bytes)) (is more)
 cut_before_end o bytes asked at more (inr end) = absurd (omega (arith, end.0))
 
-in_need_at : (before mid : Outside) (old b : BlocksRead) (chunk : ℕ) (o : Options) (bytes : List ℕ) → IsGoingOn before old chunk mid b → b.asked < b.size
-    → AreOptions o → IsReadOf o bytes old → IsLastCut o bytes old.asked (given_to old) → IsTold before.held old.file bytes → HoldsNoRecord o bytes (given_to old) b.asked
+in_need_at : (before mid : Outside) (old b : BlocksRead) (chunk : ℕ) (o : Dialect) (bytes : List ℕ) → IsGoingOn before old chunk mid b → b.asked < b.size
+    → IsDialect o → IsReadOf o bytes old → IsLastCut o bytes old.asked (given_to old) → IsTold before.held old.file bytes → HoldsNoRecord o bytes (given_to old) b.asked
 in_need_at before mid old b chunk o bytes g more fit is_read cut told =
     let now = g.told o bytes fit is_read cut told in
     let inside : b.asked < length bytes = omega (arith, now.0.size_is) in
@@ -112,7 +112,7 @@ reads_more_on before mid after old b chunk piece g more read =
 pub given-with_chunk : (b : BlocksRead) (piece : List ℕ) → length b.held ≤ b.asked → given_to (with_chunk b piece) ≡ given_to b
 given-with_chunk b piece within = omega (arith, length-append b.held piece)
 
-pub read-with_chunk : (o : Options) (bytes piece : List ℕ) (b : BlocksRead) → IsReadOf o bytes b → length b.held ≤ b.asked → b.asked + length piece ≤ length bytes
+pub read-with_chunk : (o : Dialect) (bytes piece : List ℕ) (b : BlocksRead) → IsReadOf o bytes b → length b.held ≤ b.asked → b.asked + length piece ≤ length bytes
     → take (b.asked + length piece) bytes ≡ take b.asked bytes ++ piece → IsReadOf o bytes (with_chunk b piece)
 read-with_chunk o bytes piece b read within inside next =
     let came : List ℕ = take b.asked bytes in
@@ -128,7 +128,7 @@ read-with_chunk o bytes piece b read within inside next =
     }
 
 -- the end in the chunk, by the bytes that came
-end-with_chunk : (o : Options) (bytes piece : List ℕ) (b : BlocksRead) → IsReadOf o bytes b
+end-with_chunk : (o : Dialect) (bytes piece : List ℕ) (b : BlocksRead) → IsReadOf o bytes b
     → end_with_chunk b piece ≡ joined_place 0 (length b.held) (chunk_end o (take b.asked bytes) piece)
 end-with_chunk o bytes piece b read = ap (λ (c : Cutting). joined_place 0 (length b.held) (last_end c.options c.state piece)) read.fed
 
@@ -146,14 +146,14 @@ open-with_chunk mid after b chunk piece was read =
     }
 
 -- what is told of the file and of the chunk
-record IsToldOn (o : Options) (bytes : List ℕ) (b : BlocksRead) (piece : List ℕ) : Type 0 where
+record IsToldOn (o : Dialect) (bytes : List ℕ) (b : BlocksRead) (piece : List ℕ) : Type 0 where
   read : IsReadOf o bytes b
   cut : given_to b ≡ last_cut o (take b.asked bytes)
   next : take (b.asked + length piece) bytes ≡ take b.asked bytes ++ piece
   inside : b.asked + length piece ≤ length bytes
 
-told_on : (before mid after : Outside) (old b : BlocksRead) (chunk : ℕ) (piece : List ℕ) (o : Options) (bytes : List ℕ) → IsGoingOn before old chunk mid b → b.asked < b.size
-    → HasReadChunk mid b chunk piece after → AreOptions o → IsReadOf o bytes old → IsLastCut o bytes old.asked (given_to old) → IsTold before.held old.file bytes → IsToldOn o bytes b piece
+told_on : (before mid after : Outside) (old b : BlocksRead) (chunk : ℕ) (piece : List ℕ) (o : Dialect) (bytes : List ℕ) → IsGoingOn before old chunk mid b → b.asked < b.size
+    → HasReadChunk mid b chunk piece after → IsDialect o → IsReadOf o bytes old → IsLastCut o bytes old.asked (given_to old) → IsTold before.held old.file bytes → IsToldOn o bytes b piece
 told_on before mid after old b chunk piece o bytes g more read fit is_read cut told =
     let now = g.told o bytes fit is_read cut told in
     let inside : b.asked < length bytes = omega (arith, now.0.size_is) in
@@ -167,7 +167,7 @@ told_on before mid after old b chunk piece o bytes g more read fit is_read cut t
     }
 
 -- a cut stays one
-on_at : (o : Options) (bytes : List ℕ) (asked at then : ℕ) → then ≤ length bytes → at ≡ last_cut o (take then bytes) → asked ≤ length bytes
+on_at : (o : Dialect) (bytes : List ℕ) (asked at then : ℕ) → then ≤ length bytes → at ≡ last_cut o (take then bytes) → asked ≤ length bytes
     → (asked < length bytes → at ≡ last_cut o (take asked bytes)) → IsCutBefore o bytes asked at
 on_at o bytes asked at then within cut inside now = by_test (nat_lt asked (length bytes)) refl
   where
@@ -204,7 +204,7 @@ found_reads before mid after old b new chunk len g more (piece, read, new_is, is
     subst (λ (x : BlocksRead). ReadsChunksOn before old chunk after x.asked) (sym new_is) (reads_more_on before mid after old b chunk piece g more read)
 
 pub found_block : (before mid after : Outside) (old b new : BlocksRead) (chunk len : ℕ) → IsGoingOn before old chunk mid b → b.asked < b.size
-    → ReadsChunk mid b chunk (Ok len) after new → 0 < len → new.asked < new.size → (o : Options) (bytes : List ℕ) → AreOptions o → IsReadOf o bytes old → IsLastCut o bytes old.asked (given_to old)
+    → ReadsChunk mid b chunk (Ok len) after new → 0 < len → new.asked < new.size → (o : Dialect) (bytes : List ℕ) → IsDialect o → IsReadOf o bytes old → IsLastCut o bytes old.asked (given_to old)
     → IsTold before.held old.file bytes → HasFound o bytes (given_to old) len new
 found_block before mid after old b new chunk len g more (piece, read, new_is, is) some unread o bytes fit is_read cut told =
     let within : length b.held ≤ b.asked = g.is_open.held_within in
@@ -251,7 +251,7 @@ fault_reads before mid after old b new chunk (faults.Malformed number at) g more
 fault_reads before mid after old b new chunk fault g more none = absurd none
 
 pub fault_cause : (before mid after : Outside) (old b new : BlocksRead) (chunk : ℕ) (fault : Fault) → IsGoingOn before old chunk mid b → b.asked < b.size
-    → ReadsChunk mid b chunk (Err fault) after new → (o : Options) (bytes : List ℕ) → AreOptions o → IsReadOf o bytes old → IsLastCut o bytes old.asked (given_to old)
+    → ReadsChunk mid b chunk (Err fault) after new → (o : Dialect) (bytes : List ℕ) → IsDialect o → IsReadOf o bytes old → IsLastCut o bytes old.asked (given_to old)
     → IsTold before.held old.file bytes → IsBlockFault o old.source bytes fault
 fault_cause before mid after old b new chunk faults.OutOfMemory g more same o bytes fit is_read cut told = tt
 fault_cause before mid after old b new chunk (faults.ReadFault number) g more (is, len, last, fails) o bytes fit is_read cut told = is ∙ g.same.source
@@ -281,7 +281,7 @@ fault_cause before mid after old b new chunk (faults.Malformed number at) g more
 fault_cause before mid after old b new chunk fault g more none o bytes fit is_read cut told = absurd none
 
 -- the end of the file
-last_found : (o : Options) (bytes : List ℕ) (b : BlocksRead) (len : ℕ) → AreOptions o → IsReadOf o bytes b → b.asked ≡ length bytes → length b.held ≤ b.asked
+last_found : (o : Dialect) (bytes : List ℕ) (b : BlocksRead) (len : ℕ) → IsDialect o → IsReadOf o bytes b → b.asked ≡ length bytes → length b.held ≤ b.asked
     → len ≡ length b.held → (0 < len → RefusesEnd b.cutting.state → ⊥) → IsCutBefore o bytes b.asked (given_to b) → HasFound o bytes (given_to b) len b
 last_found o bytes b len fit read all within len_is may_end (inl (then, inside, cut, is)) =
     let came : take b.asked bytes ≡ bytes = let over : length bytes ≤ b.asked = omega arith in take_all b.asked bytes over in
@@ -301,7 +301,7 @@ last_found o bytes b len fit read all within len_is may_end (inr end) = record {
 }
 
 pub last_block : (before now : Outside) (old b : BlocksRead) (chunk : ℕ) (result : Result ℕ Fault) → IsGoingOn before old chunk now b → b.size ≤ b.asked → FindsLast b result
-    → (o : Options) (bytes : List ℕ) → AreOptions o → IsReadOf o bytes old → IsLastCut o bytes old.asked (given_to old) → IsTold before.held old.file bytes → FindsBlock o bytes old result b
+    → (o : Dialect) (bytes : List ℕ) → IsDialect o → IsReadOf o bytes old → IsLastCut o bytes old.asked (given_to old) → IsTold before.held old.file bytes → FindsBlock o bytes old result b
 last_block before now old b chunk (Ok len) g over last o bytes fit is_read cut told =
     let t = g.told o bytes fit is_read cut told in
     let all : b.asked ≡ length bytes = omega (arith, t.0.size_is, g.is_open.within) in

@@ -7,7 +7,7 @@ use Rattle.std.specs.List.{flat_map}
 use Rattle.morsel_meaning.specs.declared.fault.Fault.{Fault}
 use Rattle.morsel_meaning.specs.declared.fault.Fault.TheVariants as faults
 use Rattle.morsel_meaning.specs.declared.fault.ComputeKind.TheVariants as kinds
-use Rattle.morsel_grammar.specs.Options.{Options, AreOptions}
+use Rattle.morsel_grammar.specs.Dialect.{Dialect, IsDialect}
 use Rattle.morsel_grammar.specs.Grammar.{CsvRecord, IsRecord, Records}
 use Rattle.morsel_grammar.specs.Rows.{mark_len, unmarked, behind_header}
 use Rattle.morsel_grammar.specs.GrammarRows.{AreWholeRecords, awaits_header_after}
@@ -59,14 +59,14 @@ opens_none file size chunk from to (ReadingRange number place some ∷ reads) ar
 opens_none file size chunk from to (action ∷ reads) are = absurd are
 
 -- the file of which rows are searched, and what was passed so far
-pub record IsPassing (o : Options) (columns : ℕ) (before : Outside) (old : RowsRead) (chunk : ℕ) (now : Outside) (r : RowsRead) : Type 0 where
+pub record IsPassing (o : Dialect) (columns : ℕ) (before : Outside) (old : RowsRead) (chunk : ℕ) (now : Outside) (r : RowsRead) : Type 0 where
   pub is_open : IsOpenFile now r.blocks
   pub same : IsLaterIn old.blocks r.blocks
   pub reads : ReadsOnForRows o columns before old chunk now r.blocks.asked
   pub told : (s : CsvScan) (bytes : List ℕ) (rows : ℕ) → IsToldFile o columns s bytes rows before old
       → HasRowsGiven s bytes rows r × IsUtf8 (slice_range bytes (given_to old.blocks) (given_to r.blocks))
 
-pub passes_from : (o : Options) (columns : ℕ) (before : Outside) (old : RowsRead) (chunk : ℕ) → IsOpenFile before old.blocks → IsPassing o columns before old chunk before old
+pub passes_from : (o : Dialect) (columns : ℕ) (before : Outside) (old : RowsRead) (chunk : ℕ) → IsOpenFile before old.blocks → IsPassing o columns before old chunk before old
 passes_from o columns before old chunk opened = record {
   is_open = opened;
   same = record { file = refl; source = refl; size = refl; given = omega arith };
@@ -77,7 +77,7 @@ passes_from o columns before old chunk opened = record {
 }
 
 -- what is told before is told at this moment
-pub told_now : (o : Options) (columns : ℕ) (before now : Outside) (old r : RowsRead) (chunk : ℕ) (bytes : List ℕ) → IsPassing o columns before old chunk now r → IsTold before.held old.blocks.file bytes
+pub told_now : (o : Dialect) (columns : ℕ) (before now : Outside) (old r : RowsRead) (chunk : ℕ) (bytes : List ℕ) → IsPassing o columns before old chunk now r → IsTold before.held old.blocks.file bytes
     → IsTold now.held r.blocks.file bytes
 told_now o columns before now old r chunk bytes p told =
     let none : flat_map opened_by p.reads.reads ≡ [] = opens_none old.blocks.file old.blocks.size chunk old.blocks.asked r.blocks.asked p.reads.reads p.reads.are in
@@ -93,7 +93,7 @@ in_need_now s bytes rows r chunk to reads has within are all = by_before has.bef
     by_before (inl before) = without_row s bytes rows (given_to r.blocks) r.awaits_header reads before all
     by_before (inr end) = no_reads_at_end s bytes rows r.blocks.file r.blocks.size chunk r.blocks.asked to reads are (let sized = has.read.size_is in let at_end = end.0 in omega arith)
 
-pub reads_on : (o : Options) (columns : ℕ) (before mid after : Outside) (old r : RowsRead) (chunk to : ℕ) → IsPassing o columns before old chunk mid r → ReadsChunksOn mid r.blocks chunk after to
+pub reads_on : (o : Dialect) (columns : ℕ) (before mid after : Outside) (old r : RowsRead) (chunk to : ℕ) → IsPassing o columns before old chunk mid r → ReadsChunksOn mid r.blocks chunk after to
     → ReadsOnForRows o columns before old chunk after to
 reads_on o columns before mid after old r chunk to p f = record {
   reads = p.reads.reads ++ f.reads;
@@ -109,7 +109,7 @@ reads_on o columns before mid after old r chunk to p f = record {
 }
 
 -- a search for a block that failed
-pub block_fault_reads : (o : Options) (columns : ℕ) (before mid after : Outside) (old r : RowsRead) (chunk : ℕ) (fault : Fault) (b : BlocksRead) (new : RowsRead) → IsPassing o columns before old chunk mid r
+pub block_fault_reads : (o : Dialect) (columns : ℕ) (before mid after : Outside) (old r : RowsRead) (chunk : ℕ) (fault : Fault) (b : BlocksRead) (new : RowsRead) → IsPassing o columns before old chunk mid r
     → ReadsForBlock mid r.blocks chunk (Err fault) after b → ReadsForRows o columns before old chunk (Err fault) after new
 block_fault_reads o columns before mid after old r chunk (faults.ReadFault number) b new p (is, f) = (
   is ∙ p.same.source,
@@ -148,14 +148,14 @@ block_fault_reads o columns before mid after old r chunk (faults.ComputeError ki
 block_fault_reads o columns before mid after old r chunk faults.QueryText b new p (to, f) = (to, reads_on o columns before mid after old r chunk to p f)
 block_fault_reads o columns before mid after old r chunk faults.Usage b new p (to, f) = (to, reads_on o columns before mid after old r chunk to p f)
 
-pub text_fault_reads : (o : Options) (columns : ℕ) (before after : Outside) (old : RowsRead) (chunk source to : ℕ) (fault : Fault) (new : RowsRead) → IsTextFaultOf source fault
+pub text_fault_reads : (o : Dialect) (columns : ℕ) (before after : Outside) (old : RowsRead) (chunk source to : ℕ) (fault : Fault) (new : RowsRead) → IsTextFaultOf source fault
     → ReadsOnForRows o columns before old chunk after to → ReadsForRows o columns before old chunk (Err fault) after new
 text_fault_reads o columns before after old chunk source to faults.OutOfMemory new is f = (to, f)
 text_fault_reads o columns before after old chunk source to (faults.ComputeError kind number at) new is f = (to, f)
 text_fault_reads o columns before after old chunk source to fault new is f = absurd is
 
 -- the faults of blocks are faults of rows
-pub block_fault_of_rows : (o : Options) (source number : ℕ) (bytes : List ℕ) (fault : Fault) → source ≡ number → IsBlockFault o source bytes fault → IsRowsFault o number bytes fault
+pub block_fault_of_rows : (o : Dialect) (source number : ℕ) (bytes : List ℕ) (fault : Fault) → source ≡ number → IsBlockFault o source bytes fault → IsRowsFault o number bytes fault
 block_fault_of_rows o source number bytes faults.OutOfMemory same is = tt
 block_fault_of_rows o source number bytes (faults.ReadFault file) same is = is ∙ same
 block_fault_of_rows o source number bytes (faults.Malformed file at) same is = (is.0 ∙ same, is.1)
@@ -170,7 +170,7 @@ pub given-passed : (r : RowsRead) (len : ℕ) (awaits_header : Bool) → len ≤
     → given_to (passed_to r len awaits_header).blocks ≡ given_to r.blocks + len
 given-passed r len awaits_header within held = omega (arith, length-drop len r.blocks.held)
 
-pub read-passed : (o : Options) (bytes : List ℕ) (r : RowsRead) (len : ℕ) (awaits_header : Bool) → len ≤ length r.blocks.held → length r.blocks.held ≤ r.blocks.asked → IsReadOf o bytes r.blocks
+pub read-passed : (o : Dialect) (bytes : List ℕ) (r : RowsRead) (len : ℕ) (awaits_header : Bool) → len ≤ length r.blocks.held → length r.blocks.held ≤ r.blocks.asked → IsReadOf o bytes r.blocks
     → IsReadOf o bytes (passed_to r len awaits_header).blocks
 read-passed o bytes r len awaits_header within held read = record {
   size_is = read.size_is;
@@ -186,7 +186,7 @@ pub record IsBlockIn (s : CsvScan) (bytes : List ℕ) (rows : ℕ) (r : RowsRead
   pub size : length (block_of r len) ≡ len
 
 -- the rows up to the end of a block
-after_block : (s : CsvScan) (columns : ℕ) (bytes : List ℕ) (rows : ℕ) (r : RowsRead) (len : ℕ) (front : BlockFront) → AreOptions s.options → (b : IsBlockIn s bytes rows r len)
+after_block : (s : CsvScan) (columns : ℕ) (bytes : List ℕ) (rows : ℕ) (r : RowsRead) (len : ℕ) (front : BlockFront) → IsDialect s.options → (b : IsBlockIn s bytes rows r len)
     → length s.scan.fields ≡ columns → IsFrontOf s.options columns r.awaits_header (given_to r.blocks) (block_of r len) b.block.records front
     → HasRowsBeforePlace s bytes (given_to r.blocks + len) (rows + front.rows) front.awaits_header ⊎ ((given_to r.blocks + len ≡ length bytes) × HaveRows s (bytes ∷ []) (rows + front.rows))
 after_block s columns bytes rows r len front fit b columns_are f = by_ends b.block.ends
@@ -212,7 +212,7 @@ after_block s columns bytes rows r len front fit b columns_are f = by_ends b.blo
               (rows_to_end s bytes (block_of r len) (given_to r.blocks) rows r.awaits_header b.block.records fit b.before b.block.held end b.block.mark b.block.split),
         )
 
-pub given_after_block : (s : CsvScan) (columns : ℕ) (bytes : List ℕ) (rows : ℕ) (r : RowsRead) (len : ℕ) (front : BlockFront) → AreOptions s.options → (b : IsBlockIn s bytes rows r len)
+pub given_after_block : (s : CsvScan) (columns : ℕ) (bytes : List ℕ) (rows : ℕ) (r : RowsRead) (len : ℕ) (front : BlockFront) → IsDialect s.options → (b : IsBlockIn s bytes rows r len)
     → length s.scan.fields ≡ columns → IsFrontOf s.options columns r.awaits_header (given_to r.blocks) (block_of r len) b.block.records front
     → len ≤ length r.blocks.held → length r.blocks.held ≤ r.blocks.asked → IsReadOf s.options bytes r.blocks → IsLastCut s.options bytes r.blocks.asked (given_to r.blocks + len)
     → HasRowsGiven s bytes (rows + front.rows) (passed_to r len front.awaits_header)
@@ -253,9 +253,9 @@ block_in s bytes rows len r b has same within some found = by_before has.before
             take_nothing (suc n) = refl
 
 -- a block without rows
-pub passes_on : (o : Options) (columns : ℕ) (before mid after : Outside) (old r : RowsRead) (chunk len : ℕ) (b : BlocksRead) (front : BlockFront) → AreOptions o → IsPassing o columns before old chunk mid r
+pub passes_on : (o : Dialect) (columns : ℕ) (before mid after : Outside) (old r : RowsRead) (chunk len : ℕ) (b : BlocksRead) (front : BlockFront) → IsDialect o → IsPassing o columns before old chunk mid r
     → IsOpenFile after b → IsSameFile r.blocks b → len ≤ length b.held → ReadsChunksOn mid r.blocks chunk after b.asked
-    → ((o : Options) (bytes : List ℕ) → AreOptions o → IsReadOf o bytes r.blocks → IsLastCut o bytes r.blocks.asked (given_to r.blocks) → IsTold mid.held r.blocks.file bytes → HasFound o bytes (given_to r.blocks) len b)
+    → ((o : Dialect) (bytes : List ℕ) → IsDialect o → IsReadOf o bytes r.blocks → IsLastCut o bytes r.blocks.asked (given_to r.blocks) → IsTold mid.held r.blocks.file bytes → HasFound o bytes (given_to r.blocks) len b)
     → 0 < len → ((records : List CsvRecord) → Records o (text_at (given_to b) (take len b.held)) records → IsFrontOf o columns r.awaits_header (given_to b) (take len b.held) records front)
     → front.rows ≡ 0 → IsPassing o columns before old chunk after (passed_to (record { blocks = b; awaits_header = r.awaits_header }) len front.awaits_header)
 passes_on o columns before mid after old r chunk len b front fit p opened same within reads found some is_front none =
@@ -290,10 +290,10 @@ passes_on o columns before mid after old r chunk len b front fit p opened same w
         let next : RowsRead = record { blocks = b; awaits_header = r.awaits_header } in
         let f = found s.options bytes told.fit now.0.read now.0.cut (told_now o columns before mid old r chunk bytes p told.told) in
         let block = block_in s bytes rows len r b now.0 same within some f in
-        let split : Records o (text_at (given_to b) (take len b.held)) block.block.records = subst (λ (q : Options). Records q (text_at (given_to b) (take len b.held)) block.block.records) told.options block.block.split in
+        let split : Records o (text_at (given_to b) (take len b.held)) block.block.records = subst (λ (q : Dialect). Records q (text_at (given_to b) (take len b.held)) block.block.records) told.options block.block.split in
         let fr = is_front block.block.records split in
         let fr_s : IsFrontOf s.options columns r.awaits_header (given_to b) (take len b.held) block.block.records front =
-        subst (λ (q : Options). IsFrontOf q columns r.awaits_header (given_to b) (take len b.held) block.block.records front) (sym told.options) fr in
+        subst (λ (q : Dialect). IsFrontOf q columns r.awaits_header (given_to b) (take len b.held) block.block.records front) (sym told.options) fr in
         let cut : IsLastCut s.options bytes b.asked (given_to b + len) = subst (λ (n : ℕ). IsLastCut s.options bytes b.asked (n + len)) (sym same.given) f.cut in
         let given = given_after_block s columns bytes rows next len front told.fit block told.columns_are fr_s within opened.held_within f.read cut in
         let rows_same : rows + front.rows ≡ rows = omega arith in

@@ -4,7 +4,7 @@ use Rattle.std.proofs.Math.Seq.{take-add}
 use Rattle.std.proofs.lemmas.List.{take_all, take-append-drop, drop-drop, drop_all, drop_at, drop-append-le, length-take-le, length-drop, append_cancel_left}
 use Rattle.std.proofs.lemmas.Str.{IsUtf8-append, IsUtf8-nil}
 use Rattle.std.specs.Prelude.{◌⊎◌, Bool, true, false, Option, Some, None, Result, Ok, Err, List, [], ◌∷◌, ◌++◌, length, take, drop, slice_range, IsUtf8}
-use Rattle.morsel_grammar.specs.Options.{Options, AreOptions}
+use Rattle.morsel_grammar.specs.Dialect.{Dialect, IsDialect}
 use Rattle.morsel_grammar.specs.Grammar.{CsvRecord, IsRecord, Records}
 use Rattle.morsel_grammar.specs.Rows.{mark_len, unmarked, behind_header}
 use Rattle.morsel_grammar.specs.GrammarRows.{AreWholeRecords, awaits_header_after}
@@ -45,7 +45,7 @@ unmarked_split bytes part held mark =
     ap (λ (k : ℕ). drop k bytes) (sym mark) ∙ ap (drop (mark_len part)) all ∙ drop-append-le (mark_len part) part (drop (0 + length part) bytes) (mark_len-within part)
 
 -- no records without bytes
-no_records : (o : Options) (text : List ℕ) (records : List CsvRecord) → text ≡ [] → AreWholeRecords o text records → records ≡ []
+no_records : (o : Dialect) (text : List ℕ) (records : List CsvRecord) → text ≡ [] → AreWholeRecords o text records → records ≡ []
 no_records o text [] none are = refl
 no_records o text (r ∷ records) none (line, rest, text_is, is, more) = absurd (let size : length (line ++ o.eol ∷ rest) ≡ 0 = ap length (sym text_is ∙ none) in omega (arith, length-append line (o.eol ∷ rest)))
 
@@ -80,7 +80,7 @@ rows_added columns has head first later rows rows_is head_is =
     ∙ ap (row_count columns) (sym (behind_header-append has first later))
 
 -- the rows before a place further on, after whole records more
-pub rows_further : (s : CsvScan) (bytes part : List ℕ) (given rows : ℕ) (head : Bool) (records : List CsvRecord) → AreOptions s.options → HasRowsBeforePlace s bytes given rows head
+pub rows_further : (s : CsvScan) (bytes part : List ℕ) (given rows : ℕ) (head : Bool) (records : List CsvRecord) → IsDialect s.options → HasRowsBeforePlace s bytes given rows head
     → slice_range bytes given (given + length part) ≡ part → (given ≡ 0 → mark_len part ≡ mark_len bytes) → AreWholeRecords s.options (text_at given part) records
     → HasRowsUpTo s bytes (given + length part) (rows + row_count (length s.scan.fields) (behind_header head records)) (awaits_header_after head records)
 rows_further s bytes part zero rows head records fit before held mark whole =
@@ -116,7 +116,7 @@ rows_further s bytes part (suc given) rows head records fit (inr h) held mark wh
     }
 
 -- the rows of a file, of which the last records are these
-pub rows_to_end : (s : CsvScan) (bytes part : List ℕ) (given rows : ℕ) (head : Bool) (records : List CsvRecord) → AreOptions s.options → HasRowsBeforePlace s bytes given rows head
+pub rows_to_end : (s : CsvScan) (bytes part : List ℕ) (given rows : ℕ) (head : Bool) (records : List CsvRecord) → IsDialect s.options → HasRowsBeforePlace s bytes given rows head
     → slice_range bytes given (given + length part) ≡ part → given + length part ≡ length bytes → (given ≡ 0 → mark_len part ≡ mark_len bytes) → Records s.options (text_at given part) records
     → HaveRows s (bytes ∷ []) (rows + row_count (length s.scan.fields) (behind_header head records))
 rows_to_end s bytes part zero rows head records fit before held end mark are =
@@ -141,7 +141,7 @@ rows_to_end s bytes part (suc given) rows head records fit (inr h) held end mark
     (h.records ++ records, subst (λ (x : List ℕ). Records s.options x (h.records ++ records)) (sym all) ((splits_behind_whole s.options fit h.front part h.records records h.whole).1 are), 0, refl, omega arith)
 
 -- the rows of a file that was given to its end
-pub rows_at_end : (s : CsvScan) (bytes : List ℕ) (given rows : ℕ) (head : Bool) → AreOptions s.options → HasRowsBeforePlace s bytes given rows head → given ≡ length bytes → HaveRows s (bytes ∷ []) rows
+pub rows_at_end : (s : CsvScan) (bytes : List ℕ) (given rows : ℕ) (head : Bool) → IsDialect s.options → HasRowsBeforePlace s bytes given rows head → given ≡ length bytes → HaveRows s (bytes ∷ []) rows
 rows_at_end s bytes given rows head fit before end =
     let none : row_count (length s.scan.fields) (behind_header head []) ≡ 0 = no_rows head in
     let same : rows + row_count (length s.scan.fields) (behind_header head []) ≡ rows = omega arith in

@@ -2,7 +2,7 @@
 use Rattle.std.specs.Prelude.{◌≡◌, ◌⊎◌, ℕ, ◌+◌, ◌-◌, ◌^◌, ◌<◌, ◌≤◌, ◌==◌, ◌&&◌, if◌then◌else◌, Option, Some, None, Result, Ok, Err, List, [], ◌∷◌, length, take, drop, slice_range, slice_index}
 use Rattle.morsel_meaning.specs.declared.fault.Fault.{Fault}
 use Rattle.morsel_meaning.specs.declared.fault.Fault.TheVariants as faults
-use Rattle.morsel_grammar.specs.Options.{Options, AreOptions}
+use Rattle.morsel_grammar.specs.Dialect.{Dialect, IsDialect}
 use Rattle.morsel_grammar.specs.Grammar.{CsvRecord, Records}
 use Rattle.morsel_grammar.specs.Rows.{mark_len}
 use Rattle.morsel_grammar.specs.GrammarRows.{AreWholeRecords}
@@ -22,7 +22,7 @@ pub record BlocksRead : Type 0 where
   pub cutting : Cutting  -- the cutter that was fed what was asked
 
 -- nothing was asked
-abbrev pub blocks_at_start : Options → ℕ → ℕ → ℕ → BlocksRead
+abbrev pub blocks_at_start : Dialect → ℕ → ℕ → ℕ → BlocksRead
 blocks_at_start o source file size = record { file = file; source = source; size = size; asked = 0; held = []; cutting = cut_opening o source }
 
 -- the place up to which the file was given
@@ -47,17 +47,17 @@ pub record IsSameFile (old new : BlocksRead) : Type 0 where
   pub given : given_to new ≡ given_to old
 
 -- of a file with these bytes, the first ones were fed, and the last of them are held
-pub record IsReadOf (o : Options) (bytes : List ℕ) (b : BlocksRead) : Type 0 where
+pub record IsReadOf (o : Dialect) (bytes : List ℕ) (b : BlocksRead) : Type 0 where
   pub size_is : b.size ≡ length bytes
   pub fed : b.cutting ≡ fed_with (cut_opening o b.source) (take b.asked bytes)
   pub held_is : b.held ≡ drop (given_to b) (take b.asked bytes)
 
 -- so many bytes of a file were asked, not all, and a place is their last end; or all were, and it is the end of the file
-abbrev pub IsLastCut : Options → List ℕ → ℕ → ℕ → Type 0
+abbrev pub IsLastCut : Dialect → List ℕ → ℕ → ℕ → Type 0
 IsLastCut o bytes asked at = ((asked < length bytes) × (at ≡ last_cut o (take asked bytes))) ⊎ ((asked ≡ length bytes) × (at ≡ length bytes))
 
 -- the bytes of a file from a place on, at least one: after the mark, records, each with its eol byte unless they end with the file
-pub record IsBlock (o : Options) (file : List ℕ) (from : ℕ) (block : List ℕ) : Type 0 where
+pub record IsBlock (o : Dialect) (file : List ℕ) (from : ℕ) (block : List ℕ) : Type 0 where
   pub some : 0 < length block
   pub held : slice_range file from (from + length block) ≡ block
   pub records : List CsvRecord
@@ -76,7 +76,7 @@ compression_code (a ∷ b ∷ bytes) = if a == 31 && b == 139 then Some 31 else 
 compression_code bytes = None
 
 -- why no block of the file is found: the record after those that were given is none, or the file is compressed. Of a read that failed, the reads tell
-abbrev pub IsBlockFault : Options → ℕ → List ℕ → Fault → Type 0
+abbrev pub IsBlockFault : Dialect → ℕ → List ℕ → Fault → Type 0
 IsBlockFault o source file faults.OutOfMemory = Unit {0}
 IsBlockFault o source file (faults.ReadFault number) = number ≡ source
 IsBlockFault o source file (faults.Malformed number at) = (number ≡ source) × StopsAtRecord o file at
@@ -92,14 +92,14 @@ IsBlockFaultOf source (faults.Unsupported number code) = (number ≡ source) × 
 IsBlockFaultOf source fault = ⊥
 
 -- of a file with these bytes: the first bytes that are held, so many, are a block, and the place after them is the last cut; or all was given
-pub record HasFound (o : Options) (bytes : List ℕ) (given len : ℕ) (b : BlocksRead) : Type 0 where
+pub record HasFound (o : Dialect) (bytes : List ℕ) (given len : ℕ) (b : BlocksRead) : Type 0 where
   pub read : IsReadOf o bytes b
   pub cut : IsLastCut o bytes b.asked (given + len)
   pub block : 0 < len → IsBlock o bytes given (take len b.held)
   pub end : len ≡ 0 → given ≡ length bytes
 
 -- the same, or a fault
-abbrev pub FindsBlock : Options → List ℕ → BlocksRead → Result ℕ Fault → BlocksRead → Type 0
+abbrev pub FindsBlock : Dialect → List ℕ → BlocksRead → Result ℕ Fault → BlocksRead → Type 0
 FindsBlock o bytes old (Ok len) new = HasFound o bytes (given_to old) len new
 FindsBlock o bytes old (Err fault) new = IsBlockFault o old.source bytes fault
 
@@ -108,7 +108,7 @@ pub record ReadsChunksOn (before : Outside) (old : BlocksRead) (chunk : ℕ) (af
   pub reads : List Action
   pub are : AreNextReads old.file old.size chunk old.asked reads to
   pub does : Does before reads after
-  pub in_need : (o : Options) (bytes : List ℕ) → AreOptions o → IsReadOf o bytes old → IsLastCut o bytes old.asked (given_to old) → IsTold before.held old.file bytes
+  pub in_need : (o : Dialect) (bytes : List ℕ) → IsDialect o → IsReadOf o bytes old → IsLastCut o bytes old.asked (given_to old) → IsTold before.held old.file bytes
       → ReadWithoutRecord o bytes (given_to old) reads
 
 -- the same, and then the read of a chunk more failed
@@ -118,7 +118,7 @@ pub record FailsToReadOn (before : Outside) (old : BlocksRead) (chunk : ℕ) (af
   pub reads : ReadsChunksOn before old chunk between to
   pub len : ℕ
   pub last : IsChunk old.size chunk to len
-  pub last_in_need : (o : Options) (bytes : List ℕ) → AreOptions o → IsReadOf o bytes old → IsLastCut o bytes old.asked (given_to old) → IsTold before.held old.file bytes
+  pub last_in_need : (o : Dialect) (bytes : List ℕ) → IsDialect o → IsReadOf o bytes old → IsLastCut o bytes old.asked (given_to old) → IsTold before.held old.file bytes
       → HoldsNoRecord o bytes (given_to old) to
   pub fails : Does between (FailedReadingRange old.file to len ∷ []) after
 

@@ -1,6 +1,6 @@
 -- Reads of a file one after the other: each of the next bytes, at most a chunk of them, and none while a whole record is held.
 use Rattle.std.specs.Prelude.{◌≡◌, ℕ, zero, suc, ◌+◌, ◌<◌, ◌≤◌, Option, Some, None, List, [], ◌∷◌, slice_range, get_or}
-use Rattle.morsel_grammar.specs.Options.{Options}
+use Rattle.morsel_grammar.specs.Dialect.{Dialect}
 use Rattle.morsel_grammar.specs.Rows.{unmarked}
 use Rattle.morsel_grammar.specs.Cuts.{BeginsNoWholeRecord}
 use Rattle.morsel_outside.specs.Actions.{Action, ReadingRange}
@@ -29,11 +29,11 @@ text_at zero bytes = unmarked bytes
 text_at (suc at) bytes = bytes
 
 -- the bytes of a file between two places begin with no whole record
-abbrev pub HoldsNoRecord : Options → List ℕ → ℕ → ℕ → Type 0
+abbrev pub HoldsNoRecord : Dialect → List ℕ → ℕ → ℕ → Type 0
 HoldsNoRecord o bytes given at = BeginsNoWholeRecord o (text_at given (slice_range bytes given at))
 
 -- each read is made while what was asked after place `given` begins with no whole record
-abbrev pub ReadWithoutRecord : Options → List ℕ → ℕ → List Action → Type 0
+abbrev pub ReadWithoutRecord : Dialect → List ℕ → ℕ → List Action → Type 0
 ReadWithoutRecord o bytes given [] = Unit {0}
 ReadWithoutRecord o bytes given (ReadingRange number at len ∷ actions) = HoldsNoRecord o bytes given at × ReadWithoutRecord o bytes given actions
 ReadWithoutRecord o bytes given (action ∷ actions) = ⊥

@@ -3,7 +3,7 @@ use Rattle.std.specs.Prelude.{◌≡◌, ◌⊎◌, ℕ, zero, suc, ◌+◌, ◌
 use Rattle.morsel_meaning.specs.declared.fault.Fault.{Fault}
 use Rattle.morsel_meaning.specs.declared.fault.Fault.TheVariants as faults
 use Rattle.morsel_meaning.specs.declared.fault.ComputeKind.TheVariants as kinds
-use Rattle.morsel_grammar.specs.Options.{Options, AreOptions}
+use Rattle.morsel_grammar.specs.Dialect.{Dialect, IsDialect}
 use Rattle.morsel_grammar.specs.Grammar.{CsvRecord, IsRecord, Records}
 use Rattle.morsel_grammar.specs.Rows.{mark_len, unmarked, behind_header}
 use Rattle.morsel_grammar.specs.GrammarRows.{AreWholeRecords, awaits_header_after}
@@ -22,7 +22,7 @@ pub record RowsRead : Type 0 where
   pub awaits_header : Bool  -- whether its header is still to come
 
 -- nothing was asked
-abbrev pub rows_at_start : Options → ℕ → ℕ → ℕ → RowsRead
+abbrev pub rows_at_start : Dialect → ℕ → ℕ → ℕ → RowsRead
 rows_at_start o source file size = record { blocks = blocks_at_start o source file size; awaits_header = o.has_header }
 
 -- the first bytes that are held, so many, are given or passed
@@ -78,7 +78,7 @@ pub record AreNextRows (s : CsvScan) (file : List ℕ) (from rows : ℕ) (stretc
   pub some : 0 < stretch.rows
 
 -- a text, which begins at a place, is whole records and then one that is not UTF-8, which begins at another place
-pub record HasRecordNotUtf8 (o : Options) (at : ℕ) (text : List ℕ) (place : ℕ) : Type 0 where
+pub record HasRecordNotUtf8 (o : Dialect) (at : ℕ) (text : List ℕ) (place : ℕ) : Type 0 where
   pub front : List ℕ
   pub records : List CsvRecord
   pub bytes : List ℕ
@@ -91,7 +91,7 @@ pub record HasRecordNotUtf8 (o : Options) (at : ℕ) (text : List ℕ) (place : 
   pub not_utf8 : IsUtf8 bytes → ⊥
 
 -- why a text without rows is refused, if memory is not out
-abbrev pub IsTextFault : Options → ℕ → ℕ → List ℕ → Fault → Type 0
+abbrev pub IsTextFault : Dialect → ℕ → ℕ → List ℕ → Fault → Type 0
 IsTextFault o source at text faults.OutOfMemory = Unit {0}
 IsTextFault o source at text (faults.ComputeError kinds.NotUtf8 number place) = (number ≡ source) × HasRecordNotUtf8 o at text place
 IsTextFault o source at text fault = ⊥
@@ -103,7 +103,7 @@ IsTextFaultOf source (faults.ComputeError kinds.NotUtf8 number place) = number �
 IsTextFaultOf source fault = ⊥
 
 -- why no rows of a file are given: as for blocks, or a record that is passed is not UTF-8
-abbrev pub IsRowsFault : Options → ℕ → List ℕ → Fault → Type 0
+abbrev pub IsRowsFault : Dialect → ℕ → List ℕ → Fault → Type 0
 IsRowsFault o source file (faults.ComputeError kinds.NotUtf8 number place) = (number ≡ source) × HasRecordNotUtf8 o (mark_len file) (unmarked file) place
 IsRowsFault o source file fault = IsBlockFault o source file fault
 
@@ -132,22 +132,22 @@ ReadWithoutRow s bytes rows (ReadingRange number at len ∷ actions) = HoldsNoRo
 ReadWithoutRow s bytes rows (action ∷ actions) = ⊥
 
 -- what is known of a file of which rows are searched by these options, in so many columns
-pub record IsToldFile (o : Options) (columns : ℕ) (s : CsvScan) (bytes : List ℕ) (rows : ℕ) (before : Outside) (old : RowsRead) : Type 0 where
+pub record IsToldFile (o : Dialect) (columns : ℕ) (s : CsvScan) (bytes : List ℕ) (rows : ℕ) (before : Outside) (old : RowsRead) : Type 0 where
   pub options : s.options ≡ o
-  pub fit : AreOptions s.options
+  pub fit : IsDialect s.options
   pub columns_are : length s.scan.fields ≡ columns
   pub told : IsTold before.held old.blocks.file bytes
   pub given : HasRowsGiven s bytes rows old
 
 -- only the next chunks of the file were read, up to a place, each while no whole row was held but those that were given
-pub record ReadsOnForRows (o : Options) (columns : ℕ) (before : Outside) (old : RowsRead) (chunk : ℕ) (after : Outside) (to : ℕ) : Type 0 where
+pub record ReadsOnForRows (o : Dialect) (columns : ℕ) (before : Outside) (old : RowsRead) (chunk : ℕ) (after : Outside) (to : ℕ) : Type 0 where
   pub reads : List Action
   pub are : AreNextReads old.blocks.file old.blocks.size chunk old.blocks.asked reads to
   pub does : Does before reads after
   pub in_need : (s : CsvScan) (bytes : List ℕ) (rows : ℕ) → IsToldFile o columns s bytes rows before old → ReadWithoutRow s bytes rows reads
 
 -- the same, and then the read of a chunk more failed
-pub record FailsToReadForRows (o : Options) (columns : ℕ) (before : Outside) (old : RowsRead) (chunk : ℕ) (after : Outside) : Type 0 where
+pub record FailsToReadForRows (o : Dialect) (columns : ℕ) (before : Outside) (old : RowsRead) (chunk : ℕ) (after : Outside) : Type 0 where
   pub between : Outside
   pub to : ℕ
   pub reads : ReadsOnForRows o columns before old chunk between to
@@ -157,7 +157,7 @@ pub record FailsToReadForRows (o : Options) (columns : ℕ) (before : Outside) (
   pub fails : Does between (FailedReadingRange old.blocks.file to len ∷ []) after
 
 -- what a search for rows did to the outside
-abbrev pub ReadsForRows : Options → ℕ → Outside → RowsRead → ℕ → Result (Option RowStretch) Fault → Outside → RowsRead → Type 0
+abbrev pub ReadsForRows : Dialect → ℕ → Outside → RowsRead → ℕ → Result (Option RowStretch) Fault → Outside → RowsRead → Type 0
 ReadsForRows o columns before old chunk (Ok found) after new = ReadsOnForRows o columns before old chunk after new.blocks.asked
 ReadsForRows o columns before old chunk (Err (faults.ReadFault number)) after new = (number ≡ old.blocks.source) × FailsToReadForRows o columns before old chunk after
 ReadsForRows o columns before old chunk (Err fault) after new = (to : ℕ) × ReadsOnForRows o columns before old chunk after to

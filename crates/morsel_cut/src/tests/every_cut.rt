@@ -56,7 +56,7 @@ fn same_rows(rt: &impl Abort, options: &CsvOptions, text: &[u8], columns: usize,
 }
 
 /// A text that is cut at a place is answered as it is whole.
-fn agree(rt: &impl Abort, options: &CsvOptions, text: &[u8], at: usize) {
+pub fn agree(rt: &impl Abort, options: &CsvOptions, text: &[u8], at: usize) {
     assert!(rt; at <= text.len());
     let (whole, _, end) = answers(rt, options, text, b"");
     if let (Ok(cut), Ok(())) = (&whole, &end) {

@@ -4,7 +4,7 @@
 //! that are held are a block. At the end of the file all that is held is the last block.
 ghost use Rattle.std.specs.Prelude.{◌≡◌, ◌+◌, ◌-◌, ◌<◌, ◌≤◌, ◌^◌, List, ℕ, length, take, drop, min, slice_index, IfOk, IfErr, OnOk, OnErr, IsOkUnless};
 ghost use Rattle.morsel_outside.specs.Calls.{Reads};
-ghost use Rattle.morsel_grammar.specs.Options.{Options, AreOptions};
+ghost use Rattle.morsel_grammar.specs.Dialect.{Dialect, IsDialect};
 ghost use Rattle.morsel_scan.specs.FileReads.{IsTold};
 ghost use Rattle.morsel_scan.specs.Blocks.{BlocksRead, blocks_at_start, given_to, IsOpenFile, IsSameFile, IsReadOf, IsLastCut, FindsBlock, IsBlockFaultOf, ReadsForBlock, compression_code};
 ghost use Rattle.morsel_scan.specs.Chunks.{ReadsChunk, ReadsMore, FeedsHeld, FindsLast};
@@ -115,7 +115,7 @@ impl BlockReader {
         ensures end { IfOk result (λ len. len ≡ 0 → self.new.asked ≡ self.new.size) }
         ensures listed { IfErr result (λ fault. IsBlockFaultOf self.old.source fault) }
         ensures reads { ReadsForBlock (H.seen io.old) self.old chunk result (H.seen io.new) self.new }
-        ensures block { (o : Options) (bytes : List ℕ) → AreOptions o → IsReadOf o bytes self.old → IsLastCut o bytes self.old.asked (given_to self.old)
+        ensures block { (o : Dialect) (bytes : List ℕ) → IsDialect o → IsReadOf o bytes self.old → IsLastCut o bytes self.old.asked (given_to self.old)
             → IsTold (H.seen io.old).held self.old.file bytes → FindsBlock o bytes self.old result self.new }
     {
         'chunks: while self.asked < self.size {

@@ -19,26 +19,26 @@ loop-at-preserved c =
     record {
       within = omega (arith, size);
       passed = λ records are.
-          passes_record c.args.options.now bytes _ at c.record_size-at.result c.is_row-is_header.result records c.record_size-at.ensures.fit c.loop-at-test.true
-          (take_rest bytes at) (c.loop-at.invariant.passed records are) c.record_size-at.ensures.value c.is_row-is_header.ensures c.if-is_header.false;
+          passes_record c.args.options.now bytes _ at c.record_size-at.result c.is_header-found.result records c.record_size-at.ensures.fit c.loop-at-test.true
+          (take_rest bytes at) (c.loop-at.invariant.passed records are) c.record_size-at.ensures.value c.is_header-found.ensures c.if-found.false;
       whole = λ records are.
-          passes_whole c.args.options.now bytes _ at c.record_size-at.result c.is_row-is_header.result records c.record_size-at.ensures.fit c.loop-at-test.true
-          (take_rest bytes at) (c.loop-at.invariant.whole records are) c.record_size-at.ensures.value c.is_row-is_header.ensures c.if-is_header.false;
+          passes_whole c.args.options.now bytes _ at c.record_size-at.result c.is_header-found.result records c.record_size-at.ensures.fit c.loop-at-test.true
+          (take_rest bytes at) (c.loop-at.invariant.whole records are) c.record_size-at.ensures.value c.is_header-found.ensures c.if-found.false;
     }
 
-pub returns-then-is_header-clause-ends : goal.returns-then-is_header-clause-ends
-returns-then-is_header-clause-ends c = λ records are.
-    finds_header c.args.options.now c.args.bytes.now _ c.loop-at.at c.record_size-at.result c.is_row-is_header.result records c.record_size-at.ensures.fit c.loop-at-test.true
-    (take_rest c.args.bytes.now c.loop-at.at) (c.loop-at.invariant.passed records are) c.record_size-at.ensures.value c.is_row-is_header.ensures c.if-is_header.true
+pub returns-then-found-clause-ends : goal.returns-then-found-clause-ends
+returns-then-found-clause-ends c = λ records are.
+    finds_header c.args.options.now c.args.bytes.now _ c.loop-at.at c.record_size-at.result c.is_header-found.result records c.record_size-at.ensures.fit c.loop-at-test.true
+    (take_rest c.args.bytes.now c.loop-at.at) (c.loop-at.invariant.passed records are) c.record_size-at.ensures.value c.is_header-found.ensures c.if-found.true
 
 pub returns-clause-ends : goal.returns-clause-ends
 returns-clause-ends c = λ records are.
     finds_no_header c.args.options.now c.args.bytes.now c.loop-at.at records c.loop-at.invariant.within c.loop-at-test.false (c.loop-at.invariant.passed records are)
 
-pub returns-then-is_header-clause-whole : goal.returns-then-is_header-clause-whole
-returns-then-is_header-clause-whole c = λ records are.
-    ends_whole c.args.options.now c.args.bytes.now _ c.loop-at.at c.record_size-at.result c.is_row-is_header.result records c.record_size-at.ensures.fit c.loop-at-test.true
-    (take_rest c.args.bytes.now c.loop-at.at) (c.loop-at.invariant.whole records are) c.record_size-at.ensures.value c.is_row-is_header.ensures c.if-is_header.true
+pub returns-then-found-clause-whole : goal.returns-then-found-clause-whole
+returns-then-found-clause-whole c = λ records are.
+    ends_whole c.args.options.now c.args.bytes.now _ c.loop-at.at c.record_size-at.result c.is_header-found.result records c.record_size-at.ensures.fit c.loop-at-test.true
+    (take_rest c.args.bytes.now c.loop-at.at) (c.loop-at.invariant.whole records are) c.record_size-at.ensures.value c.is_header-found.ensures c.if-found.true
 
 pub returns-clause-whole : goal.returns-clause-whole
 returns-clause-whole c = λ records are.

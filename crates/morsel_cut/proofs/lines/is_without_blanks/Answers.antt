@@ -1,12 +1,12 @@
-use Rattle.std.proofs.Common.{◌≡◌, arith, rules, true}
-use Rattle.morsel_cut.proofs.MarkLemmas.{begin_on}
+use Rattle.std.proofs.Common.{take}
+use Rattle.std.proofs.lemmas.Bool.{eqb-true}
+use Rattle.std.proofs.lemmas.List.{length-take-le}
+use Rattle.morsel_cut.specs.Places.{cut_place, delimiter_options}
+use Rattle.morsel_cut.proofs.BlockLemmas.{without_blanks}
 use Rattle.morsel_cut.proofs.lines.is_without_blanks.Goals as goal
 
-pub loop-at-preserved : goal.loop-at-preserved
-loop-at-preserved c =
-    let passed : c.lanes_without_blanks.result ≡ true = search rules in
-    record {
-      within = omega arith;
-      first = c.loop-at.invariant.first;
-      later = begin_on c.args.eol c.args.text.now c.loop-at.at c.loop-at.invariant.later (c.lanes_without_blanks.ensures passed);
-    }
+pub returns : goal.returns
+returns c = λ none.
+    without_blanks (delimiter_options c.args.delimiters) (cut_place c.args.from) (take 64 c.args.lane.now) c.args.ends c.one_on-begins.result c.byte_marks.result c.byte_marks-2.result
+    c.is_after_eol.result (length-take-le 64 c.args.lane.now c.requires.room) c.requires.ends c.is_after_eol.ensures c.one_on-begins.ensures.low c.one_on-begins.ensures.high
+    c.byte_marks.ensures c.byte_marks-2.ensures (eqb-true _ 0 none)

@@ -1,11 +1,11 @@
 use Rattle.std.proofs.Common.{◌-◌, ◌∙◌, length, sym, arith}
-use Rattle.morsel_cut.specs.Places.{cut_place, sign_options}
+use Rattle.morsel_cut.specs.Places.{cut_place, delimiter_options}
 use Rattle.morsel_cut.proofs.RunLemmas.{outside_after, outside_end, outside_begin}
 use Rattle.morsel_cut.proofs.pass.plain_run.Goals as goal
 
 pub returns : goal.returns
 returns c =
-    let o = sign_options c.args.signs in
+    let o = delimiter_options c.args.delimiters in
     let from = cut_place c.args.from in
     let bytes = c.args.bytes.now in
     record {

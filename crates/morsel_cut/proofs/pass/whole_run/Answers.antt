@@ -1,5 +1,5 @@
 use Rattle.std.proofs.Common.{ℕ, arith, rules, length-take}
-use Rattle.morsel_cut.specs.Places.{cut_place, sign_options}
+use Rattle.morsel_cut.specs.Places.{cut_place, delimiter_options}
 use Rattle.morsel_cut.proofs.RunLemmas.{run_on, run_end-le, run_begin-le}
 use Rattle.morsel_cut.proofs.pass.whole_run.Goals as goal
 
@@ -16,7 +16,7 @@ then-run-requires-clause-begins c =
 pub loop-at-preserved : goal.loop-at-preserved
 loop-at-preserved c = record {
   within = search rules;
-  run = run_on (sign_options c.args.signs) (cut_place c.args.from) c.args.text.now c.loop-at.at c.front_run-len.result.1
+  run = run_on (delimiter_options c.args.delimiters) (cut_place c.args.from) c.args.text.now c.loop-at.at c.front_run-len.result.1
       c.loop-at.run c.front_run-len.result.0 c.then-run.result c.loop-at.invariant.within c.loop-at.invariant.run c.front_run-len.ensures.run
       c.then-run.ensures.place c.then-run.ensures.end c.then-run.ensures.begin;
 }

@@ -7,9 +7,9 @@ use Rattle.morsel_cut.proofs.prefix.pass_bytes.Goals as goal
 
 pub loop-at-preserved : goal.loop-at-preserved
 loop-at-preserved c =
-    passes_on (options_with c.args.signs (Some c.args.prefix.now)) (cut_state c.args.from) c.args.text.now c.loop-at.at
-    c.loop-at.passed c.prefix_step-standing.result c.then-passed.result c.loop-at-test.true c.loop-at.invariant c.prefix_step-standing.ensures
-    c.then-passed.ensures.standing c.then-passed.ensures.end c.then-passed.ensures.begin
+    passes_on (options_with c.args.delimiters (Some c.args.prefix.now)) (cut_state c.args.from) c.args.text.now c.loop-at.at
+    c.loop-at.passed c.prefix_step-state.result c.then-passed.result c.loop-at-test.true c.loop-at.invariant c.prefix_step-state.ensures
+    c.then-passed.ensures.state c.then-passed.ensures.end c.then-passed.ensures.begin
 
 pub returns-clause-ends : goal.returns-clause-ends
 returns-clause-ends c =

@@ -5,4 +5,4 @@ use Rattle.morsel_cut.specs.Runs.{Passes}
 use Rattle.morsel_cut.proofs.prefix.pass_bytes.Given as goal
 
 abbrev pub invariant-loop-at : goal.invariant-loop-at
-invariant-loop-at l = Passes (options_with l.signs (Some l.prefix)) (cut_state l.fn.from) (take l.at l.text) l.passed
+invariant-loop-at l = Passes (options_with l.delimiters (Some l.prefix)) (cut_state l.fn.from) (take l.at l.text) l.passed

@@ -5,5 +5,5 @@ use Rattle.morsel_cut.specs.FirstEnds.{first_end, record_size}
 use Rattle.morsel_cut.proofs.record.prefix_size.Given as goal
 
 abbrev pub invariant-loop-at : goal.invariant-loop-at
-invariant-loop-at l = record_size (options_with l.signs (Some l.prefix)) l.text
-    ≡ l.at + first_end (options_with l.signs (Some l.prefix)) (cut_state l.standing) (drop l.at l.text)
+invariant-loop-at l = record_size (options_with l.delimiters (Some l.prefix)) l.text
+    ≡ l.at + first_end (options_with l.delimiters (Some l.prefix)) (cut_state l.state) (drop l.at l.text)

@@ -1,10 +1,8 @@
-use Rattle.morsel_cut.proofs.LineLemmas.{takes_lines, takes_first}
+use Rattle.morsel_cut.proofs.LineLemmas.{takes_first}
 use Rattle.morsel_cut.proofs.rows.front_rows.Goals as goal
 
 pub returns-then-len-gt0-clause-rows : goal.returns-then-len-gt0-clause-rows
-returns-then-len-gt0-clause-rows c = λ records are.
-    takes_lines c.args.options.now c.args.columns c.args.text.now c.plain_lines_len-len.result c.line_rows.result records
-    (c.plain_lines_len-len.ensures.lines c.if-len-gt0.true) c.line_rows.ensures.rows are
+returns-then-len-gt0-clause-rows c = c.line_rows-len.ensures.rows c.if-len-gt0.true
 
 pub returns-clause-rows : goal.returns-clause-rows
 returns-clause-rows c = λ records are.

@@ -1,8 +1,0 @@
-use Rattle.morsel_cut.specs.Places.{sign_options}
-use Rattle.morsel_cut.proofs.RunLemmas.{unquoted_front, quotes_run}
-use Rattle.morsel_cut.proofs.pass.front_run.Goals as goal
-
-pub returns-then-is_in_quotes-clause-run : goal.returns-then-is_in_quotes-clause-run
-returns-then-is_in_quotes-clause-run c =
-    quotes_run (sign_options c.args.signs) c.args.from _ (c.is_in_quotes.ensures.0 c.if-is_in_quotes.true)
-    (unquoted_front c.args.signs.quote c.args.text.now c.unquoted_len.result c.unquoted_len.ensures.unquoted)
