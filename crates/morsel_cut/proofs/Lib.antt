@@ -16,3 +16,4 @@ pub mod MarkLemmas
 pub mod QuoteLemmas
 pub mod BlockLemmas
 pub mod BlockRunLemmas
+pub mod HeadLemmas

@@ -17,7 +17,7 @@ last_cut-within o text = last_place-within (cut_step o) (λ (s : CutState). is_a
 abbrev pub chunk_end : Dialect → List ℕ → List ℕ → ℕ
 chunk_end o came chunk = last_end o (cut_after o (first_state o AtOpening) came) chunk
 
-last_cut-append : (o : Dialect) (came chunk : List ℕ) → last_cut o (came ++ chunk) ≡ joined_place (last_cut o came) (length came) (chunk_end o came chunk)
+pub last_cut-append : (o : Dialect) (came chunk : List ℕ) → last_cut o (came ++ chunk) ≡ joined_place (last_cut o came) (length came) (chunk_end o came chunk)
 last_cut-append o came chunk = last_end-append o (first_state o AtOpening) came chunk
 
 place_grows : (before n later : ℕ) → before ≤ n → before ≤ joined_place before n later
@@ -93,7 +93,7 @@ drop_taken zero bytes = refl
 drop_taken (suc n) [] = refl
 drop_taken (suc n) (b ∷ bytes) = drop_taken n bytes
 
-cut_none : (o : Dialect) (came chunk : List ℕ) → chunk_end o came chunk ≡ 0 → last_cut o (came ++ chunk) ≡ last_cut o came
+pub cut_none : (o : Dialect) (came chunk : List ℕ) → chunk_end o came chunk ≡ 0 → last_cut o (came ++ chunk) ≡ last_cut o came
 cut_none o came chunk none = last_cut-append o came chunk ∙ ap (joined_place (last_cut o came) (length came)) none
 
 piece_none : (o : Dialect) (came chunk : List ℕ) → chunk_end o came chunk ≡ 0 → chunk_piece o came chunk ≡ []
@@ -104,10 +104,10 @@ joined_some : (before n later : ℕ) → later ≢ 0 → joined_place before n l
 joined_some before n zero some = absurd (some refl)
 joined_some before n (suc later) some = refl
 
-cut_some : (o : Dialect) (came chunk : List ℕ) → chunk_end o came chunk ≢ 0 → last_cut o (came ++ chunk) ≡ length came + chunk_end o came chunk
+pub cut_some : (o : Dialect) (came chunk : List ℕ) → chunk_end o came chunk ≢ 0 → last_cut o (came ++ chunk) ≡ length came + chunk_end o came chunk
 cut_some o came chunk some = last_cut-append o came chunk ∙ joined_some (last_cut o came) (length came) (chunk_end o came chunk) some
 
-take-append-add : (front back : List ℕ) (n : ℕ) → take (length front + n) (front ++ back) ≡ front ++ take n back
+pub take-append-add : (front back : List ℕ) (n : ℕ) → take (length front + n) (front ++ back) ≡ front ++ take n back
 take-append-add [] back n = let same : 0 + n ≡ n = omega arith in ap (λ (k : ℕ). take k back) same
 take-append-add (b ∷ front) back n =
     let same : suc (length front) + n ≡ suc (length front + n) = omega arith in

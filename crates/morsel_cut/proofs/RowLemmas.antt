@@ -15,11 +15,11 @@ use Rattle.morsel_cut.specs.FirstEnds.{record_size}
 use Rattle.morsel_cut.specs.RowCounts.{is_row, row_count, up_to_header, EndsHead}
 use Rattle.morsel_cut.proofs.SizeLemmas.{HasFirst, has_first, record_size-le, record_size-some}
 
-nothing_left : (o : Dialect) (bytes : List ℕ) (at : ℕ) (records : List CsvRecord) → length bytes ≤ at → Records o (drop at bytes) records → records ≡ []
+pub nothing_left : (o : Dialect) (bytes : List ℕ) (at : ℕ) (records : List CsvRecord) → length bytes ≤ at → Records o (drop at bytes) records → records ≡ []
 nothing_left o bytes at [] over are = refl
 nothing_left o bytes at (r ∷ records) over are = absurd (are.0 (drop_all at bytes over))
 
-something_left : (o : Dialect) (bytes : List ℕ) (at : ℕ) → at < length bytes → Records o (drop at bytes) [] → ⊥
+pub something_left : (o : Dialect) (bytes : List ℕ) (at : ℕ) → at < length bytes → Records o (drop at bytes) [] → ⊥
 something_left o bytes at within none =
     let size : length (drop at bytes) ≡ 0 = ap length none in
     omega (arith, size, length-drop at bytes)

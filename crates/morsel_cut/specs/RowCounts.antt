@@ -1,12 +1,12 @@
 -- How many rows records are, and where the header of a text ends.
-use Rattle.std.specs.Prelude.{◌≡◌, ℕ, ◌+◌, ◌≤◌, Bool, true, false, not, ◌||◌, ◌==◌, if◌then◌else◌, Some, List, [], ◌∷◌, ◌++◌, length, take, drop}
+use Rattle.std.specs.Prelude.{◌≡◌, ◌⊎◌, ℕ, ◌+◌, ◌≤◌, Bool, true, false, not, ◌||◌, ◌==◌, if◌then◌else◌, Some, List, [], ◌∷◌, ◌++◌, length, take, drop}
 use Rattle.std.specs.List.{count_by}
 use Rattle.morsel_meaning.specs.declared.value.ColType.{ColType}
 use Rattle.morsel_grammar.specs.Dialect.{Dialect}
 use Rattle.morsel_grammar.specs.Grammar.{CsvRecord, Comment, Fields, Records}
 use Rattle.morsel_grammar.specs.Cells.{CsvCell}
 use Rattle.morsel_grammar.specs.Rows.{is_empty, is_header, behind_header, rows_of_records}
-use Rattle.morsel_grammar.specs.GrammarRows.{awaits_header_after}
+use Rattle.morsel_grammar.specs.GrammarRows.{AreWholeRecords, awaits_header_after}
 use Rattle.morsel_cut.specs.declared.header.HeadEnd.{HeadEnd}
 
 -- whether a record after the header is a row of so many columns, or would be one if it had as many fields: a comment is none, and an empty record is one of one column alone
@@ -42,3 +42,7 @@ pub record EndsHead (o : Dialect) (text : List ℕ) (records : List CsvRecord) (
   pub front : Records o (take end.len text) (up_to_header records)
   pub back : Records o (drop end.len text) (behind_header true records)
   pub awaits : end.awaits_header ≡ awaits_header_after true records
+
+-- the records up to the header, which take so many bytes of the text, end with their eol bytes, unless the text ends with them
+abbrev pub EndsHeadWhole : Dialect → List ℕ → List CsvRecord → ℕ → Type 0
+EndsHeadWhole o text records len = AreWholeRecords o (take len text) (up_to_header records) ⊎ (length text ≤ len)

@@ -1,7 +1,7 @@
 //! Where the header of a text ends.
 ghost use Rattle.std.specs.Prelude.{◌≡◌, ◌≤◌, List, length};
 ghost use Rattle.morsel_grammar.specs.Grammar.{CsvRecord, Records};
-ghost use Rattle.morsel_cut.specs.RowCounts.{EndsHead};
+ghost use Rattle.morsel_cut.specs.RowCounts.{EndsHead, EndsHeadWhole};
 
 use crate::record::{is_header, record_size};
 use morsel_grammar::CsvOptions;
@@ -20,6 +20,7 @@ pub struct HeadEnd {
 pub fn head_end(bytes: &[u8], options: &CsvOptions) -> HeadEnd
     ensures within { result.len ≤ length bytes.now }
     ensures ends { (records : List CsvRecord) → Records options.now bytes.now records → EndsHead options.now bytes.now records result }
+    ensures whole { (records : List CsvRecord) → Records options.now bytes.now records → EndsHeadWhole options.now bytes.now records result.len }
 {
     let mut at = 0;
     while at < bytes.len() {

@@ -34,3 +34,11 @@ mod AxisFacts
 pub mod RowEndLemmas
 pub mod UnreadLemmas
 pub mod TextLemmas
+pub mod ChunkLemmas
+pub mod BlockLemmas
+pub mod GoingLemmas
+pub mod FrontLemmas
+pub mod HeaderLemmas
+pub mod RowStretchLemmas
+pub mod PassingLemmas
+pub mod FoundLemmas

@@ -15,3 +15,8 @@ pub mod CsvAxis
 pub mod StretchLaws
 pub mod CsvAxisLaws
 pub mod ScanFlaws
+pub mod FileReads
+pub mod Blocks
+pub mod Chunks
+pub mod RowBlocks
+pub mod BlockRows

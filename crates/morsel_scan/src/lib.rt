@@ -6,6 +6,7 @@ mod decode_steps;
 mod filter_step;
 mod laws;
 mod place_laws;
+mod reader;
 mod source;
 mod source_columns;
 mod source_fields;
@@ -32,5 +33,6 @@ pub use place_laws::{
     places_give_part_by_part, places_give_the_rows_of_the_scan, places_give_what_the_scan_means,
     stretches_follow_one_another,
 };
+pub use reader::{BlockReader, RowBlock, RowReader};
 pub use source::CsvSourceNode;
 pub use spec::{FileScanOptions, RowIndex, ScanFormat, ScanSpec};
