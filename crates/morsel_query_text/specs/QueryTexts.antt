@@ -9,7 +9,7 @@ use Rattle.morsel_meaning.specs.declared.value.ColType.TheVariants as types
 use Rattle.morsel_meaning.specs.declared.value.Field.{Field}
 use Rattle.morsel_scan.specs.declared.spec.RowIndex.{RowIndex}
 use Rattle.morsel_query.specs.RunOptions.{RunOptions, standard_options}
-use Rattle.morsel_query_text.specs.Trees.{has_only, at_key, IsAtKey, some_of, text_or_null, number, short_number, signed_number, list_of, pair_of}
+use Rattle.morsel_query_text.specs.Trees.{has_only, at_key, IsAtKey, some_of, text_or_null, number, narrow_number, signed_number, list_of, pair_of}
 use Rattle.morsel_query_text.specs.Predicates.{predicate}
 use Rattle.morsel_query_text.specs.Written.{WrittenCsv, WrittenFormat, WrittenCsvFiles, WrittenScan, WrittenSink, WrittenNdJson, WrittenQuery, standard_csv}
 
@@ -27,7 +27,7 @@ field tree = option_map (λ (pair : List ℕ × ColType). record { name = pair.0
 
 -- `[name, offset]`
 abbrev pub row_index : Data → Option RowIndex
-row_index tree = option_map (λ (pair : List ℕ × ℕ). record { name = pair.0; offset = pair.1 }) (pair_of as_str short_number tree)
+row_index tree = option_map (λ (pair : List ℕ × ℕ). record { name = pair.0; offset = pair.1 }) (pair_of as_str narrow_number tree)
 
 -- ---- objects
 

@@ -49,8 +49,8 @@ abbrev pub number : Data → Option ℕ
 number tree = option_and_then as_u64 (as_number tree)
 
 -- such a number of 32 bits
-abbrev pub short_number : Data → Option ℕ
-short_number tree = option_and_then (λ n. if nat_lt n (2 ^ 32) then Some n else None) (number tree)
+abbrev pub narrow_number : Data → Option ℕ
+narrow_number tree = option_and_then (λ n. if nat_lt n (2 ^ 32) then Some n else None) (number tree)
 
 -- a number of 64 bits with a sign; what is below 0 has one
 abbrev pub integer_of : Num → Option ℤ

@@ -2,7 +2,7 @@
 ghost use Rattle.std.specs.Prelude.{◌≡◌, Some, None, [], IfOk, IfErr, option_map, option_and_then};
 ghost use Rattle.serde_json.specs.Find.{as_str, as_array};
 ghost use Rattle.serde_json.specs.View.{view, items_view};
-ghost use Rattle.morsel_query_text.specs.Trees.{at_key, some_of, each_as, list_of, pair_of, two_items, number, short_number, signed_number};
+ghost use Rattle.morsel_query_text.specs.Trees.{at_key, some_of, each_as, list_of, pair_of, two_items, number, narrow_number, signed_number};
 ghost use Rattle.morsel_query_text.specs.QueryTexts.{type_named, field, row_index};
 ghost use Rattle.morsel_query_text.specs.Reads.{Refused};
 
@@ -218,7 +218,7 @@ fn row_index_of(alloc: Global, tree: &Value) -> Result<RowIndex, Fault>
     let Some((name, offset)) = pair_of(tree) else {
         return Err(Fault::QueryText);
     };
-    let Some(offset) = short_number(offset) else {
+    let Some(offset) = narrow_number(offset) else {
         return Err(Fault::QueryText);
     };
     Ok(RowIndex {
@@ -228,8 +228,8 @@ fn row_index_of(alloc: Global, tree: &Value) -> Result<RowIndex, Fault>
 }
 
 /// A number of 32 bits.
-fn short_number(tree: &Value) -> Option<u32>
-    ensures { result ≡ short_number (view tree.now) }
+fn narrow_number(tree: &Value) -> Option<u32>
+    ensures { result ≡ narrow_number (view tree.now) }
 {
     let n = tree.as_u64()?;
     if n <= u64::from(u32::MAX) {
