@@ -3,7 +3,7 @@ use Rattle.std.proofs.Common.{◌≡◌, ℕ, suc, ◌+◌, ◌∙◌, sym, ap, 
 use Rattle.std.proofs.lemmas.List.Sums.{sum_by-append, sum_by-cons}
 use Rattle.std.specs.Prelude.{Option, Some, None, not, ◌||◌, if◌then◌else◌}
 use Rattle.morsel_meaning.specs.declared.value.ColType.{ColType}
-use Rattle.morsel_grammar.specs.Options.{Options}
+use Rattle.morsel_grammar.specs.Dialect.{Dialect}
 use Rattle.morsel_grammar.specs.Grammar.{CsvRecord, Comment, Fields}
 use Rattle.morsel_grammar.specs.Cells.{CsvCell}
 use Rattle.morsel_grammar.specs.Rows.{RowOf, NoRow, IsRow, Misfit, is_empty, cells_of, row_of_nothing, row_or_misfit, row_of, with_first_row, rows_of_records}
@@ -27,7 +27,7 @@ cells_agree : (columns : ℕ) (cells : Option (List CsvCell)) → Agrees (row_or
 cells_agree columns None = tt
 cells_agree columns (Some cells) = either_second (columns == 1) true refl
 
-pub record_agrees : (o : Options) (kinds : List ColType) (r : CsvRecord) → Agrees (row_of o kinds r) (is_row (length kinds) r)
+pub record_agrees : (o : Dialect) (kinds : List ColType) (r : CsvRecord) → Agrees (row_of o kinds r) (is_row (length kinds) r)
 record_agrees o kinds (Comment body) = refl
 record_agrees o kinds (Fields fields) = by (is_empty fields)
   where
@@ -47,7 +47,7 @@ one_more (IsRow cells) counts (Some found) n rows agrees more is =
     omega (arith, one, size, more found refl)
 one_more Misfit counts later n rows agrees more is = cc
 
-counts_all : (o : Options) (kinds : List ColType) (records : List CsvRecord) (rows : List (List CsvCell)) → rows_of_records o kinds records ≡ Some rows
+counts_all : (o : Dialect) (kinds : List ColType) (records : List CsvRecord) (rows : List (List CsvCell)) → rows_of_records o kinds records ≡ Some rows
     → length rows ≡ row_count (length kinds) records
 counts_all o kinds [] rows is = let none : [] ≡ rows = cc in sym (ap length none)
 counts_all o kinds (r ∷ records) rows is =
@@ -55,7 +55,7 @@ counts_all o kinds (r ∷ records) rows is =
     (record_agrees o kinds r) (λ later found. counts_all o kinds records later found) is
     ∙ sym (sum_by-cons (λ (x : CsvRecord). cond (is_row (length kinds) x) 1 0) r records)
 
-pub counts_rows : (o : Options) → CountsRows o
+pub counts_rows : (o : Dialect) → CountsRows o
 counts_rows o = λ kinds records rows is. counts_all o kinds records rows is
 
 pub adds_rows : AddsRows

@@ -5,7 +5,7 @@ use Rattle.std.proofs.lemmas.List.Sums.{sum_by-append, sum_by-cons, sum_by-take-
 use Rattle.std.proofs.lemmas.Bool.{eq-eqb}
 use Rattle.std.specs.List.{count_by}
 use Rattle.std.specs.Prelude.{Option, Some, None, not, ◌⊎◌, if◌then◌else◌, is_some}
-use Rattle.morsel_grammar.specs.Options.{Options, AreOptions}
+use Rattle.morsel_grammar.specs.Dialect.{Dialect, IsDialect}
 use Rattle.morsel_grammar.specs.Grammar.{CsvRecord, Records}
 use Rattle.morsel_grammar.specs.GrammarRows.{AreWholeRecords}
 use Rattle.morsel_grammar.specs.Split.{is_quote, comment_body, record_at}
@@ -27,7 +27,7 @@ use Rattle.morsel_cut.proofs.SizeLemmas.{has_first, quiet_size, rest_at_size, re
 use Rattle.morsel_cut.proofs.RowLemmas.{HasCounted}
 use Rattle.morsel_cut.proofs.BlankLemmas.{row_at, row_by, blank_no, separator_no_eol}
 
-eol_step : (o : Options) (b : ℕ) → AreOptions o → (b == o.eol) ≡ true → plain_step o b ≡ AfterEol
+eol_step : (o : Dialect) (b : ℕ) → IsDialect o → (b == o.eol) ≡ true → plain_step o b ≡ AfterEol
 eol_step o b fit is = by (b == o.separator) refl
   where
     by : (t : Bool) → (b == o.separator) ≡ t → (if t then AfterSeparator else (if b == o.eol then AfterEol else InPlain)) ≡ AfterEol
@@ -35,7 +35,7 @@ eol_step o b fit is = by (b == o.separator) refl
     by false other = ap (λ (t : Bool). if t then AfterEol else InPlain) is
 
 -- lines without quotes may be cut at their end
-pub lines_end : (o : Options) (lines : List ℕ) (n : ℕ) → AreOptions o → o.comment ≡ None → AreUnquoted o.quote lines → length lines ≡ suc n → (get_or lines n 0 == o.eol) ≡ true
+pub lines_end : (o : Dialect) (lines : List ℕ) (n : ℕ) → IsDialect o → o.comment ≡ None → AreUnquoted o.quote lines → length lines ≡ suc n → (get_or lines n 0 == o.eol) ≡ true
     → (cut_after o (first_state o AfterEol) lines).place ≡ AfterEol
 lines_end o lines n fit none unquoted size last =
     ap (λ (s : CutState). (cut_after o s lines).place) (quiet_start o AfterEol none)
@@ -50,7 +50,7 @@ count_of byte text = count_by (λ (b : ℕ). b == byte) text
 count_cons : (byte b : ℕ) (bs : List ℕ) → count_of byte (b ∷ bs) ≡ cond (b == byte) 1 0 + count_of byte bs
 count_cons byte b bs = sum_by-cons (λ (x : ℕ). cond (x == byte) 1 0) b bs
 
-eol_byte : (o : Options) (next : CutPlace) (b : ℕ) (bs : List ℕ) (t : Bool) → (b == o.eol) ≡ t → 0 < count_of o.eol (b ∷ bs)
+eol_byte : (o : Dialect) (next : CutPlace) (b : ℕ) (bs : List ℕ) (t : Bool) → (b == o.eol) ≡ t → 0 < count_of o.eol (b ∷ bs)
     → (0 < count_of o.eol bs → count_of o.eol (take (first_place (place_step o) is_after_eol next bs) bs) ≡ 1)
     → count_of o.eol (take (if t then 1 else suc (first_place (place_step o) is_after_eol next bs)) (b ∷ bs)) ≡ 1
 eol_byte o next b bs true is some more =
@@ -63,7 +63,7 @@ eol_byte o next b bs false goes some more =
     omega (arith, none, count_cons o.eol b (take (first_place (place_step o) is_after_eol next bs) bs), more left)
 
 -- up to the first end there is one eol byte
-one_eol : (o : Options) (place : CutPlace) (lines : List ℕ) → o.separator ≢ o.eol → IsOutside place → AreUnquoted o.quote lines → 0 < count_of o.eol lines
+one_eol : (o : Dialect) (place : CutPlace) (lines : List ℕ) → o.separator ≢ o.eol → IsOutside place → AreUnquoted o.quote lines → 0 < count_of o.eol lines
     → count_of o.eol (take (first_place (place_step o) is_after_eol place lines) lines) ≡ 1
 one_eol o place [] apart outside unquoted some = absurd (omega arith)
 one_eol o place (b ∷ bs) apart outside unquoted some =
@@ -109,7 +109,7 @@ may_count_behind columns eol size lines line rest is size_is rest_is (inl one) =
 may_count_behind columns eol size lines line rest is size_is rest_is (inr without) = inr (without_behind eol size lines line rest is size_is rest_is without)
 
 -- as many eol bytes as rows
-pub lines_rows : (o : Options) (columns : ℕ) (records : List CsvRecord) (lines : List ℕ) → AreOptions o → o.comment ≡ None → AreUnquoted o.quote lines → MayCount columns o.eol lines
+pub lines_rows : (o : Dialect) (columns : ℕ) (records : List CsvRecord) (lines : List ℕ) → IsDialect o → o.comment ≡ None → AreUnquoted o.quote lines → MayCount columns o.eol lines
     → AreWholeRecords o lines records → count_of o.eol lines ≡ row_count columns records
 lines_rows o columns [] lines fit none unquoted may whole = ap (count_of o.eol) whole
 lines_rows o columns (r ∷ records) lines fit none unquoted may (line, rest, is, first, later) =
@@ -170,7 +170,7 @@ up_to_last-ends byte (b ∷ bs) n size = by (up_to_last byte bs) refl (λ later 
         let size_is : place_or_later (b == byte) (suc later) ≡ suc n = ap (place_or_later (b == byte)) (sym found) ∙ size in
         ends_later byte b bs (b == byte) (suc later) later refl (λ e. more later found) n size_is (inl refl)
 
-pub are_plain_lines : (o : Options) (text : List ℕ) (len n eol : ℕ) → AreOptions o → o.comment ≡ None → len ≤ length text
+pub are_plain_lines : (o : Dialect) (text : List ℕ) (len n eol : ℕ) → IsDialect o → o.comment ≡ None → len ≤ length text
     → ((k : ℕ) → k < len → is_quote o.quote (get_or text k 0) ≡ false) → eol ≡ o.eol → n ≡ up_to_last eol (take len text) → 0 < n → ArePlainLines o (take n text)
 are_plain_lines o text len n eol fit none within unquoted eol_is n_is some =
     let front : length (take len text) ≡ len = length-take-le len text within in
@@ -188,7 +188,7 @@ are_plain_lines o text len n eol fit none within unquoted eol_is n_is some =
     }
 
 -- the rows of the lines that a text begins with, and then those of what follows
-pub takes_lines : (o : Options) (columns : ℕ) (text : List ℕ) (len rows : ℕ) (all : List CsvRecord) → ArePlainLines o (take len text)
+pub takes_lines : (o : Dialect) (columns : ℕ) (text : List ℕ) (len rows : ℕ) (all : List CsvRecord) → ArePlainLines o (take len text)
     → ((records : List CsvRecord) → AreWholeRecords o (take len text) records → rows ≡ row_count columns records) → Records o text all → TakesRows o columns text all len rows
 takes_lines o columns text len rows all lines counted are =
     let whole = start_whole o (take len text) lines.fit (lines_end o (take len text) lines.last lines.fit lines.no_comments lines.unquoted lines.size lines.ends) in
@@ -199,7 +199,7 @@ takes_lines o columns text len rows all lines counted are =
     (behind.0, behind.2, omega (arith, parts, counted whole.0 whole.1))
 
 -- the row of the first record, if it is one
-pub takes_first : (o : Options) (columns : ℕ) (text : List ℕ) (size rows : ℕ) (test : Bool) (all : List CsvRecord) → AreOptions o → 0 < length text → size ≡ record_size o text
+pub takes_first : (o : Dialect) (columns : ℕ) (text : List ℕ) (size rows : ℕ) (test : Bool) (all : List CsvRecord) → IsDialect o → 0 < length text → size ≡ record_size o text
     → ((r : CsvRecord) (after : List ℕ) → record_at o text ≡ Some (r, after) → test ≡ is_row columns r) → rows ≡ (if test then 1 else 0)
     → Records o text all → TakesRows o columns text all size rows
 takes_first o columns text size rows test [] fit some size_is test_is rows_is are = let none : length text ≡ 0 = ap length are in absurd (omega arith)
@@ -212,13 +212,13 @@ takes_first o columns text size rows test (r ∷ all) fit some size_is test_is r
     )
 
 -- whole records are records
-pub whole_records : (o : Options) (text : List ℕ) (records : List CsvRecord) → AreOptions o → AreWholeRecords o text records → Records o text records
+pub whole_records : (o : Dialect) (text : List ℕ) (records : List CsvRecord) → IsDialect o → AreWholeRecords o text records → Records o text records
 whole_records o text records fit whole =
     subst (λ (x : List ℕ). Records o x records) (append-nil text)
     (subst (λ (x : List CsvRecord). Records o (text ++ []) x) (append-nil records) (records_joined o text [] records [] fit whole refl))
 
 -- one step of a count
-pub counts_more : (o : Options) (columns : ℕ) (bytes rest : List ℕ) (at len rows more : ℕ) (records : List CsvRecord) → rest ≡ drop at bytes → HasCounted o columns bytes at rows records
+pub counts_more : (o : Dialect) (columns : ℕ) (bytes rest : List ℕ) (at len rows more : ℕ) (records : List CsvRecord) → rest ≡ drop at bytes → HasCounted o columns bytes at rows records
     → ((all : List CsvRecord) → Records o rest all → TakesRows o columns rest all len more) → HasCounted o columns bytes (at + len) (rows + more) records
 counts_more o columns bytes rest at len rows more records rest_is has takes =
     let taken = takes has.left (subst (λ (x : List ℕ). Records o x has.left) (sym rest_is) has.are) in

@@ -2,7 +2,7 @@
 use Rattle.std.proofs.Common.{◌≡◌, ℕ, ◌+◌, ◌<◌, ◌≤◌, ◌∙◌, sym, ap, refl, arith, subst, Bool, true, false, List, [], ◌∷◌, ◌++◌, length, take, get_or}
 use Rattle.std.proofs.lemmas.List.{length-take-le, take_more}
 use Rattle.std.specs.Prelude.{Option, None, if◌then◌else◌}
-use Rattle.morsel_grammar.specs.Options.{Options}
+use Rattle.morsel_grammar.specs.Dialect.{Dialect}
 use Rattle.morsel_grammar.specs.Machine.{CutPlace, CutState, InComment, no_byte_matched, is_whole_prefix, first_state, state_after, last_place, place_or_later, joined_place, place_step, cut_step, cut_after, is_after_eol, begins_record}
 use Rattle.morsel_cut.specs.Places.{cut_place, cut_state, options_with, sign_options}
 use Rattle.morsel_cut.specs.Runs.{RunsTo, Passes}
@@ -27,7 +27,7 @@ one_more step test s front b before len last s' before_is len_is s'_is last_is =
     by true = len_is
     by false = before_is
 
-pub passes_on : (o : Options) (s : CutState) (text : List ℕ) (at : ℕ) (passed : Passed) (standing : Standing) (next : Passed) → at < length text → Passes o s (take at text) passed
+pub passes_on : (o : Dialect) (s : CutState) (text : List ℕ) (at : ℕ) (passed : Passed) (standing : Standing) (next : Passed) → at < length text → Passes o s (take at text) passed
     → cut_state standing ≡ cut_step o (cut_state passed.standing) (get_or text at 0) → next.standing ≡ standing
     → next.end ≡ (if is_after_eol (cut_place standing.place) then at + 1 else passed.end)
     → next.begin ≡ (if begins_record (cut_place standing.place) then at + 1 else passed.begin)
@@ -43,21 +43,21 @@ passes_on o s text at passed standing next within first state_is same end_is beg
       begin_is = one_more (cut_step o) (λ (x : CutState). begins_record x.place) s front b passed.begin (at + 1) next.begin (cut_state standing) first.begin_is size stepped begin_is;
     })
 
-pub passed_end-le : (o : Options) (s : CutState) (bytes : List ℕ) (passed : Passed) → Passes o s bytes passed → passed.end ≤ length bytes
+pub passed_end-le : (o : Dialect) (s : CutState) (bytes : List ℕ) (passed : Passed) → Passes o s bytes passed → passed.end ≤ length bytes
 passed_end-le o s bytes passed passes = omega (arith, passes.end_is, last_place-within (cut_step o) (λ (x : CutState). is_after_eol x.place) s bytes)
 
-pub passed_begin-le : (o : Options) (s : CutState) (bytes : List ℕ) (passed : Passed) → Passes o s bytes passed → passed.begin ≤ length bytes
+pub passed_begin-le : (o : Dialect) (s : CutState) (bytes : List ℕ) (passed : Passed) → Passes o s bytes passed → passed.begin ≤ length bytes
 passed_begin-le o s bytes passed passes = omega (arith, passes.begin_is, last_place-within (cut_step o) (λ (x : CutState). begins_record x.place) s bytes)
 
 -- without comments a state is its place
-pub quiet_start : (o : Options) (place : CutPlace) → o.comment ≡ None → first_state o place ≡ lone place
+pub quiet_start : (o : Dialect) (place : CutPlace) → o.comment ≡ None → first_state o place ≡ lone place
 quiet_start o place none = ap (λ (c : Option (List ℕ)). let s : CutState = record { matched = no_byte_matched c; place = place } in s) none
 
 same_either : (t : Bool) (s : CutState) → (if t then s else s) ≡ s
 same_either true s = refl
 same_either false s = refl
 
-pub quiet_step : (o : Options) (place : CutPlace) (b : ℕ) → o.comment ≡ None → cut_step o (lone place) b ≡ lone (place_step o place b)
+pub quiet_step : (o : Dialect) (place : CutPlace) (b : ℕ) → o.comment ≡ None → cut_step o (lone place) b ≡ lone (place_step o place b)
 quiet_step o place b none =
     let next = place_step o place b in
     step_lost o place b
@@ -65,11 +65,11 @@ quiet_step o place b none =
     if begins_record next then begun else (if is_whole_prefix c None then lone InComment else lone next)) none
     ∙ same_either (begins_record next) (lone next)
 
-pub quiet_after : (o : Options) (place : CutPlace) (bytes : List ℕ) → o.comment ≡ None → state_after (cut_step o) (lone place) bytes ≡ lone (state_after (place_step o) place bytes)
+pub quiet_after : (o : Dialect) (place : CutPlace) (bytes : List ℕ) → o.comment ≡ None → state_after (cut_step o) (lone place) bytes ≡ lone (state_after (place_step o) place bytes)
 quiet_after o place [] none = refl
 quiet_after o place (b ∷ bs) none = ap (λ (s : CutState). state_after (cut_step o) s bs) (quiet_step o place b none) ∙ quiet_after o (place_step o place b) bs none
 
-quiet_last : (o : Options) (test : CutPlace → Bool) (place : CutPlace) (bytes : List ℕ) → o.comment ≡ None
+quiet_last : (o : Dialect) (test : CutPlace → Bool) (place : CutPlace) (bytes : List ℕ) → o.comment ≡ None
     → last_place (cut_step o) (λ (s : CutState). test s.place) (lone place) bytes ≡ last_place (place_step o) test place bytes
 quiet_last o test place [] none = refl
 quiet_last o test place (b ∷ bs) none =

@@ -1,7 +1,7 @@
 -- Pieces of worked texts that come in chunks.
 use Rattle.std.proofs.Common.{◌≡◌, refl}
 use Rattle.std.specs.Prelude.{List, ℕ, [], ◌∷◌, codes}
-use Rattle.morsel_grammar.specs.Options.{standard}
+use Rattle.morsel_grammar.specs.Dialect.{standard}
 use Rattle.morsel_cut.specs.Pieces.{cut_pieces, cut_rest, cut_texts, texts_unmarked, rest_begins}
 
 -- a chunk with two ends, one that ends the record begun in it, and one without an end

@@ -6,7 +6,7 @@ use Rattle.std.specs.Prelude.{Bool, Option, Some, None, List, [], ◌∷◌, ◌
 use Rattle.std.specs.List.{All, concat}
 use Rattle.morsel_meaning.specs.declared.value.ColType.{ColType}
 use Rattle.morsel_meaning.specs.Values.{Row}
-use Rattle.morsel_grammar.specs.Options.{Options, AreOptions}
+use Rattle.morsel_grammar.specs.Dialect.{Dialect, IsDialect}
 use Rattle.morsel_grammar.specs.Grammar.{CsvRecord, IsRecord}
 use Rattle.morsel_grammar.specs.Cells.{CsvCell}
 use Rattle.morsel_grammar.specs.Rows.{mark_len, unmarked}
@@ -53,7 +53,7 @@ joined_read_end used rows head None = ap (λ (x : List (ℕ × Row)). let all : 
 joined_read_end used rows head (Some refusal) = refl
 
 -- pieces of whole records, and then a rest
-each_whole : (o : Options) (kinds : List ColType) (head : Bool) (at : ℕ) (pieces : List (List ℕ)) (rest : List ℕ) → AreOptions o → All (IsWhole o) pieces
+each_whole : (o : Dialect) (kinds : List ColType) (head : Bool) (at : ℕ) (pieces : List (List ℕ)) (rest : List ℕ) → IsDialect o → All (IsWhole o) pieces
     → reading o kinds head at (concat pieces ++ rest) ≡ reading_each o kinds head at (pieces ++ rest ∷ [])
 each_whole o kinds head at [] rest fit whole =
     let all : Reading = reading o kinds head at rest in sym (joined_at_end all.rows all.head all.refusal)
@@ -66,7 +66,7 @@ each_whole o kinds head at (piece ∷ pieces) rest fit whole =
     (λ awaits_header. reading_each o kinds awaits_header place (pieces ++ rest ∷ []))
     (λ awaits_header. each_whole o kinds awaits_header place pieces rest fit (All-tail (IsWhole o) piece pieces whole))
 
-rows_each_whole : (o : Options) (kinds : List ColType) (used : List Bool) (head : Bool) (at : ℕ) (pieces : List (List ℕ)) (rest : List ℕ) → AreOptions o → All (IsWhole o) pieces
+rows_each_whole : (o : Dialect) (kinds : List ColType) (used : List Bool) (head : Bool) (at : ℕ) (pieces : List (List ℕ)) (rest : List ℕ) → IsDialect o → All (IsWhole o) pieces
     → read_of used (reading o kinds head at (concat pieces ++ rest)) ≡ read_each o kinds used head at (pieces ++ rest ∷ [])
 rows_each_whole o kinds used head at [] rest fit whole =
     let all : Read = read_of used (reading o kinds head at rest) in sym (joined_read_end used all.rows all.head all.refusal)
@@ -85,7 +85,7 @@ unmarked_split : (piece later text : List ℕ) → piece ++ later ≡ text → m
 unmarked_split piece later text split same =
     ap unmarked (sym split) ∙ ap (λ (n : ℕ). drop n (piece ++ later)) (ap mark_len split ∙ sym same) ∙ drop-append-le (mark_len piece) piece later (mark_len-within piece)
 
-file_each : (o : Options) (kinds : List ColType) (head : Bool) (at : ℕ) (pieces : List (List ℕ)) (rest text : List ℕ) → AreOptions o → concat pieces ++ rest ≡ text
+file_each : (o : Dialect) (kinds : List ColType) (head : Bool) (at : ℕ) (pieces : List (List ℕ)) (rest text : List ℕ) → IsDialect o → concat pieces ++ rest ≡ text
     → first_mark (pieces ++ rest ∷ []) ≡ mark_len text → All (IsWhole o) (texts_unmarked pieces)
     → reading o kinds head at (unmarked text) ≡ reading_each o kinds head at (texts_unmarked (pieces ++ rest ∷ []))
 file_each o kinds head at [] rest text fit split same whole =
@@ -95,7 +95,7 @@ file_each o kinds head at (piece ∷ pieces) rest text fit split same whole =
     ap (reading o kinds head at) (unmarked_split piece (concat pieces ++ rest) text later same ∙ sym (append_assoc (unmarked piece) (concat pieces) rest))
     ∙ each_whole o kinds head at (unmarked piece ∷ pieces) rest fit whole
 
-rows_file_each : (o : Options) (kinds : List ColType) (used : List Bool) (head : Bool) (at : ℕ) (pieces : List (List ℕ)) (rest text : List ℕ) → AreOptions o → concat pieces ++ rest ≡ text
+rows_file_each : (o : Dialect) (kinds : List ColType) (used : List Bool) (head : Bool) (at : ℕ) (pieces : List (List ℕ)) (rest text : List ℕ) → IsDialect o → concat pieces ++ rest ≡ text
     → first_mark (pieces ++ rest ∷ []) ≡ mark_len text → All (IsWhole o) (texts_unmarked pieces)
     → read_of used (reading o kinds head at (unmarked text)) ≡ read_each o kinds used head at (texts_unmarked (pieces ++ rest ∷ []))
 rows_file_each o kinds used head at [] rest text fit split same whole =
@@ -105,18 +105,18 @@ rows_file_each o kinds used head at (piece ∷ pieces) rest text fit split same 
     ap (λ (x : List ℕ). read_of used (reading o kinds head at x)) (unmarked_split piece (concat pieces ++ rest) text later same ∙ sym (append_assoc (unmarked piece) (concat pieces) rest))
     ∙ rows_each_whole o kinds used head at (unmarked piece ∷ pieces) rest fit whole
 
-pub reads_cut_texts : (o : Options) → AreOptions o → ReadsCutTexts o
+pub reads_cut_texts : (o : Dialect) → IsDialect o → ReadsCutTexts o
 reads_cut_texts o fit = λ kinds head chunks.
     file_each o kinds head (mark_len (concat chunks)) (cut_pieces o chunks) (cut_rest o chunks) (concat chunks) fit
     (joins_cut_texts o chunks) (marks_first o fit chunks) (cuts_whole o fit chunks)
 
-pub reads_rows_of_cut_texts : (o : Options) → AreOptions o → ReadsRowsOfCutTexts o
+pub reads_rows_of_cut_texts : (o : Dialect) → IsDialect o → ReadsRowsOfCutTexts o
 reads_rows_of_cut_texts o fit = λ kinds used head chunks.
     rows_file_each o kinds used head (mark_len (concat chunks)) (cut_pieces o chunks) (cut_rest o chunks) (concat chunks) fit
     (joins_cut_texts o chunks) (marks_first o fit chunks) (cuts_whole o fit chunks)
 
 -- where a file stops
-stops_at_begin : (o : Options) (text : List ℕ) → AreOptions o → RefusesEnd (cut_after o (first_state o AtOpening) text)
+stops_at_begin : (o : Dialect) (text : List ℕ) → IsDialect o → RefusesEnd (cut_after o (first_state o AtOpening) text)
     → StopsAtRecord o text (last_begin o (first_state o AtOpening) text)
 stops_at_begin o text fit refuses =
     let before = begins_after_whole o fit AtOpening text tt in
@@ -130,19 +130,19 @@ stops_at_begin o text fit refuses =
       refused = refuses_open_end o fit AtOpening text tt refuses;
     }
 
-pub stops_at_open_end : (o : Options) → AreOptions o → StopsAtOpenEnd o
+pub stops_at_open_end : (o : Dialect) → IsDialect o → StopsAtOpenEnd o
 stops_at_open_end o fit = λ file text refuses.
     let P : ℕ → Type 0 = λ at. StopsAtRecord o text at in
     subst P (sym (begun_of o file text)) (stops_at_begin o text fit refuses)
 
-begun_still : (o : Options) (file : ℕ) (text more : List ℕ) → RefusesRecord (cut_after o (first_state o AtOpening) text)
+begun_still : (o : Dialect) (file : ℕ) (text more : List ℕ) → RefusesRecord (cut_after o (first_state o AtOpening) text)
     → (fed_with (cut_opening o file) (text ++ more)).begun ≡ (fed_with (cut_opening o file) text).begun
 begun_still o file text more refused =
     let c = fed_with (cut_opening o file) text in
     carries_begun o (first_state o AtOpening) 0 0 text more
     ∙ (refuses_for_good o (cut_after o (first_state o AtOpening) text) more refused).2 (0 + length text) c.begun
 
-pub stops_at_refused : (o : Options) → AreOptions o → StopsAtRefused o
+pub stops_at_refused : (o : Dialect) → IsDialect o → StopsAtRefused o
 stops_at_refused o fit = λ file text more refused.
     let opening : CutState = first_state o AtOpening in
     let still : cut_after o opening (text ++ more) ≡ cut_after o opening text =
@@ -152,20 +152,20 @@ stops_at_refused o fit = λ file text more refused.
     subst P (begun_still o file text more refused) (stops_at_open_end o fit file (text ++ more) (subst Q (sym still) (inr refused.1)))
 
 -- nothing is read where no record begins
-some_rest : (o : Options) (rest : List ℕ) → AreOptions o → BeginsNoRecord o rest → rest ≢ []
+some_rest : (o : Dialect) (rest : List ℕ) → IsDialect o → BeginsNoRecord o rest → rest ≢ []
 some_rest o rest fit never = λ none.
     let found = reads_to_first_end o fit [] [] (inr (refl, refl, may_end (start o) tt)) in
     let P : List ℕ → Type 0 = λ x. IsRecord o found.0 x [] in
     never found.0 [] (subst P (sym none) ((reads_by_grammar o fit [] found.0 []).0 found.1))
 
-reading_refused : (o : Options) (kinds : List ColType) (head : Bool) (at : ℕ) (rest : List ℕ) → AreOptions o → BeginsNoRecord o rest
+reading_refused : (o : Dialect) (kinds : List ColType) (head : Bool) (at : ℕ) (rest : List ℕ) → IsDialect o → BeginsNoRecord o rest
     → reading o kinds head at rest ≡ refuses head at Malformed
 reading_refused o kinds head at rest fit never =
     reading-split o kinds head at rest fit (some_rest o rest fit never)
     ∙ ap (λ (found : Option (CsvRecord × List ℕ)). split_then o kinds head at rest found (λ awaits_header place left. reading o kinds awaits_header place left))
     ((refuses_by_grammar o fit rest).1 never)
 
-pub reads_up_to_refused : (o : Options) → AreOptions o → ReadsUpToRefused o
+pub reads_up_to_refused : (o : Dialect) → IsDialect o → ReadsUpToRefused o
 reads_up_to_refused o fit = λ kinds head file at stop.
     let mark : ℕ = mark_len file in
     let place : ℕ = mark + length stop.front in
@@ -175,7 +175,7 @@ reads_up_to_refused o fit = λ kinds head file at stop.
     (λ awaits_header. reading_refused o kinds awaits_header place stop.rest fit stop.refused
     ∙ ap (λ (n : ℕ). refuses awaits_header n Malformed) (sym stop.place_is))
 
-pub reads_rows_up_to_refused : (o : Options) → AreOptions o → ReadsRowsUpToRefused o
+pub reads_rows_up_to_refused : (o : Dialect) → IsDialect o → ReadsRowsUpToRefused o
 reads_rows_up_to_refused o fit = λ kinds used head file at stop.
     let mark : ℕ = mark_len file in
     let place : ℕ = mark + length stop.front in

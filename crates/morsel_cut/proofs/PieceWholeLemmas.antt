@@ -4,7 +4,7 @@ use Rattle.std.proofs.lemmas.List.{append-nil, take-append-drop, length-take-le,
 use Rattle.std.proofs.lemmas.List.Elements.{All-nil, All-cons}
 use Rattle.std.specs.Prelude.{◌⊎◌, Bool, true, List, [], ◌∷◌, ◌++◌, length, take, drop}
 use Rattle.std.specs.List.{All, concat}
-use Rattle.morsel_grammar.specs.Options.{Options, AreOptions}
+use Rattle.morsel_grammar.specs.Dialect.{Dialect, IsDialect}
 use Rattle.morsel_grammar.specs.Grammar.{CsvRecord, IsRecord}
 use Rattle.morsel_grammar.specs.Rows.{mark_len, unmarked}
 use Rattle.morsel_grammar.specs.GrammarRows.{AreWholeRecords}
@@ -30,13 +30,13 @@ last_place-all step test s (b ∷ []) some holds = ap (λ (t : Bool). place_or_l
 last_place-all step test s (b ∷ c ∷ bytes) some holds = ap (place_or_later (test (step s b))) (last_place-all step test (step s b) (c ∷ bytes) (λ none. cc) holds)
 
 -- a record begins at a cut
-pub after_cut : (o : Options) (text : List ℕ) → AreOptions o → last_cut o text ≢ 0 → cut_after o (first_state o AtOpening) (take (last_cut o text) text) ≡ start o
+pub after_cut : (o : Dialect) (text : List ℕ) → IsDialect o → last_cut o text ≢ 0 → cut_after o (first_state o AtOpening) (take (last_cut o text) text) ≡ start o
 after_cut o text fit some = (cuts_after_whole o fit AtOpening text tt).1 some
 
-some_grown : (o : Options) (came chunk : List ℕ) → last_cut o came ≢ 0 → last_cut o (came ++ chunk) ≢ 0
+some_grown : (o : Dialect) (came chunk : List ℕ) → last_cut o came ≢ 0 → last_cut o (came ++ chunk) ≢ 0
 some_grown o came chunk some = λ none. let grows : last_cut o came ≤ last_cut o (came ++ chunk) = last_cut-grows o came chunk in some (omega arith)
 
-piece_ends : (o : Options) (came chunk : List ℕ) → AreOptions o → last_cut o came ≢ 0 → cut_after o (start o) (chunk_piece o came chunk) ≡ start o
+piece_ends : (o : Dialect) (came chunk : List ℕ) → IsDialect o → last_cut o came ≢ 0 → cut_after o (start o) (chunk_piece o came chunk) ≡ start o
 piece_ends o came chunk fit some =
     let front : List ℕ = take (last_cut o came) came in
     let piece : List ℕ = chunk_piece o came chunk in
@@ -45,27 +45,27 @@ piece_ends o came chunk fit some =
     ∙ ap (cut_after o (first_state o AtOpening)) (front_then_piece o came chunk)
     ∙ after_cut o (came ++ chunk) fit (some_grown o came chunk some)
 
-whole_some : (o : Options) (text : List ℕ) (records : List CsvRecord) → AreWholeRecords o text records → text ≢ [] → IsWhole o text
+whole_some : (o : Dialect) (text : List ℕ) (records : List CsvRecord) → AreWholeRecords o text records → text ≢ [] → IsWhole o text
 whole_some o text [] none some = absurd (some none)
 whole_some o text (r ∷ records) whole some = (r, records, whole)
 
-next_whole : (o : Options) (came chunk : List ℕ) → AreOptions o → last_cut o came ≢ 0 → chunk_piece o came chunk ≢ [] → IsWhole o (chunk_piece o came chunk)
+next_whole : (o : Dialect) (came chunk : List ℕ) → IsDialect o → last_cut o came ≢ 0 → chunk_piece o came chunk ≢ [] → IsWhole o (chunk_piece o came chunk)
 next_whole o came chunk fit some some_piece =
     let whole : HasWhole o (chunk_piece o came chunk) = start_whole o (chunk_piece o came chunk) fit (ap (λ (s : CutState). s.place) (piece_ends o came chunk fit some)) in
     whole_some o (chunk_piece o came chunk) whole.0 whole.1 some_piece
 
-all_first : (o : Options) (piece : List ℕ) (pieces : List (List ℕ)) → (piece ≢ [] → IsWhole o piece) → All (IsWhole o) pieces → All (IsWhole o) (piece_first piece pieces)
+all_first : (o : Dialect) (piece : List ℕ) (pieces : List (List ℕ)) → (piece ≢ [] → IsWhole o piece) → All (IsWhole o) pieces → All (IsWhole o) (piece_first piece pieces)
 all_first o [] pieces whole all = all
 all_first o (b ∷ bytes) pieces whole all = All-cons (IsWhole o) (b ∷ bytes) pieces (whole (λ none. cc)) all
 
-later_whole : (o : Options) (came : List ℕ) (chunks : List (List ℕ)) → AreOptions o → last_cut o came ≢ 0 → All (IsWhole o) (pieces_after o came chunks)
+later_whole : (o : Dialect) (came : List ℕ) (chunks : List (List ℕ)) → IsDialect o → last_cut o came ≢ 0 → All (IsWhole o) (pieces_after o came chunks)
 later_whole o came [] fit some = All-nil (IsWhole o)
 later_whole o came (chunk ∷ chunks) fit some =
     all_first o (chunk_piece o came chunk) (pieces_after o (came ++ chunk) chunks) (next_whole o came chunk fit some)
     (later_whole o (came ++ chunk) chunks fit (some_grown o came chunk some))
 
 -- the first piece is the front of a text up to its last end
-record HasFirst (o : Options) (came : List ℕ) (chunks : List (List ℕ)) : Type 0 where
+record HasFirst (o : Dialect) (came : List ℕ) (chunks : List (List ℕ)) : Type 0 where
   seen : List ℕ
   more : List ℕ
   later : List (List ℕ)
@@ -74,10 +74,10 @@ record HasFirst (o : Options) (came : List ℕ) (chunks : List (List ℕ)) : Typ
   pieces_are : pieces_after o came chunks ≡ take (last_cut o seen) seen ∷ later
   whole : All (IsWhole o) later
 
-abbrev ShowsPieces : Options → List ℕ → List (List ℕ) → Type 0
+abbrev ShowsPieces : Dialect → List ℕ → List (List ℕ) → Type 0
 ShowsPieces o came chunks = ((pieces_after o came chunks ≡ []) × (last_cut o (came ++ concat chunks) ≡ 0)) ⊎ HasFirst o came chunks
 
-shown_later : (o : Options) (came chunk : List ℕ) (chunks : List (List ℕ)) → chunk_piece o came chunk ≡ [] → ShowsPieces o (came ++ chunk) chunks → ShowsPieces o came (chunk ∷ chunks)
+shown_later : (o : Dialect) (came chunk : List ℕ) (chunks : List (List ℕ)) → chunk_piece o came chunk ≡ [] → ShowsPieces o (came ++ chunk) chunks → ShowsPieces o came (chunk ∷ chunks)
 shown_later o came chunk chunks nothing (inl (none, cut)) = inl (
   ap (λ (x : List ℕ). piece_first x (pieces_after o (came ++ chunk) chunks)) nothing ∙ none,
   ap (last_cut o) (sym (append_assoc came chunk (concat chunks))) ∙ cut,
@@ -92,10 +92,10 @@ shown_later o came chunk chunks nothing (inr has) = inr (record {
   whole = has.whole;
 })
 
-first_piece : (o : Options) (came chunk : List ℕ) → last_cut o came ≡ 0 → chunk_piece o came chunk ≡ take (last_cut o (came ++ chunk)) (came ++ chunk)
+first_piece : (o : Dialect) (came chunk : List ℕ) → last_cut o came ≡ 0 → chunk_piece o came chunk ≡ take (last_cut o (came ++ chunk)) (came ++ chunk)
 first_piece o came chunk none = ap (λ (n : ℕ). drop n (take (last_cut o (came ++ chunk)) (came ++ chunk))) none
 
-shown_first : (o : Options) (came chunk : List ℕ) (chunks : List (List ℕ)) (n : ℕ) → AreOptions o → last_cut o came ≡ 0 → last_cut o (came ++ chunk) ≡ n
+shown_first : (o : Dialect) (came chunk : List ℕ) (chunks : List (List ℕ)) (n : ℕ) → IsDialect o → last_cut o came ≡ 0 → last_cut o (came ++ chunk) ≡ n
     → (last_cut o (came ++ chunk) ≡ 0 → ShowsPieces o (came ++ chunk) chunks) → ShowsPieces o came (chunk ∷ chunks)
 shown_first o came chunk chunks zero fit none is again =
     shown_later o came chunk chunks (first_piece o came chunk none ∙ ap (λ (n : ℕ). take n (came ++ chunk)) is) (again is)
@@ -113,45 +113,45 @@ shown_first o came chunk chunks (suc n) fit none is again =
       whole = later_whole o (came ++ chunk) chunks fit some;
     })
 
-shown : (o : Options) (came : List ℕ) (chunks : List (List ℕ)) → AreOptions o → last_cut o came ≡ 0 → ShowsPieces o came chunks
+shown : (o : Dialect) (came : List ℕ) (chunks : List (List ℕ)) → IsDialect o → last_cut o came ≡ 0 → ShowsPieces o came chunks
 shown o came [] fit none = inl (refl, ap (last_cut o) (append-nil came) ∙ none)
 shown o came (chunk ∷ chunks) fit none = shown_first o came chunk chunks (last_cut o (came ++ chunk)) fit none refl (λ is. shown o (came ++ chunk) chunks fit is)
 
 -- the first piece after its mark
-front_size : (o : Options) (text : List ℕ) → length (take (last_cut o text) text) ≡ last_cut o text
+front_size : (o : Dialect) (text : List ℕ) → length (take (last_cut o text) text) ≡ last_cut o text
 front_size o text = length-take-le (last_cut o text) text (last_cut-within o text)
 
-front_end : (o : Options) (text : List ℕ) → AreOptions o → last_cut o text ≢ 0 → last_cut o (take (last_cut o text) text) ≡ last_cut o text
+front_end : (o : Dialect) (text : List ℕ) → IsDialect o → last_cut o text ≢ 0 → last_cut o (take (last_cut o text) text) ≡ last_cut o text
 front_end o text fit some =
     last_place-all (cut_step o) (λ (s : CutState). is_after_eol s.place) (first_state o AtOpening) (take (last_cut o text) text) (some_front o text some)
     (ap (λ (s : CutState). is_after_eol s.place) (after_cut o text fit some)) ∙ front_size o text
 
-some_unmarked : (o : Options) (text : List ℕ) → AreOptions o → last_cut o text ≢ 0 → unmarked (take (last_cut o text) text) ≢ []
+some_unmarked : (o : Dialect) (text : List ℕ) → IsDialect o → last_cut o text ≢ 0 → unmarked (take (last_cut o text) text) ≢ []
 some_unmarked o text fit some = λ none.
     let front : List ℕ = take (last_cut o text) text in
     let all : IsPassed o AtOpening front = passed_opening o front fit in
     let nothing : drop all.mark front ≡ [] = sym (passed_text o AtOpening front all) ∙ none in
     some (sym (front_end o text fit some) ∙ all.no_end_again (ap (last_end o (start o)) nothing))
 
-first_whole : (o : Options) (text : List ℕ) → AreOptions o → last_cut o text ≢ 0 → IsWhole o (unmarked (take (last_cut o text) text))
+first_whole : (o : Dialect) (text : List ℕ) → IsDialect o → last_cut o text ≢ 0 → IsWhole o (unmarked (take (last_cut o text) text))
 first_whole o text fit some =
     let whole = (cuts_after_whole o fit AtOpening text tt).0 in
     whole_some o (unmarked (take (last_cut o text) text)) whole.0 whole.1 (some_unmarked o text fit some)
 
-all_whole : (o : Options) (chunks : List (List ℕ)) → AreOptions o → ShowsPieces o [] chunks → All (IsWhole o) (texts_unmarked (cut_pieces o chunks))
+all_whole : (o : Dialect) (chunks : List (List ℕ)) → IsDialect o → ShowsPieces o [] chunks → All (IsWhole o) (texts_unmarked (cut_pieces o chunks))
 all_whole o chunks fit (inl (none, cut)) = let P : List (List ℕ) → Type 0 = λ x. All (IsWhole o) (texts_unmarked x) in subst P (sym none) (All-nil (IsWhole o))
 all_whole o chunks fit (inr has) =
     let P : List (List ℕ) → Type 0 = λ x. All (IsWhole o) (texts_unmarked x) in
     subst P (sym has.pieces_are) (All-cons (IsWhole o) (unmarked (take (last_cut o has.seen) has.seen)) has.later (first_whole o has.seen fit has.some) has.whole)
 
-pub cuts_whole : (o : Options) → AreOptions o → CutsWhole o
+pub cuts_whole : (o : Dialect) → IsDialect o → CutsWhole o
 cuts_whole o fit = λ chunks. all_whole o chunks fit (shown o [] chunks fit refl)
 
 -- without a cut, the rest is the text
-rest_all : (o : Options) (chunks : List (List ℕ)) → last_cut o (concat chunks) ≡ 0 → cut_rest o chunks ≡ concat chunks
+rest_all : (o : Dialect) (chunks : List (List ℕ)) → last_cut o (concat chunks) ≡ 0 → cut_rest o chunks ≡ concat chunks
 rest_all o chunks none = ap (λ (n : ℕ). drop n (concat chunks)) none
 
-no_whole : (o : Options) (chunks : List (List ℕ)) → AreOptions o → ShowsPieces o [] chunks → BeginsNoWholeRecord o (rest_unmarked (cut_pieces o chunks) (cut_rest o chunks))
+no_whole : (o : Dialect) (chunks : List (List ℕ)) → IsDialect o → ShowsPieces o [] chunks → BeginsNoWholeRecord o (rest_unmarked (cut_pieces o chunks) (cut_rest o chunks))
 no_whole o chunks fit (inl (none, cut)) =
     let P : List ℕ → Type 0 = λ x. BeginsNoWholeRecord o x in
     let same : rest_unmarked (cut_pieces o chunks) (cut_rest o chunks) ≡ unmarked (concat chunks) =
@@ -165,10 +165,10 @@ no_whole o chunks fit (inr has) =
     subst P (sym (ap (λ (x : List (List ℕ)). rest_unmarked x (cut_rest o chunks)) has.pieces_are))
     ((finds_no_end o fit AfterEol (cut_rest o chunks) tt).0 (passes_what_is_left o fit AtOpening text tt some).0)
 
-pub leaves_no_whole : (o : Options) → AreOptions o → LeavesNoWhole o
+pub leaves_no_whole : (o : Dialect) → IsDialect o → LeavesNoWhole o
 leaves_no_whole o fit = λ chunks. no_whole o chunks fit (shown o [] chunks fit refl)
 
-has_mark : (o : Options) (chunks : List (List ℕ)) → AreOptions o → ShowsPieces o [] chunks → first_mark (cut_texts o chunks) ≡ mark_len (concat chunks)
+has_mark : (o : Dialect) (chunks : List (List ℕ)) → IsDialect o → ShowsPieces o [] chunks → first_mark (cut_texts o chunks) ≡ mark_len (concat chunks)
 has_mark o chunks fit (inl (none, cut)) = ap (λ (x : List (List ℕ)). first_mark (x ++ cut_rest o chunks ∷ [])) none ∙ ap mark_len (rest_all o chunks cut)
 has_mark o chunks fit (inr has) =
     let front : List ℕ = take (last_cut o has.seen) has.seen in
@@ -179,11 +179,11 @@ has_mark o chunks fit (inr has) =
     ∙ sym (mark_len-front o front (left ++ has.more) fit (ap (λ (s : CutState). s.place) (after_cut o has.seen fit has.some)))
     ∙ ap mark_len (sym split)
 
-pub marks_first : (o : Options) → AreOptions o → MarksFirst o
+pub marks_first : (o : Dialect) → IsDialect o → MarksFirst o
 marks_first o fit = λ chunks. has_mark o chunks fit (shown o [] chunks fit refl)
 
 -- the record that is under way begins at the last cut, or where there is none after the mark
-begin_at_cut : (o : Options) (text : List ℕ) → AreOptions o → last_cut o text ≢ 0 → last_begin o (first_state o AtOpening) text ≡ last_cut o text
+begin_at_cut : (o : Dialect) (text : List ℕ) → IsDialect o → last_cut o text ≢ 0 → last_begin o (first_state o AtOpening) text ≡ last_cut o text
 begin_at_cut o text fit some =
     let opening : CutState = first_state o AtOpening in
     let begins : CutState → Bool = λ s. begins_record s.place in
@@ -199,14 +199,14 @@ begin_at_cut o text fit some =
     ∙ last_place-all (cut_step o) begins opening front (some_front o text some) (ap begins after)
     ∙ front_size o text
 
-begin_at_mark : (o : Options) (text : List ℕ) → AreOptions o → last_cut o text ≡ 0 → last_begin o (first_state o AtOpening) text ≡ mark_len text
+begin_at_mark : (o : Dialect) (text : List ℕ) → IsDialect o → last_cut o text ≡ 0 → last_begin o (first_state o AtOpening) text ≡ mark_len text
 begin_at_mark o text fit none =
     let all : IsPassed o AtOpening text = passed_opening o text fit in
     let left : last_end o (start o) (drop all.mark text) ≡ 0 = all.no_end none in
     let begin : last_begin o (first_state o AtOpening) text ≡ all.mark + last_end o (start o) (drop all.mark text) = all.begin in
     let same : mark_len text ≡ all.mark = all.mark_is in omega arith
 
-begin_at_rest : (o : Options) (chunks : List (List ℕ)) → AreOptions o → ShowsPieces o [] chunks
+begin_at_rest : (o : Dialect) (chunks : List (List ℕ)) → IsDialect o → ShowsPieces o [] chunks
     → last_begin o (first_state o AtOpening) (concat chunks) ≡ rest_begins (cut_pieces o chunks) (cut_rest o chunks)
 begin_at_rest o chunks fit (inl (none, cut)) =
     begin_at_mark o (concat chunks) fit cut ∙ ap mark_len (sym (rest_all o chunks cut)) ∙ sym (ap (λ (x : List (List ℕ)). rest_begins x (cut_rest o chunks)) none)
@@ -218,12 +218,12 @@ begin_at_rest o chunks fit (inr has) =
     ∙ ap (λ (x : List (List ℕ)). length (concat x)) has.pieces_are
     ∙ sym (ap (λ (x : List (List ℕ)). rest_begins x (cut_rest o chunks)) has.pieces_are)
 
-pub begun_of : (o : Options) (file : ℕ) (text : List ℕ) → (fed_with (cut_opening o file) text).begun ≡ last_begin o (first_state o AtOpening) text
+pub begun_of : (o : Dialect) (file : ℕ) (text : List ℕ) → (fed_with (cut_opening o file) text).begun ≡ last_begin o (first_state o AtOpening) text
 begun_of o file text =
     let same : 0 + last_begin o (first_state o AtOpening) text ≡ last_begin o (first_state o AtOpening) text = omega arith in
     counts_begun o (first_state o AtOpening) 0 text ∙ same
 
-pub begins_with_rest : (o : Options) → AreOptions o → BeginsWithRest o
+pub begins_with_rest : (o : Dialect) → IsDialect o → BeginsWithRest o
 begins_with_rest o fit = λ file chunks. begun_of o file (concat chunks) ∙ begin_at_rest o chunks fit (shown o [] chunks fit refl)
 
 -- the rest is what stands from there on
@@ -232,7 +232,7 @@ rest_from [] rest text split = ap (drop (mark_len rest)) (sym split)
 rest_from (piece ∷ pieces) rest text split =
     ap (drop (length (concat (piece ∷ pieces)))) (sym split) ∙ drop_at (concat (piece ∷ pieces)) rest (length (concat (piece ∷ pieces))) refl
 
-pub ends_with_rest : (o : Options) → AreOptions o → EndsWithRest o
+pub ends_with_rest : (o : Dialect) → IsDialect o → EndsWithRest o
 ends_with_rest o fit = λ file chunks may_end.
     let pieces : List (List ℕ) = cut_pieces o chunks in
     let rest : List ℕ = cut_rest o chunks in

@@ -5,7 +5,7 @@ use Rattle.std.proofs.lemmas.List.{drop-drop, drop_all, length-drop, length-take
 use Rattle.std.proofs.Common.{length-append}
 use Rattle.std.proofs.lemmas.List.Sums.{sum_by-cons}
 use Rattle.std.specs.Prelude.{Some, ◌⊎◌, if◌then◌else◌}
-use Rattle.morsel_grammar.specs.Options.{Options, AreOptions}
+use Rattle.morsel_grammar.specs.Dialect.{Dialect, IsDialect}
 use Rattle.morsel_grammar.specs.Grammar.{CsvRecord, Comment, Fields, IsRecord, Records}
 use Rattle.morsel_grammar.specs.Split.{record_at}
 use Rattle.morsel_grammar.specs.Rows.{is_header, behind_header}
@@ -15,25 +15,25 @@ use Rattle.morsel_cut.specs.FirstEnds.{record_size}
 use Rattle.morsel_cut.specs.RowCounts.{is_row, row_count, up_to_header, EndsHead}
 use Rattle.morsel_cut.proofs.SizeLemmas.{HasFirst, has_first, record_size-le, record_size-some}
 
-nothing_left : (o : Options) (bytes : List ℕ) (at : ℕ) (records : List CsvRecord) → length bytes ≤ at → Records o (drop at bytes) records → records ≡ []
+nothing_left : (o : Dialect) (bytes : List ℕ) (at : ℕ) (records : List CsvRecord) → length bytes ≤ at → Records o (drop at bytes) records → records ≡ []
 nothing_left o bytes at [] over are = refl
 nothing_left o bytes at (r ∷ records) over are = absurd (are.0 (drop_all at bytes over))
 
-something_left : (o : Options) (bytes : List ℕ) (at : ℕ) → at < length bytes → Records o (drop at bytes) [] → ⊥
+something_left : (o : Dialect) (bytes : List ℕ) (at : ℕ) → at < length bytes → Records o (drop at bytes) [] → ⊥
 something_left o bytes at within none =
     let size : length (drop at bytes) ≡ 0 = ap length none in
     omega (arith, size, length-drop at bytes)
 
 -- the records that are left at a place, and the rows so far
-pub record HasCounted (o : Options) (columns : ℕ) (bytes : List ℕ) (at rows : ℕ) (records : List CsvRecord) : Type 0 where
+pub record HasCounted (o : Dialect) (columns : ℕ) (bytes : List ℕ) (at rows : ℕ) (records : List CsvRecord) : Type 0 where
   pub left : List CsvRecord
   pub are : Records o (drop at bytes) left
   pub counted : rows + row_count columns left ≡ row_count columns records
 
-pub counted_none : (o : Options) (columns : ℕ) (bytes : List ℕ) (records : List CsvRecord) → Records o bytes records → HasCounted o columns bytes 0 0 records
+pub counted_none : (o : Dialect) (columns : ℕ) (bytes : List ℕ) (records : List CsvRecord) → Records o bytes records → HasCounted o columns bytes 0 0 records
 counted_none o columns bytes records are = record { left = records; are = are; counted = omega arith }
 
-counts_by : (o : Options) (columns : ℕ) (bytes : List ℕ) (at rows more : ℕ) (test : Bool) (records left : List CsvRecord) → AreOptions o → at < length bytes
+counts_by : (o : Dialect) (columns : ℕ) (bytes : List ℕ) (at rows more : ℕ) (test : Bool) (records left : List CsvRecord) → IsDialect o → at < length bytes
     → Records o (drop at bytes) left → rows + row_count columns left ≡ row_count columns records
     → ((r : CsvRecord) (after : List ℕ) → record_at o (drop at bytes) ≡ Some (r, after) → test ≡ is_row columns r) → more ≡ (if test then 1 else 0)
     → HasCounted o columns bytes (at + record_size o (drop at bytes)) (rows + more) records
@@ -48,7 +48,7 @@ counts_by o columns bytes at rows more test records (r ∷ left) fit within are 
       counted = omega (arith, one, counted, sum_by-cons (λ (x : CsvRecord). cond (is_row columns x) 1 0) r left);
     }
 
-pub counts_on : (o : Options) (columns : ℕ) (bytes rest : List ℕ) (at size rows more : ℕ) (test : Bool) (records : List CsvRecord) → AreOptions o → at < length bytes → rest ≡ drop at bytes
+pub counts_on : (o : Dialect) (columns : ℕ) (bytes rest : List ℕ) (at size rows more : ℕ) (test : Bool) (records : List CsvRecord) → IsDialect o → at < length bytes → rest ≡ drop at bytes
     → HasCounted o columns bytes at rows records → size ≡ record_size o rest
     → ((r : CsvRecord) (after : List ℕ) → record_at o rest ≡ Some (r, after) → test ≡ is_row columns r) → more ≡ (if test then 1 else 0)
     → HasCounted o columns bytes (at + size) (rows + more) records
@@ -57,14 +57,14 @@ counts_on o columns bytes rest at size rows more test records fit within rest_is
     (counts_by o columns bytes at rows more test records has.left fit within has.are has.counted
     (λ r after read. test_is r after (ap (record_at o) rest_is ∙ read)) more_is)
 
-pub counted_all : (o : Options) (columns : ℕ) (bytes : List ℕ) (at rows : ℕ) (records : List CsvRecord) → length bytes ≤ at → HasCounted o columns bytes at rows records
+pub counted_all : (o : Dialect) (columns : ℕ) (bytes : List ℕ) (at rows : ℕ) (records : List CsvRecord) → length bytes ≤ at → HasCounted o columns bytes at rows records
     → rows ≡ row_count columns records
 counted_all o columns bytes at rows records over counted =
     let none : row_count columns counted.left ≡ 0 = ap (row_count columns) (nothing_left o bytes at counted.left over counted.are) in
     omega (arith, none, counted.counted)
 
 -- the records up to a place, none of which is the header, and those that are left
-pub record HasPassedTo (o : Options) (bytes : List ℕ) (at : ℕ) (records : List CsvRecord) : Type 0 where
+pub record HasPassedTo (o : Dialect) (bytes : List ℕ) (at : ℕ) (records : List CsvRecord) : Type 0 where
   pub front : List CsvRecord
   pub left : List CsvRecord
   pub are : Records o (drop at bytes) left
@@ -78,7 +78,7 @@ take_nothing zero = refl
 take_nothing (suc n) = refl
 
 -- the first record, with so many bytes of what follows
-again_by : (o : Options) (r : CsvRecord) (text rest : List ℕ) (size n : ℕ) → AreOptions o → rest ≡ drop size text → size ≤ length text → IsRecord o r text rest
+again_by : (o : Dialect) (r : CsvRecord) (text rest : List ℕ) (size n : ℕ) → IsDialect o → rest ≡ drop size text → size ≤ length text → IsRecord o r text rest
     → (rest ≡ []) ⊎ ((line : List ℕ) × (text ≡ line ++ o.eol ∷ rest)) → IsRecord o r (take (size + n) text) (take n rest)
 again_by o r text rest size n fit rest_is within is (inl none) =
     let over : length text ≤ size + n = omega (arith, ap length rest_is, length-drop size text, ap length none) in
@@ -96,7 +96,7 @@ again_by o r text rest size n fit rest_is within is (inr (line, text_is)) =
     ∙ ap (λ (x : List ℕ). line ++ o.eol ∷ take n x) (sym rest_is) in
     subst (λ (x : List ℕ). IsRecord o r x (take n rest)) (sym both) (stands_whatever_follows o fit text r line rest is text_is (take n rest))
 
-record_joins : (o : Options) (text : List ℕ) (r : CsvRecord) (records : List CsvRecord) (n : ℕ) (more : List CsvRecord) → AreOptions o → 0 < length text → HasFirst o text r records
+record_joins : (o : Dialect) (text : List ℕ) (r : CsvRecord) (records : List CsvRecord) (n : ℕ) (more : List CsvRecord) → IsDialect o → 0 < length text → HasFirst o text r records
     → Records o (take n (drop (record_size o text) text)) more → Records o (take (record_size o text + n) text) (r ∷ more)
 record_joins o text r records n more fit some first are =
     let size = record_size o text in
@@ -111,7 +111,7 @@ header_row : (r : CsvRecord) → is_row 0 r ≡ is_header r
 header_row (Comment body) = refl
 header_row (Fields fields) = refl
 
-pub passed_none : (o : Options) (bytes : List ℕ) (records : List CsvRecord) → Records o bytes records → HasPassedTo o bytes 0 records
+pub passed_none : (o : Dialect) (bytes : List ℕ) (records : List CsvRecord) → Records o bytes records → HasPassedTo o bytes 0 records
 passed_none o bytes records are = record {
   front = [];
   left = records;
@@ -123,7 +123,7 @@ passed_none o bytes records are = record {
 }
 
 -- a record that is no header
-passes_by : (o : Options) (bytes : List ℕ) (at : ℕ) (records front left : List CsvRecord) → AreOptions o → at < length bytes → Records o (drop at bytes) left
+passes_by : (o : Dialect) (bytes : List ℕ) (at : ℕ) (records front left : List CsvRecord) → IsDialect o → at < length bytes → Records o (drop at bytes) left
     → up_to_header records ≡ front ++ up_to_header left → behind_header true records ≡ behind_header true left
     → awaits_header_after true records ≡ awaits_header_after true left
     → ((n : ℕ) (more : List CsvRecord) → Records o (take n (drop at bytes)) more → Records o (take (at + n) bytes) (front ++ more))
@@ -153,7 +153,7 @@ passes_by o bytes at records front (r ∷ left) fit within are up_to behind awai
           (joins (size + n) (r ∷ more) (record_joins o rest r left n more fit some first here_too)));
     }
 
-pub passes_record : (o : Options) (bytes rest : List ℕ) (at size : ℕ) (test : Bool) (records : List CsvRecord) → AreOptions o → at < length bytes → rest ≡ drop at bytes
+pub passes_record : (o : Dialect) (bytes rest : List ℕ) (at size : ℕ) (test : Bool) (records : List CsvRecord) → IsDialect o → at < length bytes → rest ≡ drop at bytes
     → HasPassedTo o bytes at records → size ≡ record_size o rest → ((r : CsvRecord) (after : List ℕ) → record_at o rest ≡ Some (r, after) → test ≡ is_row 0 r) → test ≡ false
     → HasPassedTo o bytes (at + size) records
 passes_record o bytes rest at size test records fit within rest_is has size_is test_is failed =
@@ -162,7 +162,7 @@ passes_record o bytes rest at size test records fit within rest_is has size_is t
     (λ r after read. sym failed ∙ test_is r after (ap (record_at o) rest_is ∙ read)))
 
 -- the header
-found_by : (o : Options) (bytes : List ℕ) (at : ℕ) (records front left : List CsvRecord) → AreOptions o → at < length bytes → Records o (drop at bytes) left
+found_by : (o : Dialect) (bytes : List ℕ) (at : ℕ) (records front left : List CsvRecord) → IsDialect o → at < length bytes → Records o (drop at bytes) left
     → up_to_header records ≡ front ++ up_to_header left → behind_header true records ≡ behind_header true left
     → awaits_header_after true records ≡ awaits_header_after true left
     → ((n : ℕ) (more : List CsvRecord) → Records o (take n (drop at bytes)) more → Records o (take (at + n) bytes) (front ++ more))
@@ -187,7 +187,7 @@ found_by o bytes at records front (r ∷ left) fit within are up_to behind await
       awaits = sym (awaits ∙ ap (λ (t : Bool). if t then false else awaits_header_after true left) header);
     }
 
-pub finds_header : (o : Options) (bytes rest : List ℕ) (at size : ℕ) (test : Bool) (records : List CsvRecord) → AreOptions o → at < length bytes → rest ≡ drop at bytes
+pub finds_header : (o : Dialect) (bytes rest : List ℕ) (at size : ℕ) (test : Bool) (records : List CsvRecord) → IsDialect o → at < length bytes → rest ≡ drop at bytes
     → HasPassedTo o bytes at records → size ≡ record_size o rest → ((r : CsvRecord) (after : List ℕ) → record_at o rest ≡ Some (r, after) → test ≡ is_row 0 r) → test ≡ true
     → EndsHead o bytes records (record { len = at + size; awaits_header = false })
 finds_header o bytes rest at size test records fit within rest_is has size_is test_is held =
@@ -196,7 +196,7 @@ finds_header o bytes rest at size test records fit within rest_is has size_is te
     (λ r after read. sym held ∙ test_is r after (ap (record_at o) rest_is ∙ read)))
 
 -- no header up to the end
-pub finds_no_header : (o : Options) (bytes : List ℕ) (at : ℕ) (records : List CsvRecord) → at ≤ length bytes → length bytes ≤ at → HasPassedTo o bytes at records
+pub finds_no_header : (o : Dialect) (bytes : List ℕ) (at : ℕ) (records : List CsvRecord) → at ≤ length bytes → length bytes ≤ at → HasPassedTo o bytes at records
     → EndsHead o bytes records (record { len = at; awaits_header = true })
 finds_no_header o bytes at records within over has =
     let none : has.left ≡ [] = nothing_left o bytes at has.left over has.are in

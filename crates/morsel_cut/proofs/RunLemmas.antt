@@ -4,7 +4,7 @@ use Rattle.std.proofs.lemmas.Bool.Decides.{Decides-eqb}
 use Rattle.std.proofs.lemmas.List.{get_or-take, length-take, length-take-le, take_rest}
 use Rattle.std.proofs.Math.Seq.{take-add}
 use Rattle.std.specs.Prelude.{Option, if◌then◌else◌}
-use Rattle.morsel_grammar.specs.Options.{Options}
+use Rattle.morsel_grammar.specs.Dialect.{Dialect}
 use Rattle.morsel_grammar.specs.Split.{is_quote}
 use Rattle.morsel_grammar.specs.Machine.{CutPlace, AfterMark, AfterEol, AfterSeparator, InPlain, InQuotes, state_after, last_place, place_or_later, joined_place, plain_step, place_step, is_after_eol, begins_record}
 use Rattle.morsel_cut.specs.Places.{cut_place, IsOutside}
@@ -21,14 +21,14 @@ AreUnquoted quote bytes = (k : ℕ) → k < length bytes → is_quote quote (get
 unquoted_behind : (quote : Option ℕ) (b : ℕ) (bs : List ℕ) → AreUnquoted quote (b ∷ bs) → AreUnquoted quote bs
 unquoted_behind quote b bs unquoted = λ k below. unquoted (suc k) (omega arith)
 
-pub outside_step : (o : Options) (place : CutPlace) (b : ℕ) → IsOutside place → is_quote o.quote b ≡ false → place_step o place b ≡ plain_step o b
+pub outside_step : (o : Dialect) (place : CutPlace) (b : ℕ) → IsOutside place → is_quote o.quote b ≡ false → place_step o place b ≡ plain_step o b
 outside_step o AfterMark b outside other = rw other refl
 outside_step o AfterEol b outside other = rw other refl
 outside_step o AfterSeparator b outside other = rw other refl
 outside_step o InPlain b outside other = refl
 outside_step o place b outside other = absurd outside
 
-pub plain_outside : (o : Options) (b : ℕ) → IsOutside (plain_step o b)
+pub plain_outside : (o : Dialect) (b : ℕ) → IsOutside (plain_step o b)
 plain_outside o b = by (b == o.separator) (b == o.eol)
   where
     by : (s e : Bool) → IsOutside (if s then AfterSeparator else (if e then AfterEol else InPlain))
@@ -37,7 +37,7 @@ plain_outside o b = by (b == o.separator) (b == o.eol)
     by false false = tt
 
 -- the place after some bytes that are no quotes is that after the last one
-pub outside_after : (o : Options) (place : CutPlace) (bytes : List ℕ) (n : ℕ) → IsOutside place → AreUnquoted o.quote bytes → length bytes ≡ suc n
+pub outside_after : (o : Dialect) (place : CutPlace) (bytes : List ℕ) (n : ℕ) → IsOutside place → AreUnquoted o.quote bytes → length bytes ≡ suc n
     → state_after (place_step o) place bytes ≡ plain_step o (get_or bytes n 0)
 outside_after o place [] n outside unquoted size = absurd (omega arith)
 outside_after o place (b ∷ []) zero outside unquoted size = outside_step o place b outside (unquoted 0 (omega arith))
@@ -48,7 +48,7 @@ outside_after o place (b ∷ c ∷ bs) (suc n) outside unquoted size =
     ∙ outside_after o (plain_step o b) (c ∷ bs) n (plain_outside o b) (unquoted_behind o.quote b (c ∷ bs) unquoted) (omega arith)
 
 -- a test that is true after an eol byte alone
-outside_last : (o : Options) (test : CutPlace → Bool) (place : CutPlace) (bytes : List ℕ) → ((b : ℕ) → test (plain_step o b) ≡ (b == o.eol))
+outside_last : (o : Dialect) (test : CutPlace → Bool) (place : CutPlace) (bytes : List ℕ) → ((b : ℕ) → test (plain_step o b) ≡ (b == o.eol))
     → IsOutside place → AreUnquoted o.quote bytes → last_place (place_step o) test place bytes ≡ up_to_last o.eol bytes
 outside_last o test place [] tests outside unquoted = refl
 outside_last o test place (b ∷ bs) tests outside unquoted =
@@ -59,7 +59,7 @@ outside_last o test place (b ∷ bs) tests outside unquoted =
 same_byte : (a b : ℕ) → (a == b) ≡ true → a ≡ b
 same_byte a b is = (Decides-eqb a b).0 is
 
-pub ends_at_eol : (o : Options) → o.separator ≢ o.eol → (b : ℕ) → is_after_eol (plain_step o b) ≡ (b == o.eol)
+pub ends_at_eol : (o : Dialect) → o.separator ≢ o.eol → (b : ℕ) → is_after_eol (plain_step o b) ≡ (b == o.eol)
 ends_at_eol o apart b = by (b == o.separator) (b == o.eol) refl refl
   where
     by : (s e : Bool) → (b == o.separator) ≡ s → (b == o.eol) ≡ e → is_after_eol (if s then AfterSeparator else (if e then AfterEol else InPlain)) ≡ e
@@ -68,7 +68,7 @@ ends_at_eol o apart b = by (b == o.separator) (b == o.eol) refl refl
     by false true one other = refl
     by false false one other = refl
 
-begins_at_eol : (o : Options) → o.separator ≢ o.eol → (b : ℕ) → begins_record (plain_step o b) ≡ (b == o.eol)
+begins_at_eol : (o : Dialect) → o.separator ≢ o.eol → (b : ℕ) → begins_record (plain_step o b) ≡ (b == o.eol)
 begins_at_eol o apart b = by (b == o.separator) (b == o.eol) refl refl
   where
     by : (s e : Bool) → (b == o.separator) ≡ s → (b == o.eol) ≡ e → begins_record (if s then AfterSeparator else (if e then AfterEol else InPlain)) ≡ e
@@ -77,22 +77,22 @@ begins_at_eol o apart b = by (b == o.separator) (b == o.eol) refl refl
     by false true one other = refl
     by false false one other = refl
 
-pub outside_end : (o : Options) (place : CutPlace) (bytes : List ℕ) → o.separator ≢ o.eol → IsOutside place → AreUnquoted o.quote bytes
+pub outside_end : (o : Dialect) (place : CutPlace) (bytes : List ℕ) → o.separator ≢ o.eol → IsOutside place → AreUnquoted o.quote bytes
     → last_place (place_step o) is_after_eol place bytes ≡ up_to_last o.eol bytes
 outside_end o place bytes apart outside unquoted = outside_last o is_after_eol place bytes (ends_at_eol o apart) outside unquoted
 
-pub outside_begin : (o : Options) (place : CutPlace) (bytes : List ℕ) → o.separator ≢ o.eol → IsOutside place → AreUnquoted o.quote bytes
+pub outside_begin : (o : Dialect) (place : CutPlace) (bytes : List ℕ) → o.separator ≢ o.eol → IsOutside place → AreUnquoted o.quote bytes
     → last_place (place_step o) begins_record place bytes ≡ up_to_last o.eol bytes
 outside_begin o place bytes apart outside unquoted = outside_last o begins_record place bytes (begins_at_eol o apart) outside unquoted
 
 -- in quotes, bytes that are no quotes change nothing
-pub quotes_after : (o : Options) (bytes : List ℕ) → AreUnquoted o.quote bytes → state_after (place_step o) InQuotes bytes ≡ InQuotes
+pub quotes_after : (o : Dialect) (bytes : List ℕ) → AreUnquoted o.quote bytes → state_after (place_step o) InQuotes bytes ≡ InQuotes
 quotes_after o [] unquoted = refl
 quotes_after o (b ∷ bs) unquoted =
     let still : place_step o InQuotes b ≡ InQuotes = rw (unquoted 0 (omega arith)) refl in
     ap (λ p. state_after (place_step o) p bs) still ∙ quotes_after o bs (unquoted_behind o.quote b bs unquoted)
 
-pub quotes_last : (o : Options) (test : CutPlace → Bool) (bytes : List ℕ) → test InQuotes ≡ false → AreUnquoted o.quote bytes → last_place (place_step o) test InQuotes bytes ≡ 0
+pub quotes_last : (o : Dialect) (test : CutPlace → Bool) (bytes : List ℕ) → test InQuotes ≡ false → AreUnquoted o.quote bytes → last_place (place_step o) test InQuotes bytes ≡ 0
 quotes_last o test [] ends unquoted = refl
 quotes_last o test (b ∷ bs) ends unquoted =
     let still : place_step o InQuotes b ≡ InQuotes = rw (unquoted 0 (omega arith)) refl in
@@ -126,7 +126,7 @@ unquoted_front quote text n unquoted = λ k below.
     let before : k < n = omega (arith, length-take n text) in
     ap (is_quote quote) (get_or-take n text k 0 before) ∙ unquoted k before
 
-pub quotes_run : (o : Options) (from : ByteAt) (bytes : List ℕ) → from ≡ places.InQuotes → AreUnquoted o.quote bytes
+pub quotes_run : (o : Dialect) (from : ByteAt) (bytes : List ℕ) → from ≡ places.InQuotes → AreUnquoted o.quote bytes
     → RunsTo o (cut_place from) bytes (record { place = from; end = 0; begin = 0 })
 quotes_run o from bytes is unquoted =
     let P : ByteAt → Type 0 = λ f. RunsTo o (cut_place f) bytes (record { place = f; end = 0; begin = 0 }) in
@@ -137,7 +137,7 @@ quotes_run o from bytes is unquoted =
     })
 
 -- two runs are one
-pub run_then : (o : Options) (place : CutPlace) (front back : List ℕ) (run next both : Run) → RunsTo o place front run → RunsTo o (cut_place run.place) back next
+pub run_then : (o : Dialect) (place : CutPlace) (front back : List ℕ) (run next both : Run) → RunsTo o place front run → RunsTo o (cut_place run.place) back next
     → both.place ≡ next.place → both.end ≡ joined_place run.end (length front) next.end → both.begin ≡ joined_place run.begin (length front) next.begin
     → RunsTo o place (front ++ back) both
 run_then o place front back run next both first second place_is end_is begin_is = record {
@@ -153,7 +153,7 @@ run_then o place front back run next both first second place_is end_is begin_is 
 }
 
 -- a run of the front of what is left of a text
-pub run_on : (o : Options) (place : CutPlace) (text : List ℕ) (at len : ℕ) (run next both : Run) → at ≤ length text → RunsTo o place (take at text) run
+pub run_on : (o : Dialect) (place : CutPlace) (text : List ℕ) (at len : ℕ) (run next both : Run) → at ≤ length text → RunsTo o place (take at text) run
     → RunsTo o (cut_place run.place) (take len (take (length text - at) (drop at text))) next
     → both.place ≡ next.place → both.end ≡ joined_place run.end at next.end → both.begin ≡ joined_place run.begin at next.begin
     → RunsTo o place (take (at + len) text) both
@@ -165,8 +165,8 @@ run_on o place text at len run next both within first second place_is end_is beg
     place_is (end_is ∙ ap (λ (n : ℕ). joined_place run.end n next.end) size) (begin_is ∙ ap (λ (n : ℕ). joined_place run.begin n next.begin) size))
 
 -- no end is behind the bytes
-pub run_end-le : (o : Options) (place : CutPlace) (bytes : List ℕ) (run : Run) → RunsTo o place bytes run → run.end ≤ length bytes
+pub run_end-le : (o : Dialect) (place : CutPlace) (bytes : List ℕ) (run : Run) → RunsTo o place bytes run → run.end ≤ length bytes
 run_end-le o place bytes run runs = omega (arith, runs.end_is, last_place-within (place_step o) is_after_eol place bytes)
 
-pub run_begin-le : (o : Options) (place : CutPlace) (bytes : List ℕ) (run : Run) → RunsTo o place bytes run → run.begin ≤ length bytes
+pub run_begin-le : (o : Dialect) (place : CutPlace) (bytes : List ℕ) (run : Run) → RunsTo o place bytes run → run.begin ≤ length bytes
 run_begin-le o place bytes run runs = omega (arith, runs.begin_is, last_place-within (place_step o) begins_record place bytes)

@@ -2,7 +2,7 @@
 use Rattle.std.proofs.Common.{◌≡◌, ◌≢◌, ℕ, zero, suc, ◌+◌, ◌-◌, ◌<◌, ◌≤◌, ◌∙◌, sym, ap, refl, arith, subst, inl, inr, Bool, true, false, ◌==◌, List, [], ◌∷◌, ◌++◌, length, take, drop, get_or}
 use Rattle.std.proofs.lemmas.List.{take-append-drop, drop-drop, length-take-le, drop_all, get_or-take}
 use Rattle.std.specs.Prelude.{Some, None, if◌then◌else◌}
-use Rattle.morsel_grammar.specs.Options.{Options, AreOptions}
+use Rattle.morsel_grammar.specs.Dialect.{Dialect, IsDialect}
 use Rattle.morsel_grammar.specs.Grammar.{CsvRecord, IsRecord, Records}
 use Rattle.morsel_grammar.specs.Split.{is_quote, record_at}
 use Rattle.morsel_grammar.specs.Machine.{CutPlace, CutState, AfterEol, InQuotes, state_after, last_place, place_or_later, place_step, plain_step, cut_step, cut_after, is_after_eol, first_state, last_end}
@@ -111,24 +111,24 @@ size_ends step test s next text at len within some all next_is ends =
     ∙ size
 
 -- no record ends in bytes that are neither quotes nor eol bytes, outside quotes
-pub outside_first : (o : Options) (place : CutPlace) (bytes : List ℕ) → o.separator ≢ o.eol → IsOutside place → AreUnquoted o.quote bytes
+pub outside_first : (o : Dialect) (place : CutPlace) (bytes : List ℕ) → o.separator ≢ o.eol → IsOutside place → AreUnquoted o.quote bytes
     → ((k : ℕ) → k < length bytes → (get_or bytes k 0 == o.eol) ≡ true → ⊥) → first_place (place_step o) is_after_eol place bytes ≡ length bytes
 outside_first o place bytes apart outside unquoted no_eol =
     first_place-none (place_step o) is_after_eol place bytes (outside_end o place bytes apart outside unquoted ∙ up_to_last-none o.eol bytes no_eol)
 
 -- nor in quotes
-pub quotes_first : (o : Options) (bytes : List ℕ) → AreUnquoted o.quote bytes → first_place (place_step o) is_after_eol InQuotes bytes ≡ length bytes
+pub quotes_first : (o : Dialect) (bytes : List ℕ) → AreUnquoted o.quote bytes → first_place (place_step o) is_after_eol InQuotes bytes ≡ length bytes
 quotes_first o bytes unquoted = first_place-none (place_step o) is_after_eol InQuotes bytes (quotes_last o is_after_eol bytes refl unquoted)
 
 -- the same of the front of a text
-pub front_place : (o : Options) (place : CutPlace) (text : List ℕ) (len : ℕ) → 0 < len → len ≤ length text → IsOutside place
+pub front_place : (o : Dialect) (place : CutPlace) (text : List ℕ) (len : ℕ) → 0 < len → len ≤ length text → IsOutside place
     → ((k : ℕ) → k < len → is_quote o.quote (get_or text k 0) ≡ false) → plain_step o (get_or text (len - 1) 0) ≡ state_after (place_step o) place (take len text)
 front_place o place text len some within outside unquoted =
     let size : length (take len text) ≡ suc (len - 1) = length-take-le len text within ∙ omega arith in
     ap (plain_step o) (sym (get_or-take len text (len - 1) 0 (omega arith)))
     ∙ sym (outside_after o place (take len text) (len - 1) outside (unquoted_front o.quote text len unquoted) size)
 
-pub front_first : (o : Options) (place : CutPlace) (text : List ℕ) (len : ℕ) → o.separator ≢ o.eol → len ≤ length text → IsOutside place
+pub front_first : (o : Dialect) (place : CutPlace) (text : List ℕ) (len : ℕ) → o.separator ≢ o.eol → len ≤ length text → IsOutside place
     → ((k : ℕ) → k < len → is_quote o.quote (get_or text k 0) ≡ false) → ((k : ℕ) → k < len → (get_or text k 0 == o.eol) ≡ false)
     → first_place (place_step o) is_after_eol place (take len text) ≡ len
 front_first o place text len apart within outside unquoted no_eol =
@@ -139,40 +139,40 @@ front_first o place text len apart within outside unquoted no_eol =
     true_not_false (get_or text k 0 == o.eol) (ap (λ (x : ℕ). x == o.eol) (sym (get_or-take len text k 0 before)) ∙ is) (no_eol k before))
     ∙ size
 
-pub quotes_place : (o : Options) (from : ByteAt) (text : List ℕ) (len : ℕ) → from ≡ places.InQuotes
+pub quotes_place : (o : Dialect) (from : ByteAt) (text : List ℕ) (len : ℕ) → from ≡ places.InQuotes
     → ((k : ℕ) → k < len → is_quote o.quote (get_or text k 0) ≡ false) → cut_place from ≡ state_after (place_step o) (cut_place from) (take len text)
 quotes_place o from text len is unquoted =
     let P : ByteAt → Type 0 = λ f. cut_place f ≡ state_after (place_step o) (cut_place f) (take len text) in
     subst P (sym is) (sym (quotes_after o (take len text) (unquoted_front o.quote text len unquoted)))
 
-pub quotes_size : (o : Options) (from : ByteAt) (text : List ℕ) (len : ℕ) → from ≡ places.InQuotes → len ≤ length text
+pub quotes_size : (o : Dialect) (from : ByteAt) (text : List ℕ) (len : ℕ) → from ≡ places.InQuotes → len ≤ length text
     → ((k : ℕ) → k < len → is_quote o.quote (get_or text k 0) ≡ false) → first_place (place_step o) is_after_eol (cut_place from) (take len text) ≡ len
 quotes_size o from text len is within unquoted =
     let P : ByteAt → Type 0 = λ f. first_place (place_step o) is_after_eol (cut_place f) (take len text) ≡ len in
     subst P (sym is) (quotes_first o (take len text) (unquoted_front o.quote text len unquoted) ∙ length-take-le len text within)
 
 -- without comments the place says all
-pub quiet_first : (o : Options) (place : CutPlace) (bytes : List ℕ) → o.comment ≡ None → first_end o (lone place) bytes ≡ first_place (place_step o) is_after_eol place bytes
+pub quiet_first : (o : Dialect) (place : CutPlace) (bytes : List ℕ) → o.comment ≡ None → first_end o (lone place) bytes ≡ first_place (place_step o) is_after_eol place bytes
 quiet_first o place [] none = refl
 quiet_first o place (b ∷ bs) none =
     let next = place_step o place b in
     ap (λ (s : CutState). if is_after_eol s.place then 1 else suc (first_end o s bs)) (quiet_step o place b none)
     ∙ ap (λ (n : ℕ). if is_after_eol next then 1 else suc n) (quiet_first o next bs none)
 
-pub quiet_size : (o : Options) (text : List ℕ) → o.comment ≡ None → record_size o text ≡ first_place (place_step o) is_after_eol AfterEol text
+pub quiet_size : (o : Dialect) (text : List ℕ) → o.comment ≡ None → record_size o text ≡ first_place (place_step o) is_after_eol AfterEol text
 quiet_size o text none = ap (λ (s : CutState). first_end o s text) (quiet_start o AfterEol none) ∙ quiet_first o AfterEol text none
 
 pub bare_size : (signs : Signs) (text : List ℕ) → record_size (options_with signs None) text ≡ first_place (place_step (sign_options signs)) is_after_eol AfterEol text
 bare_size signs text = quiet_size (options_with signs None) text refl
 
-pub record_size-le : (o : Options) (text : List ℕ) → record_size o text ≤ length text
+pub record_size-le : (o : Dialect) (text : List ℕ) → record_size o text ≤ length text
 record_size-le o text = first_place-le (cut_step o) (λ (s : CutState). is_after_eol s.place) (first_state o AfterEol) text
 
-pub record_size-some : (o : Options) (text : List ℕ) → 0 < length text → 0 < record_size o text
+pub record_size-some : (o : Dialect) (text : List ℕ) → 0 < length text → 0 < record_size o text
 record_size-some o text some = first_place-some (cut_step o) (λ (s : CutState). is_after_eol s.place) (first_state o AfterEol) text some
 
 -- the end of the record that is read
-ends_line_at : (o : Options) (s : CutState) (line rest : List ℕ) → last_end o s line ≡ 0 → cut_after o s (line ++ o.eol ∷ []) ≡ first_state o AfterEol
+ends_line_at : (o : Dialect) (s : CutState) (line rest : List ℕ) → last_end o s line ≡ 0 → cut_after o s (line ++ o.eol ∷ []) ≡ first_state o AfterEol
     → first_end o s (line ++ o.eol ∷ rest) ≡ suc (length line)
 ends_line_at o s [] rest none reaches = ap (λ (x : CutState). if is_after_eol x.place then 1 else suc (first_end o x rest)) reaches
 ends_line_at o s (b ∷ line) rest none reaches =
@@ -188,7 +188,7 @@ behind_line : (line rest : List ℕ) (eol : ℕ) → drop (suc (length line)) (l
 behind_line [] rest eol = refl
 behind_line (b ∷ line) rest eol = behind_line line rest eol
 
-pub rest_at_size : (o : Options) (text rest : List ℕ) → EndsAtFirst o (first_state o AfterEol) text rest → drop (record_size o text) text ≡ rest
+pub rest_at_size : (o : Dialect) (text rest : List ℕ) → EndsAtFirst o (first_state o AfterEol) text rest → drop (record_size o text) text ≡ rest
 rest_at_size o text rest (inl (line, is, none, reaches)) =
     let size : record_size o text ≡ suc (length line) = ap (record_size o) is ∙ ends_line_at o (first_state o AfterEol) line rest none reaches in
     ap (λ (n : ℕ). drop n text) size ∙ ap (drop (suc (length line))) is ∙ behind_line line rest o.eol
@@ -197,12 +197,12 @@ rest_at_size o text rest (inr (all, none, may_end)) =
     ap (λ (n : ℕ). drop n text) size ∙ drop_all (length text) text (omega arith) ∙ sym all
 
 -- the first record of a text, and the others
-pub record HasFirst (o : Options) (text : List ℕ) (r : CsvRecord) (records : List CsvRecord) : Type 0 where
+pub record HasFirst (o : Dialect) (text : List ℕ) (r : CsvRecord) (records : List CsvRecord) : Type 0 where
   pub read : record_at o text ≡ Some (r, drop (record_size o text) text)
   pub is : IsRecord o r text (drop (record_size o text) text)
   pub later : Records o (drop (record_size o text) text) records
 
-pub has_first : (o : Options) (text : List ℕ) (r : CsvRecord) (records : List CsvRecord) → AreOptions o → Records o text (r ∷ records) → HasFirst o text r records
+pub has_first : (o : Dialect) (text : List ℕ) (r : CsvRecord) (records : List CsvRecord) → IsDialect o → Records o text (r ∷ records) → HasFirst o text r records
 has_first o text r records fit (some, rest, is, later) =
     let read : record_at o text ≡ Some (r, rest) = record_at-written o r text rest fit is in
     let follows : EndsAtFirst o (first_state o AfterEol) text rest = subst (λ found. FollowsFound o (first_state o AfterEol) text found) read (record-follows o text fit) in

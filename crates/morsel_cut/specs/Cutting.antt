@@ -2,23 +2,23 @@
 use Rattle.std.specs.Prelude.{◌≡◌, ℕ, ◌+◌, true, false, Result, Ok, Err, List, [], ◌++◌, length}
 use Rattle.morsel_meaning.specs.declared.fault.Fault.{Fault}
 use Rattle.morsel_meaning.specs.declared.fault.Fault.TheVariants as faults
-use Rattle.morsel_grammar.specs.Options.{Options, options_of}
+use Rattle.morsel_grammar.specs.Dialect.{Dialect, options_of}
 use Rattle.morsel_grammar.specs.Machine.{AtOpening, CutState, first_state, cut_after, last_end, last_begin, begun_after, RefusesRecord}
 
 -- a text that is cut, as far as it was fed
 pub record Cutting : Type 0 where
-  pub options : Options  -- how the text is written
+  pub options : Dialect  -- how the text is written
   pub file : ℕ  -- the number of its file
   pub state : CutState  -- the machine after the bytes that were fed
   pub fed : ℕ  -- how many these are
   pub begun : ℕ  -- the place of the first byte of the record that is under way
 
 -- of the options, those that decide where a text may be cut
-abbrev pub cut_options : Options → Options
+abbrev pub cut_options : Dialect → Dialect
 cut_options o = options_of o.separator o.quote o.eol o.comment true [] false
 
 -- nothing was fed
-abbrev pub cut_opening : Options → ℕ → Cutting
+abbrev pub cut_opening : Dialect → ℕ → Cutting
 cut_opening o file = record { options = cut_options o; file = file; state = first_state o AtOpening; fed = 0; begun = 0 }
 
 -- these bytes were fed too
@@ -51,5 +51,5 @@ FeedsPieces = (c : Cutting) (front back : List ℕ) → fed_with (fed_with c fro
 
 -- a text is cut by its separator, quote, eol and comment prefix alone
 abbrev pub CutsByBytes : Type 0
-CutsByBytes = (o : Options) (s : CutState) (bytes : List ℕ) → (cut_after (cut_options o) s bytes ≡ cut_after o s bytes)
+CutsByBytes = (o : Dialect) (s : CutState) (bytes : List ℕ) → (cut_after (cut_options o) s bytes ≡ cut_after o s bytes)
     × (last_end (cut_options o) s bytes ≡ last_end o s bytes) × (last_begin (cut_options o) s bytes ≡ last_begin o s bytes)

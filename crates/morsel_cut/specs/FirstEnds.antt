@@ -1,6 +1,6 @@
 -- Where the first record of a text ends, and what it is to the rows.
 use Rattle.std.specs.Prelude.{ℕ, suc, Bool, true, ◌&&◌, ◌||◌, ◌==◌, if◌then◌else◌, List, [], ◌∷◌}
-use Rattle.morsel_grammar.specs.Options.{Options}
+use Rattle.morsel_grammar.specs.Dialect.{Dialect}
 use Rattle.morsel_grammar.specs.Machine.{CutState, AfterEol, first_state, cut_step, is_after_eol}
 
 -- how many bytes there are up to the first after which the test holds of the state; all of them where there is none
@@ -9,11 +9,11 @@ first_place step test s [] = 0
 first_place step test s (b ∷ bs) = if test (step s b) then 1 else suc (first_place step test (step s b) bs)
 
 -- how many bytes there are up to the first end of a record; all of them where none ends
-abbrev pub first_end : Options → CutState → List ℕ → ℕ
+abbrev pub first_end : Dialect → CutState → List ℕ → ℕ
 first_end o s bytes = first_place (cut_step o) (λ (s : CutState). is_after_eol s.place) s bytes
 
 -- how many bytes the record takes that a text begins with
-abbrev pub record_size : Options → List ℕ → ℕ
+abbrev pub record_size : Dialect → List ℕ → ℕ
 record_size o text = first_end o (first_state o AfterEol) text
 
 -- the text is over, or goes on with the eol byte

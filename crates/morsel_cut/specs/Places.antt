@@ -1,6 +1,6 @@
 -- The places of the code, as the places of the machine.
 use Rattle.std.specs.Prelude.{true, false, Option, None, List, [], ℕ}
-use Rattle.morsel_grammar.specs.Options.{Options, options_of}
+use Rattle.morsel_grammar.specs.Dialect.{Dialect, options_of}
 use Rattle.morsel_grammar.specs.Machine.{CutState, CutPlace, AtOpening, InMarkOne, InMarkTwo, AfterMark, AfterEol, AfterSeparator, InPlain, InQuotes, AfterQuote, AfterReturn, InComment, BrokenQuote}
 use Rattle.morsel_cut.specs.declared.step.ByteAt.{ByteAt}
 use Rattle.morsel_cut.specs.declared.step.ByteAt.TheVariants as places
@@ -23,7 +23,7 @@ cut_place places.InComment = InComment
 cut_place places.BrokenQuote = BrokenQuote
 
 -- options with these bytes, and without comments
-abbrev pub sign_options : Signs → Options
+abbrev pub sign_options : Signs → Dialect
 sign_options signs = options_of signs.separator signs.quote signs.eol None true [] false
 
 -- up to the next quote, each byte is one of a field without quotes, or ends one
@@ -35,7 +35,7 @@ IsOutside InPlain = Unit {0}
 IsOutside place = ⊥
 
 -- options with these bytes and this comment prefix
-abbrev pub options_with : Signs → Option (List ℕ) → Options
+abbrev pub options_with : Signs → Option (List ℕ) → Dialect
 options_with signs prefix = options_of signs.separator signs.quote signs.eol prefix true [] false
 
 -- the state of the machine

@@ -1,6 +1,6 @@
 -- Lines without quotes, of which none is blank.
 use Rattle.std.specs.Prelude.{◌≡◌, ℕ, suc, ◌+◌, ◌<◌, ◌==◌, true, false, None, List, length, get_or}
-use Rattle.morsel_grammar.specs.Options.{Options, AreOptions}
+use Rattle.morsel_grammar.specs.Dialect.{Dialect, IsDialect}
 use Rattle.morsel_grammar.specs.Split.{is_quote}
 
 -- the byte at this place is neither the eol nor 13
@@ -17,8 +17,8 @@ pub record IsWithoutBlanks (eol : ℕ) (text : List ℕ) : Type 0 where
   pub later : BeginLines eol text (length text)
 
 -- whole lines without quotes, where there are no comments
-pub record ArePlainLines (o : Options) (lines : List ℕ) : Type 0 where
-  pub fit : AreOptions o
+pub record ArePlainLines (o : Dialect) (lines : List ℕ) : Type 0 where
+  pub fit : IsDialect o
   pub no_comments : o.comment ≡ None
   pub unquoted : (k : ℕ) → k < length lines → is_quote o.quote (get_or lines k 0) ≡ false
   pub last : ℕ

@@ -2,7 +2,7 @@
 use Rattle.std.specs.Prelude.{◌≡◌, ℕ, ◌+◌, ◌≤◌, Bool, true, false, not, ◌||◌, ◌==◌, if◌then◌else◌, Some, List, [], ◌∷◌, ◌++◌, length, take, drop}
 use Rattle.std.specs.List.{count_by}
 use Rattle.morsel_meaning.specs.declared.value.ColType.{ColType}
-use Rattle.morsel_grammar.specs.Options.{Options}
+use Rattle.morsel_grammar.specs.Dialect.{Dialect}
 use Rattle.morsel_grammar.specs.Grammar.{CsvRecord, Comment, Fields, Records}
 use Rattle.morsel_grammar.specs.Cells.{CsvCell}
 use Rattle.morsel_grammar.specs.Rows.{is_empty, is_header, behind_header, rows_of_records}
@@ -19,7 +19,7 @@ abbrev pub row_count : ℕ → List CsvRecord → ℕ
 row_count columns records = count_by (is_row columns) records
 
 -- records that fit the columns are as many rows as are counted
-abbrev pub CountsRows : Options → Type 0
+abbrev pub CountsRows : Dialect → Type 0
 CountsRows o = (kinds : List ColType) (records : List CsvRecord) (rows : List (List CsvCell)) → rows_of_records o kinds records ≡ Some rows
     → length rows ≡ row_count (length kinds) records
 
@@ -28,7 +28,7 @@ abbrev pub AddsRows : Type 0
 AddsRows = (columns : ℕ) (front back : List CsvRecord) → row_count columns (front ++ back) ≡ row_count columns front + row_count columns back
 
 -- the text begins with records of so many bytes that are so many rows
-abbrev pub TakesRows : Options → ℕ → List ℕ → List CsvRecord → ℕ → ℕ → Type 0
+abbrev pub TakesRows : Dialect → ℕ → List ℕ → List CsvRecord → ℕ → ℕ → Type 0
 TakesRows o columns text records len rows = (left : List CsvRecord) × Records o (drop len text) left × (rows + row_count columns left ≡ row_count columns records)
 
 -- the records before the header, and the header
@@ -37,7 +37,7 @@ up_to_header [] = []
 up_to_header (r ∷ records) = r ∷ (if is_header r then [] else up_to_header records)
 
 -- the text up to the end of its header, which may be still to come
-pub record EndsHead (o : Options) (text : List ℕ) (records : List CsvRecord) (end : HeadEnd) : Type 0 where
+pub record EndsHead (o : Dialect) (text : List ℕ) (records : List CsvRecord) (end : HeadEnd) : Type 0 where
   pub within : end.len ≤ length text
   pub front : Records o (take end.len text) (up_to_header records)
   pub back : Records o (drop end.len text) (behind_header true records)

@@ -1,6 +1,6 @@
 //! Where a CSV text that comes in pieces may be cut.
 ghost use Rattle.std.specs.Prelude.{◌≡◌, ◌+◌, ◌<◌, ◌≤◌, ◌^◌, None, length, IfOk, IfErr, OnOk, IsOk, IsOkUnless};
-ghost use Rattle.morsel_grammar.specs.Options.{AreOptions};
+ghost use Rattle.morsel_grammar.specs.Dialect.{IsDialect};
 ghost use Rattle.morsel_grammar.specs.Machine.{RefusesEnd};
 ghost use Rattle.morsel_cut.specs.Places.{cut_state, options_with};
 ghost use Rattle.morsel_cut.specs.Runs.{Passes};
@@ -28,7 +28,7 @@ pub struct Cutter {
 
 impl Model for Cutter {
     ghost use Rattle.std.specs.Prelude.{◌≡◌, None};
-    ghost use Rattle.morsel_grammar.specs.Options.{AreOptions};
+    ghost use Rattle.morsel_grammar.specs.Dialect.{IsDialect};
     ghost use Rattle.morsel_cut.specs.Places.{cut_state, options_with};
     ghost use Rattle.morsel_cut.specs.Cutting.{Cutting};
 
@@ -42,7 +42,7 @@ impl Model for Cutter {
       begun = c.begun;
     } };
 
-    ghost invariant = { λ c. AreOptions (options_with c.signs c.prefix) × (c.prefix ≡ None → c.standing.matched ≡ None) };
+    ghost invariant = { λ c. IsDialect (options_with c.signs c.prefix) × (c.prefix ≡ None → c.standing.matched ≡ None) };
 }
 
 impl Cutter {
@@ -122,7 +122,7 @@ impl Cutter {
 
 /// What a piece does.
 fn pass(from: Standing, piece: &[u8], signs: Signs, prefix: &Option<Name>) -> Passed
-    requires fit { AreOptions (options_with signs prefix.now) }
+    requires fit { IsDialect (options_with signs prefix.now) }
     requires matched { prefix.now ≡ None → from.matched ≡ None }
     ensures passes { Passes (options_with signs prefix.now) (cut_state from) piece.now result }
     ensures matched { prefix.now ≡ None → result.standing.matched ≡ None }

@@ -1,5 +1,5 @@
 //! Laws: what was fed does not depend on the pieces, a fault comes again, and rows are counted as the grammar says.
-ghost use Rattle.morsel_grammar.specs.Options.{Options};
+ghost use Rattle.morsel_grammar.specs.Dialect.{Dialect};
 ghost use Rattle.morsel_cut.specs.Cutting.{KeepsFaults, FeedsPieces, CutsByBytes};
 ghost use Rattle.morsel_cut.specs.RowCounts.{CountsRows, AddsRows};
 
@@ -23,7 +23,7 @@ pub fn a_text_is_cut_by_four_options()
 /// Records that have rows by the grammar have as many as are counted.
 #[tactic(auto, using(crate::proofs::CountLemmas::counts_rows))]
 pub fn rows_are_counted_as_the_grammar_says()
-    ensures { (o : Options) → CountsRows o }
+    ensures { (o : Dialect) → CountsRows o }
 {}
 
 /// The rows of records in two parts are those of the one and those of the other.

@@ -1,6 +1,6 @@
 //! The record that a text begins with: how many bytes it takes, and whether it is a row.
 ghost use Rattle.std.specs.Prelude.{◌≡◌, ◌≢◌, ◌==◌, ◌<◌, ◌≤◌, ℕ, Some, List, false, length, take, slice_index, is_some};
-ghost use Rattle.morsel_grammar.specs.Options.{AreOptions};
+ghost use Rattle.morsel_grammar.specs.Dialect.{IsDialect};
 ghost use Rattle.morsel_grammar.specs.Grammar.{CsvRecord};
 ghost use Rattle.morsel_grammar.specs.Split.{is_quote, behind_front, comment_body, record_at};
 ghost use Rattle.morsel_grammar.specs.Machine.{is_after_eol, state_after, place_step};
@@ -92,7 +92,7 @@ pub fn record_size(text: &[u8], options: &CsvOptions) -> usize
     ensures value { result ≡ record_size options.now text.now }
     ensures within { result ≤ length text.now }
     ensures some { 0 < length text.now → 0 < result }
-    ensures fit { AreOptions options.now }
+    ensures fit { IsDialect options.now }
 {
     let signs = Signs::of(options);
     match options.comment() {
@@ -138,7 +138,7 @@ fn is_blank(text: &[u8], eol: u8) -> bool
 /// Whether a text begins with the comment prefix, where there is one.
 fn is_comment(text: &[u8], options: &CsvOptions) -> bool
     ensures value { result ≡ is_some (comment_body options.now.comment text.now) }
-    ensures fit { AreOptions options.now }
+    ensures fit { IsDialect options.now }
 {
     match options.comment() {
         Some(prefix) => begins_with(text, prefix.as_str().as_bytes()),

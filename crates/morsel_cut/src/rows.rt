@@ -1,6 +1,6 @@
 //! How many rows whole records are: lines without quotes 64 bytes at a time, and other records one by one.
 ghost use Rattle.std.specs.Prelude.{◌≡◌, ◌==◌, ◌⊎◌, ◌<◌, ◌≤◌, ℕ, true, false, List, None, length, take, slice_index, if◌then◌else◌};
-ghost use Rattle.morsel_grammar.specs.Options.{AreOptions};
+ghost use Rattle.morsel_grammar.specs.Dialect.{IsDialect};
 ghost use Rattle.morsel_grammar.specs.Grammar.{CsvRecord, Records};
 ghost use Rattle.morsel_grammar.specs.GrammarRows.{AreWholeRecords};
 ghost use Rattle.morsel_cut.specs.PlainLines.{ArePlainLines, IsWithoutBlanks};

@@ -4,7 +4,7 @@ use Rattle.std.proofs.Common.{ap, ◌∙◌, sym, arith, inl, inr, length-append
 use Rattle.morsel_meaning.specs.declared.value.ColType.{ColType}
 use Rattle.morsel_meaning.specs.declared.value.Field.{Field}
 use Rattle.morsel_meaning.specs.Values.{Row, kinds_of}
-use Rattle.morsel_grammar.specs.Options.{standard}
+use Rattle.morsel_grammar.specs.Dialect.{standard}
 use Rattle.morsel_grammar.specs.Cells.{CsvCell}
 use Rattle.morsel_grammar.specs.Rows.{mark_len, unmarked}
 use Rattle.morsel_grammar.specs.Reading.{Refusal}

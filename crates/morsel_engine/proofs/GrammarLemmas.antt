@@ -5,7 +5,7 @@ use Rattle.std.proofs.lemmas.List.{length-map, take-map}
 use Rattle.std.proofs.lemmas.Bool.Decides.{nat_tests}
 use Rattle.morsel_meaning.specs.declared.value.Field.{Field}
 use Rattle.morsel_meaning.specs.Values.{Row, kinds_of}
-use Rattle.morsel_grammar.specs.Options.{AreOptions, standard}
+use Rattle.morsel_grammar.specs.Dialect.{IsDialect, standard}
 use Rattle.morsel_grammar.specs.Cells.{CsvCell}
 use Rattle.morsel_grammar.specs.Rows.{mark_len, unmarked}
 use Rattle.morsel_grammar.specs.Reading.{Read, Refusal, used_values, used_rows, value_then, reading}
@@ -16,7 +16,7 @@ use Rattle.morsel_engine.specs.FileRows.{RowsOfFile, EndAtLimit, Ends, ScansFile
 use Rattle.morsel_engine.proofs.LimitLemmas.{limited-within, scan_of-plain}
 
 -- commas, double quotes and line feeds do not contradict each other
-pub standard_fits : AreOptions standard
+pub standard_fits : IsDialect standard
 standard_fits = record {
   separator_ascii = omega arith;
   separator_no_line_feed = λ is. cc;

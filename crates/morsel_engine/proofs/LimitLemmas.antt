@@ -11,7 +11,7 @@ use Rattle.morsel_meaning.specs.declared.fault.Fault.TheVariants as faults
 use Rattle.morsel_meaning.specs.Values.{Row, Table, kinds_of}
 use Rattle.morsel_meaning.specs.declared.value.ColType.{ColType}
 use Rattle.morsel_meaning.specs.declared.fault.ComputeKind.TheVariants as kinds
-use Rattle.morsel_grammar.specs.Options.{Options, standard}
+use Rattle.morsel_grammar.specs.Dialect.{Dialect, standard}
 use Rattle.morsel_grammar.specs.Cells.{CsvCell}
 use Rattle.morsel_grammar.specs.Reading.{Read, Reading, Refusal, Flaw, Malformed, NotUtf8, IllTyped, used_values, used_rows, value_then, chosen, reading, read_of, places_of, row_place}
 use Rattle.morsel_grammar.specs.Results.{IsRefused, ReadsRecords, flaw_fault, refusal_fault}
@@ -146,7 +146,7 @@ pub scans-limited : (fields : List Field) (at : ℕ) (text : List ℕ) (limit : 
 scans-limited fields at text limit place answer is scans = scans-cut fields (replicate (length fields) true) at (reading standard (kinds_of fields) true at text) limit place answer (rising-reading standard (kinds_of fields) true at text) is scans
 
 -- a short text has no row at the limit
-pub short-none : (o : Options) (kinds : List ColType) (at : ℕ) (text : List ℕ) (limit : ℕ) → length text ≤ limit → None ≡ slice_get (places_of (reading o kinds true at text)) limit
+pub short-none : (o : Dialect) (kinds : List ColType) (at : ℕ) (text : List ℕ) (limit : ℕ) → length text ≤ limit → None ≡ slice_get (places_of (reading o kinds true at text)) limit
 short-none o kinds at text limit le =
     let m = reading-at_most o kinds true at text in
     let n = length-map (reading o kinds true at text).rows (λ r. r.0) in
@@ -158,16 +158,16 @@ chosen-all [] = refl
 chosen-all (field ∷ fields) = ap (λ fs. field ∷ fs) (chosen-all fields)
 
 -- what a reader of every column answers of a text
-abbrev pub IsAnswered : List Field → List Bool → Options → ℕ → List ℕ → Result (Table × Bool) Fault → Type 0
+abbrev pub IsAnswered : List Field → List Bool → Dialect → ℕ → List ℕ → Result (Table × Bool) Fault → Type 0
 IsAnswered fields used o at text answer = ReadsRecords 0 fields used (read_of used (reading o (kinds_of fields) true at text)) answer
 
 -- by the standard options, and with every column used
-answered-standard : (fields : List Field) (used : List Bool) (o : Options) (at : ℕ) (text : List ℕ) (answer : Result (Table × Bool) Fault) → used ≡ replicate (length fields) true → o ≡ standard
+answered-standard : (fields : List Field) (used : List Bool) (o : Dialect) (at : ℕ) (text : List ℕ) (answer : Result (Table × Bool) Fault) → used ≡ replicate (length fields) true → o ≡ standard
     → IsAnswered fields used o at text answer → ReadsRecords 0 fields (replicate (length fields) true) (read_text fields at text) answer
 answered-standard fields used o at text answer all is h = subst (λ u. IsAnswered fields u standard at text answer) all (subst (λ p. IsAnswered fields used p at text answer) is h)
 
 -- the table of a text without a refused record
-pub scans-read : (fields : List Field) (used : List Bool) (o : Options) (at : ℕ) (text : List ℕ) (answer : Table × Bool) → used ≡ replicate (length fields) true → o ≡ standard
+pub scans-read : (fields : List Field) (used : List Bool) (o : Dialect) (at : ℕ) (text : List ℕ) (answer : Table × Bool) → used ≡ replicate (length fields) true → o ≡ standard
     → IsAnswered fields used o at text (Ok answer) → Scans fields (unlimited (read_text fields at text)) (Ok answer.0)
 scans-read fields used o at text answer all is answered =
     let h = answered-standard fields used o at text (Ok answer) all is answered in
@@ -190,7 +190,7 @@ given_on refusal faults.OutOfMemory h = tt
 given_on refusal fault h = refused-malformed refusal fault h
 
 -- the fault of a text with a refused record
-pub scans-refused : (fields : List Field) (used : List Bool) (o : Options) (at : ℕ) (text : List ℕ) (fault : Fault) → used ≡ replicate (length fields) true → o ≡ standard
+pub scans-refused : (fields : List Field) (used : List Bool) (o : Dialect) (at : ℕ) (text : List ℕ) (fault : Fault) → used ≡ replicate (length fields) true → o ≡ standard
     → IsAnswered fields used o at text (Err fault) → Scans fields (unlimited (read_text fields at text)) (Err (as_malformed fault))
 scans-refused fields used o at text fault all is answered = given_on (read_text fields at text).refusal fault (answered-standard fields used o at text (Err fault) all is answered)
 

@@ -3,7 +3,7 @@ use Rattle.std.specs.Prelude.{ℕ, zero, suc, ◌+◌, ◌-◌, ◌≤◌, Bool,
 use Rattle.std.specs.Str.{is_utf8}
 use Rattle.std.proofs.Common.{arith}
 use Rattle.morsel_meaning.specs.declared.value.ColType.{ColType}
-use Rattle.morsel_grammar.specs.Options.{Options}
+use Rattle.morsel_grammar.specs.Dialect.{Dialect}
 use Rattle.morsel_grammar.specs.Grammar.{CsvRecord}
 use Rattle.morsel_grammar.specs.Cells.{CsvCell}
 use Rattle.morsel_grammar.specs.Rows.{RowOf, NoRow, IsRow, Misfit, row_of, is_header}
@@ -45,14 +45,14 @@ laid-either at n true a b p q = p
 laid-either at n false a b p q = q
 
 -- a record is a header, a row or none, or is refused at its place
-laid-record_then : (o : Options) (kinds : List ColType) (head : Bool) (at next n : ℕ) (bytes : List ℕ) (r : CsvRecord) (later : Bool → Reading) → at ≤ next
+laid-record_then : (o : Dialect) (kinds : List ColType) (head : Bool) (at next n : ℕ) (bytes : List ℕ) (r : CsvRecord) (later : Bool → Reading) → at ≤ next
     → ((awaits_header : Bool) → IsLaid next n (later awaits_header)) → IsLaid at (suc n) (record_then o kinds head at bytes r later)
 laid-record_then o kinds head at next n bytes r later le h = laid-either at (suc n) (is_utf8 bytes) _ _
     (laid-either at (suc n) head _ _ (laid-from at next n (later (not (is_header r))) le (h (not (is_header r)))) (laid-row_then false at next n (row_of o kinds r) (later false) le (h false)))
     (record { rising = omega arith; count = omega arith })
 
 -- what follows a record begins no earlier than it
-laid-split_then : (o : Options) (kinds : List ColType) (head : Bool) (at n : ℕ) (text : List ℕ) (split : Option (CsvRecord × List ℕ)) (later : Bool → ℕ → List ℕ → Reading)
+laid-split_then : (o : Dialect) (kinds : List ColType) (head : Bool) (at n : ℕ) (text : List ℕ) (split : Option (CsvRecord × List ℕ)) (later : Bool → ℕ → List ℕ → Reading)
     → ((awaits_header : Bool) (next : ℕ) (rest : List ℕ) → IsLaid next n (later awaits_header next rest)) → IsLaid at (suc n) (split_then o kinds head at text split later)
 laid-split_then o kinds head at n text None later h = record { rising = omega arith; count = omega arith }
 laid-split_then o kinds head at n text (Some split) later h =
@@ -60,16 +60,16 @@ laid-split_then o kinds head at n text (Some split) later h =
     laid-record_then o kinds head at (at + size) n (take size text) split.0 (λ awaits_header. later awaits_header (at + size) split.1) (omega arith) (λ awaits_header. h awaits_header (at + size) split.1)
 
 -- each record gives at most one row
-laid-reading_up_to : (n : ℕ) (o : Options) (kinds : List ColType) (head : Bool) (at : ℕ) (text : List ℕ) → IsLaid at n (reading_up_to n o kinds head at text)
+laid-reading_up_to : (n : ℕ) (o : Dialect) (kinds : List ColType) (head : Bool) (at : ℕ) (text : List ℕ) → IsLaid at n (reading_up_to n o kinds head at text)
 laid-reading_up_to n o kinds head at [] = record { rising = tt; count = omega arith }
 laid-reading_up_to zero o kinds head at (b ∷ bs) = record { rising = tt; count = omega arith }
 laid-reading_up_to (suc n) o kinds head at (b ∷ bs) = laid-split_then o kinds head at n (b ∷ bs) (record_at o (b ∷ bs)) (λ awaits_header next rest. reading_up_to n o kinds awaits_header next rest)
     (λ awaits_header next rest. laid-reading_up_to n o kinds awaits_header next rest)
 
 -- places never fall along the rows of a text, nor from them to the record that is refused
-pub rising-reading : (o : Options) (kinds : List ColType) (head : Bool) (at : ℕ) (text : List ℕ) → Rising at (reading_up_to (length text) o kinds head at text).rows (reading_up_to (length text) o kinds head at text).refusal
+pub rising-reading : (o : Dialect) (kinds : List ColType) (head : Bool) (at : ℕ) (text : List ℕ) → Rising at (reading_up_to (length text) o kinds head at text).rows (reading_up_to (length text) o kinds head at text).refusal
 rising-reading o kinds head at text = (laid-reading_up_to (length text) o kinds head at text).rising
 
 -- each row takes a byte
-pub reading-at_most : (o : Options) (kinds : List ColType) (head : Bool) (at : ℕ) (text : List ℕ) → length (reading_up_to (length text) o kinds head at text).rows ≤ length text
+pub reading-at_most : (o : Dialect) (kinds : List ColType) (head : Bool) (at : ℕ) (text : List ℕ) → length (reading_up_to (length text) o kinds head at text).rows ≤ length text
 reading-at_most o kinds head at text = (laid-reading_up_to (length text) o kinds head at text).count

@@ -2,7 +2,7 @@
 use Rattle.std.specs.Prelude.{◌≡◌, ℕ, ◌<◌, Option, Some, None, List, length}
 use Rattle.morsel_meaning.specs.declared.value.Field.{Field}
 use Rattle.morsel_meaning.specs.Values.{Row}
-use Rattle.morsel_grammar.specs.Options.{standard}
+use Rattle.morsel_grammar.specs.Dialect.{standard}
 use Rattle.morsel_grammar.specs.Rows.{unmarked}
 use Rattle.morsel_grammar.specs.GrammarRows.{EndsWithinQuotes}
 use Rattle.morsel_engine.specs.FileRows.{ScansFile}

@@ -2,7 +2,7 @@
 use Rattle.std.specs.Prelude.{◌≡◌, ◌⊎◌, ℕ, ◌<◌, ◌≤◌, Bool, true, false, Option, Some, None, List, [], length, take, replicate}
 use Rattle.morsel_meaning.specs.declared.value.Field.{Field}
 use Rattle.morsel_meaning.specs.Values.{Row, kinds_of}
-use Rattle.morsel_grammar.specs.Options.{standard}
+use Rattle.morsel_grammar.specs.Dialect.{standard}
 use Rattle.morsel_grammar.specs.Cells.{CsvCell}
 use Rattle.morsel_grammar.specs.Rows.{mark_len, unmarked}
 use Rattle.morsel_grammar.specs.Reading.{Refusal}

@@ -4,7 +4,7 @@ use Rattle.morsel_meaning.specs.declared.value.Field.{Field}
 use Rattle.morsel_meaning.specs.declared.fault.Fault.{Fault}
 use Rattle.morsel_meaning.specs.declared.fault.Fault.TheVariants.{OutOfMemory, Malformed, ComputeError}
 use Rattle.morsel_meaning.specs.Values.{Table, kinds_of}
-use Rattle.morsel_grammar.specs.Options.{standard}
+use Rattle.morsel_grammar.specs.Dialect.{standard}
 use Rattle.morsel_grammar.specs.Reading.{Read, reading, read_of}
 use Rattle.morsel_engine.specs.Scan.{Scanned, refused_place}
 

@@ -1,7 +1,7 @@
 //! The rows of a CSV file under the standard options.
 ghost use Rattle.std.specs.Prelude.{◌≡◌, ◌+◌, ◌^◌, ◌<◌, ◌≤◌, true, length, IfOk, IsOkUnless, MatchResult, replicate, slice_get};
 ghost use Rattle.morsel_meaning.specs.Values.{kinds_of};
-ghost use Rattle.morsel_grammar.specs.Options.{standard};
+ghost use Rattle.morsel_grammar.specs.Dialect.{standard};
 ghost use Rattle.morsel_grammar.specs.Reading.{reading, places_of};
 ghost use Rattle.morsel_grammar.specs.Rows.{mark_len};
 ghost use Rattle.morsel_engine.specs.Limit.{read_text, unlimited, Scans, as_malformed, not_after, ended_at};

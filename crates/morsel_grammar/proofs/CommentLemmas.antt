@@ -1,12 +1,12 @@
 -- A comment runs from its prefix to the next eol byte.
 use Rattle.std.proofs.Common.{◌≡◌, ℕ, ap, sym, subst, refl, ◌∙◌, inl, inr}
 use Rattle.std.specs.Prelude.{Bool, true, false, ◌==◌, if◌then◌else◌, Option, Some, None, List, [], ◌∷◌, ◌++◌}
-use Rattle.morsel_grammar.specs.Options.{Options, IsWithout, IsCommentFor}
+use Rattle.morsel_grammar.specs.Dialect.{Dialect, IsWithout, IsCommentFor}
 use Rattle.morsel_grammar.specs.Grammar.{IsLineEnd}
 use Rattle.morsel_grammar.specs.Split.{line_at, behind_front, comment_body}
 use Rattle.morsel_grammar.proofs.ByteLemmas.{byte_itself, same_byte, other_byte, bytes_differ}
 
-pub line_at-written : (o : Options) (body end rest : List ℕ) → IsWithout o.eol body → IsLineEnd o end rest → line_at o.eol (body ++ end) ≡ (body, rest)
+pub line_at-written : (o : Dialect) (body end rest : List ℕ) → IsWithout o.eol body → IsLineEnd o end rest → line_at o.eol (body ++ end) ≡ (body, rest)
 line_at-written o [] end rest without (inl is) = ap (line_at o.eol) is ∙ rw (byte_itself o.eol) refl
 line_at-written o [] end rest without (inr is) = ap (line_at o.eol) is.0 ∙ ap (λ (x : List ℕ). let found : List ℕ × List ℕ = ([], x) in found) (sym is.1)
 line_at-written o (b ∷ body) end rest without line =
@@ -14,13 +14,13 @@ line_at-written o (b ∷ body) end rest without line =
     ∙ ap (λ (found : List ℕ × List ℕ). let more : List ℕ × List ℕ = (b ∷ found.0, found.1) in more) (line_at-written o body end rest without.1 line)
 
 -- the text is a body without eol, and an end
-pub record IsLineText (o : Options) (text : List ℕ) (found : List ℕ × List ℕ) : Type 0 where
+pub record IsLineText (o : Dialect) (text : List ℕ) (found : List ℕ × List ℕ) : Type 0 where
   pub end : List ℕ
   pub is : text ≡ found.0 ++ end
   pub no_eol : IsWithout o.eol found.0
   pub line : IsLineEnd o end found.1
 
-read_byte : (o : Options) (b : ℕ) (bs : List ℕ) (found : List ℕ × List ℕ) (t : Bool) → (b == o.eol) ≡ t → IsLineText o bs found
+read_byte : (o : Dialect) (b : ℕ) (bs : List ℕ) (found : List ℕ × List ℕ) (t : Bool) → (b == o.eol) ≡ t → IsLineText o bs found
     → IsLineText o (b ∷ bs) (if t then ([], bs) else (b ∷ found.0, found.1))
 read_byte o b bs found true is later = record { end = b ∷ bs; is = refl; no_eol = tt; line = inl (ap (λ (x : ℕ). x ∷ bs) (same_byte b o.eol is)) }
 read_byte o b bs found false other later = record {
@@ -30,7 +30,7 @@ read_byte o b bs found false other later = record {
   line = later.line;
 }
 
-pub line_at-read : (o : Options) (text : List ℕ) → IsLineText o text (line_at o.eol text)
+pub line_at-read : (o : Dialect) (text : List ℕ) → IsLineText o text (line_at o.eol text)
 line_at-read o [] = record { end = []; is = refl; no_eol = tt; line = inr (refl, refl) }
 line_at-read o (b ∷ bs) = read_byte o b bs (line_at o.eol bs) (b == o.eol) refl (line_at-read o bs)
 

@@ -2,7 +2,7 @@
 use Rattle.std.proofs.Common.{◌≡◌, ◌≢◌, ℕ, zero, suc, ◌+◌, ap, sym, subst, refl, ◌∙◌}
 use Rattle.std.proofs.lemmas.List.{drop-drop, take-append-drop, length-take-le}
 use Rattle.std.specs.Prelude.{List, [], ◌∷◌, ◌++◌, length, take, drop}
-use Rattle.morsel_grammar.specs.Options.{Options, AreOptions}
+use Rattle.morsel_grammar.specs.Dialect.{Dialect, IsDialect}
 use Rattle.morsel_grammar.specs.Grammar.{CsvRecord, IsRecord}
 use Rattle.morsel_grammar.specs.GrammarRows.{AreWholeRecords, BeginsNoRecord}
 use Rattle.morsel_grammar.specs.Machine.{CutPlace, AtOpening, AfterEol, CutState, is_after_eol, first_state, cut_step, cut_after, last_end, last_begin, RefusesRecord, RefusesEnd}
@@ -17,7 +17,7 @@ use Rattle.morsel_grammar.proofs.OpeningCutLemmas.{passed}
 use Rattle.morsel_grammar.proofs.RefusalLemmas.{hopeless_left}
 
 -- bytes at whose end the text may be cut
-pub whole_at_ends : (o : Options) → AreOptions o → AreWholeAtEnds o
+pub whole_at_ends : (o : Dialect) → IsDialect o → AreWholeAtEnds o
 whole_at_ends o fit = λ place bytes is ends.
     let all = passed o place bytes fit is in
     let P : List ℕ → Type 0 = λ x. HasWhole o x in
@@ -27,7 +27,7 @@ some_line : (line : List ℕ) (b : ℕ) (rest : List ℕ) → line ++ b ∷ rest
 some_line [] b rest = λ is. cc
 some_line (c ∷ line) b rest = λ is. cc
 
-some_whole : (o : Options) (text : List ℕ) (r : CsvRecord) (records : List CsvRecord) → AreWholeRecords o text (r ∷ records) → text ≢ []
+some_whole : (o : Dialect) (text : List ℕ) (r : CsvRecord) (records : List CsvRecord) → AreWholeRecords o text (r ∷ records) → text ≢ []
 some_whole o text r records (line, rest, is, first, later) = λ none. some_line line o.eol rest (sym is ∙ none)
 
 drop_nothing : (n : ℕ) (bytes : List ℕ) → drop n bytes ≢ [] → bytes ≢ []
@@ -35,7 +35,7 @@ drop_nothing zero bytes some = some
 drop_nothing (suc n) [] some = some
 drop_nothing (suc n) (b ∷ bs) some = λ none. cc
 
-pub may_cut_after_whole : (o : Options) → AreOptions o → MayCutAfterWhole o
+pub may_cut_after_whole : (o : Dialect) → IsDialect o → MayCutAfterWhole o
 may_cut_after_whole o fit = λ place bytes r records is whole.
     let all = passed o place bytes fit is in
     let P : List ℕ → Type 0 = λ x. AreWholeRecords o x (r ∷ records) in
@@ -44,7 +44,7 @@ may_cut_after_whole o fit = λ place bytes r records is whole.
     let starts : cut_after o (start o) (drop all.mark bytes) ≡ start o = whole_start o (drop all.mark bytes) (r ∷ records) fit here in
     after_line o (first_state o place) bytes (drop_nothing all.mark bytes some) (all.show.at_end_again some (ap (λ (x : CutState). x.place) starts))
 
-pub finds_no_end : (o : Options) → AreOptions o → FindsNoEnd o
+pub finds_no_end : (o : Dialect) → IsDialect o → FindsNoEnd o
 finds_no_end o fit = λ place bytes is.
     let all = passed o place bytes fit is in
     let P : List ℕ → Type 0 = λ x. BeginsNoWholeRecord o x in (
@@ -53,12 +53,12 @@ finds_no_end o fit = λ place bytes is.
     )
 
 -- the record that is under way
-left_over : (o : Options) (place : CutPlace) (bytes : List ℕ) → (all : IsPassed o place bytes)
+left_over : (o : Dialect) (place : CutPlace) (bytes : List ℕ) → (all : IsPassed o place bytes)
     → drop (last_end o (start o) (drop all.mark bytes)) (drop all.mark bytes) ≡ drop (last_begin o (first_state o place) bytes) bytes
 left_over o place bytes all =
     drop-drop (last_end o (start o) (drop all.mark bytes)) all.mark bytes ∙ ap (λ (n : ℕ). drop n bytes) (sym all.begin)
 
-pub refuses_whatever_follows : (o : Options) → AreOptions o → RefusesWhateverFollows o
+pub refuses_whatever_follows : (o : Dialect) → IsDialect o → RefusesWhateverFollows o
 refuses_whatever_follows o fit = λ place bytes more is refused.
     let all = passed o place bytes fit is in
     let text : List ℕ = drop all.mark bytes in
@@ -68,7 +68,7 @@ refuses_whatever_follows o fit = λ place bytes more is refused.
     let Q : CutState → Type 0 = λ x. RefusesRecord x in
     subst P (left_over o place bytes all) (refused_left o left more fit way.no_end (subst Q (sym way.after) (all.show.refuses_record refused)))
 
-pub refuses_without_delay : (o : Options) → AreOptions o → RefusesWithoutDelay o
+pub refuses_without_delay : (o : Dialect) → IsDialect o → RefusesWithoutDelay o
 refuses_without_delay o fit = λ place bytes is never.
     let all = passed o place bytes fit is in
     let text : List ℕ = drop all.mark bytes in
@@ -78,7 +78,7 @@ refuses_without_delay o fit = λ place bytes is never.
     let Q : CutState → Type 0 = λ x. RefusesRecord x in
     all.show.refuses_record_again (subst Q way.after (hopeless_left o left fit way.no_end (subst P (sym (left_over o place bytes all)) never)))
 
-pub refuses_open_end : (o : Options) → AreOptions o → RefusesOpenEnd o
+pub refuses_open_end : (o : Dialect) → IsDialect o → RefusesOpenEnd o
 refuses_open_end o fit = λ place bytes is refuses.
     let all = passed o place bytes fit is in
     let text : List ℕ = drop all.mark bytes in
@@ -88,7 +88,7 @@ refuses_open_end o fit = λ place bytes is refuses.
     let Q : CutState → Type 0 = λ x. RefusesEnd x in
     subst P (left_over o place bytes all) (open_left o left fit way.no_end (subst Q (sym way.after) (all.show.refuses_end refuses)))
 
-pub ends_with_record : (o : Options) → AreOptions o → EndsWithRecord o
+pub ends_with_record : (o : Dialect) → IsDialect o → EndsWithRecord o
 ends_with_record o fit = λ place bytes is may_end some.
     let all = passed o place bytes fit is in
     let text : List ℕ = drop all.mark bytes in
@@ -100,7 +100,7 @@ ends_with_record o fit = λ place bytes is may_end some.
     (ended_left o left fit way.no_end (λ refuses. may_end (all.show.refuses_end_again (subst Q way.after refuses))))
 
 -- the last end
-first_after_end : (o : Options) (s : CutState) (bytes : List ℕ) (n : ℕ) → n ≢ 0 → last_end o s bytes ≡ n → (cut_after o s (take n bytes)).place ≡ AfterEol
+first_after_end : (o : Dialect) (s : CutState) (bytes : List ℕ) (n : ℕ) → n ≢ 0 → last_end o s bytes ≡ n → (cut_after o s (take n bytes)).place ≡ AfterEol
     → cut_after o s (take n bytes) ≡ start o
 first_after_end o s bytes zero some is ends = absurd (some refl)
 first_after_end o s [] (suc n) some is ends = cc
@@ -110,19 +110,19 @@ text_from-nothing : (place : CutPlace) → text_from place [] ≡ []
 text_from-nothing AtOpening = refl
 text_from-nothing place = refl
 
-whole_front : (o : Options) (place : CutPlace) (bytes : List ℕ) (n : ℕ) → AreOptions o → IsFirstPlace place → (n ≢ 0 → (cut_after o (first_state o place) (take n bytes)).place ≡ AfterEol)
+whole_front : (o : Dialect) (place : CutPlace) (bytes : List ℕ) (n : ℕ) → IsDialect o → IsFirstPlace place → (n ≢ 0 → (cut_after o (first_state o place) (take n bytes)).place ≡ AfterEol)
     → (records : List CsvRecord) × AreWholeRecords o (text_from place (take n bytes)) records
 whole_front o place bytes zero fit is ends = ([], text_from-nothing place)
 whole_front o place bytes (suc n) fit is ends = whole_at_ends o fit place (take (suc n) bytes) is (ends (λ none. cc))
 
-pub cuts_after_whole : (o : Options) → AreOptions o → CutsAfterWhole o
+pub cuts_after_whole : (o : Dialect) → IsDialect o → CutsAfterWhole o
 cuts_after_whole o fit = λ place bytes is.
     let s : CutState = first_state o place in (
       whole_front o place bytes (last_end o s bytes) fit is (at_last_end o s bytes),
       λ some. first_after_end o s bytes (last_end o s bytes) some refl (at_last_end o s bytes some),
     )
 
-pub passes_what_is_left : (o : Options) → AreOptions o → PassesWhatIsLeft o
+pub passes_what_is_left : (o : Dialect) → IsDialect o → PassesWhatIsLeft o
 passes_what_is_left o fit = λ place bytes is some.
     let s : CutState = first_state o place in
     let n : ℕ = last_end o s bytes in
@@ -132,7 +132,7 @@ passes_what_is_left o fit = λ place bytes is some.
     )
 
 -- what is before the record that is under way
-pub begins_after_whole : (o : Options) → AreOptions o → BeginsAfterWhole o
+pub begins_after_whole : (o : Dialect) → IsDialect o → BeginsAfterWhole o
 begins_after_whole o fit = λ place bytes is.
     let all = passed o place bytes fit is in
     let text : List ℕ = drop all.mark bytes in

@@ -5,7 +5,7 @@ use lib.Utf8.{encode, scalars}
 use Rattle.std.specs.Prelude.{Bool, true, false, ◌&&◌, ◌==◌, ◌↔◌, if◌then◌else◌, Option, Some, None, List, [], ◌∷◌, ◌++◌, length, drop, map, IsUtf8}
 use Rattle.morsel_meaning.specs.declared.value.ColType.{ColType}
 use Rattle.morsel_meaning.specs.Values.{Row}
-use Rattle.morsel_grammar.specs.Options.{Options, AreOptions}
+use Rattle.morsel_grammar.specs.Dialect.{Dialect, IsDialect}
 use Rattle.morsel_grammar.specs.Grammar.{CsvField, CsvRecord, doubled, BeginsComment, Records}
 use Rattle.morsel_grammar.specs.Cells.{CsvCell}
 use Rattle.morsel_grammar.specs.Split.{is_quote, quoted_at, with_byte, in_quotes, field_at, with_field, fields_then, fields_up_to, fields_record, comment_body, record_then_fields}
@@ -33,7 +33,7 @@ quoted_at-open : (q : ℕ) (content : List ℕ) → quoted_at q (doubled q conte
 quoted_at-open q [] = refl
 quoted_at-open q (b ∷ content) = open_byte q b content (b == q) refl (quoted_at-open q content)
 
-fields-open : (n : ℕ) (o : Options) (fields : List CsvField) (text : List ℕ) → AreOptions o → OpensQuotes o fields text → fields_up_to n o text ≡ None
+fields-open : (n : ℕ) (o : Dialect) (fields : List CsvField) (text : List ℕ) → IsDialect o → OpensQuotes o fields text → fields_up_to n o text ≡ None
 fields-open zero o fields text fit open_quotes = refl
 fields-open (suc n) o [] text fit open_quotes =
     let q : ℕ = open_quotes.0 in
@@ -45,7 +45,7 @@ fields-open (suc n) o (f ∷ fields) text fit open_quotes =
     ∙ next_written o f open_quotes.0 open_quotes.1 (λ rest. fields_up_to n o rest) fit open_quotes.2
     ∙ ap (with_field f) (fields-open n o fields open_quotes.1 fit open_quotes.4)
 
-record-open : (o : Options) (fields : List CsvField) (text : List ℕ) → AreOptions o → (BeginsComment o text → ⊥) → OpensQuotes o fields text → BeginsNoRecord o text
+record-open : (o : Dialect) (fields : List CsvField) (text : List ℕ) → IsDialect o → (BeginsComment o text → ⊥) → OpensQuotes o fields text → BeginsNoRecord o text
 record-open o fields text fit never open_quotes =
     (refuses_by_grammar o fit text).0
     (ap (record_then_fields o text) (no_body o text (comment_body o.comment text) never (comment_body-read o.comment text))
@@ -55,44 +55,44 @@ some_bytes : (front : List ℕ) (b : ℕ) (back : List ℕ) → front ++ b ∷ b
 some_bytes [] b back = λ is. cc
 some_bytes (c ∷ front) b back = λ is. cc
 
-open_some : (o : Options) (fields : List CsvField) (text : List ℕ) → OpensQuotes o fields text → text ≢ []
+open_some : (o : Dialect) (fields : List CsvField) (text : List ℕ) → OpensQuotes o fields text → text ≢ []
 open_some o [] text open_quotes = λ none. some_bytes [] open_quotes.0 (doubled open_quotes.0 open_quotes.1) (sym open_quotes.3 ∙ none)
 open_some o (f ∷ fields) text open_quotes = λ none. some_bytes open_quotes.0 o.separator open_quotes.1 (sym open_quotes.3 ∙ none)
 
-no_records : (o : Options) (fields : List CsvField) (rest : List ℕ) (records : List CsvRecord) → AreOptions o → (BeginsComment o rest → ⊥) → OpensQuotes o fields rest → Records o rest records → ⊥
+no_records : (o : Dialect) (fields : List CsvField) (rest : List ℕ) (records : List CsvRecord) → IsDialect o → (BeginsComment o rest → ⊥) → OpensQuotes o fields rest → Records o rest records → ⊥
 no_records o fields rest [] fit never open_quotes none = open_some o fields rest open_quotes none
 no_records o fields rest (r ∷ records) fit never open_quotes split = record-open o fields rest fit never open_quotes r split.1 split.2
 
 -- a text that ends within quotes is no list of records
-pub open_quotes_no_records : (o : Options) (text : List ℕ) (records : List CsvRecord) → AreOptions o → EndsWithinQuotes o text → Records o text records → ⊥
+pub open_quotes_no_records : (o : Dialect) (text : List ℕ) (records : List CsvRecord) → IsDialect o → EndsWithinQuotes o text → Records o text records → ⊥
 open_quotes_no_records o text records fit open_quotes split =
     let P : List ℕ → Type 0 = λ x. Records o x records in
     let later = records_behind o open_quotes.0 open_quotes.1 open_quotes.2 records fit open_quotes.5 (subst P open_quotes.4 split) in
     no_records o open_quotes.3 open_quotes.1 later.0 fit open_quotes.6 open_quotes.7 later.2
 
-some_refusal : (o : Options) (kinds : List ColType) (used : List Bool) (head : Bool) (at : ℕ) (text : List ℕ) (rows : List Row) (awaits_header : Bool) (found : Option Refusal) → AreOptions o
+some_refusal : (o : Dialect) (kinds : List ColType) (used : List Bool) (head : Bool) (at : ℕ) (text : List ℕ) (rows : List Row) (awaits_header : Bool) (found : Option Refusal) → IsDialect o
     → EndsWithinQuotes o text → RowsOfGrammar o kinds used head at text rows awaits_header found → (refusal : Refusal) × (found ≡ Some refusal)
 some_refusal o kinds used head at text rows awaits_header None fit open_quotes is = absurd (open_quotes_no_records o text is.1.records fit open_quotes is.1.split)
 some_refusal o kinds used head at text rows awaits_header (Some refusal) fit open_quotes is = (refusal, refl)
 
-pub refuses_open_quotes : (o : Options) → AreOptions o → RefusesOpenQuotes o
+pub refuses_open_quotes : (o : Dialect) → IsDialect o → RefusesOpenQuotes o
 refuses_open_quotes o fit = λ kinds used head at text open_quotes.
     let read = read_of used (reading o kinds head at text) in
     some_refusal o kinds used head at text (values_in read.rows) read.head read.refusal fit open_quotes (read_of-rows o kinds used head at text fit)
 
-pub reads_cells : (o : Options) → AreOptions o → ReadsCells o
+pub reads_cells : (o : Dialect) → IsDialect o → ReadsCells o
 reads_cells o fit = λ kinds head at text. reading-cells o kinds head at text fit
 
-pub reads_all_cells : (o : Options) → AreOptions o → ReadsAllCells o
+pub reads_all_cells : (o : Dialect) → IsDialect o → ReadsAllCells o
 reads_all_cells o fit = λ kinds head at text rows awaits_header has. reading-ends o kinds head at text rows awaits_header fit has
 
-pub places_rows : (o : Options) → AreOptions o → PlacesRows o
+pub places_rows : (o : Dialect) → IsDialect o → PlacesRows o
 places_rows o fit = λ kinds head at text before place cells after is. (reading-is o kinds [] head at text fit).rows before place cells after is
 
-pub reads_rows : (o : Options) → AreOptions o → ReadsRows o
+pub reads_rows : (o : Dialect) → IsDialect o → ReadsRows o
 reads_rows o fit = λ kinds used head at text. read_of-rows o kinds used head at text fit
 
-pub reads_all_rows : (o : Options) → AreOptions o → ReadsAllRows o
+pub reads_all_rows : (o : Dialect) → IsDialect o → ReadsAllRows o
 reads_all_rows o fit = λ kinds used head at text rows awaits_header is. read_of-ends o kinds used head at text is.0 rows awaits_header fit is.1 is.2
 
 -- the byte order mark is one character
@@ -129,7 +129,7 @@ utf8_unmarked (a ∷ []) = (λ utf8. utf8, λ utf8. utf8)
 utf8_unmarked (a ∷ b ∷ []) = (λ utf8. utf8, λ utf8. utf8)
 utf8_unmarked (a ∷ b ∷ c ∷ bytes) = utf8_marked a b c bytes (a == 239 && (b == 187 && c == 191)) refl
 
-pub reads_files : (o : Options) → AreOptions o → ReadsFiles o
+pub reads_files : (o : Dialect) → IsDialect o → ReadsFiles o
 reads_files o fit = λ kinds bytes.
     let text : List ℕ = unmarked bytes in
     let at : ℕ = mark_len bytes in (

@@ -2,7 +2,7 @@
 use Rattle.std.proofs.Common.{◌≡◌, ◌≢◌, ℕ, zero, suc, ◌+◌, ap, sym, subst, refl, ◌∙◌, inl, inr, arith, append_assoc}
 use Rattle.std.proofs.lemmas.List.{append_cancel_right}
 use Rattle.std.specs.Prelude.{Bool, ◌⊎◌, Option, Some, None, List, [], ◌∷◌, ◌++◌, length}
-use Rattle.morsel_grammar.specs.Options.{Options, AreOptions}
+use Rattle.morsel_grammar.specs.Dialect.{Dialect, IsDialect}
 use Rattle.morsel_grammar.specs.Grammar.{CsvRecord, IsRecord}
 use Rattle.morsel_grammar.specs.Split.{record_at}
 use Rattle.morsel_grammar.specs.Machine.{CutPlace, CutState, AfterEol, place_or_later, joined_place, is_after_eol, first_state, cut_step, cut_after, last_end, RefusesEnd}
@@ -13,7 +13,7 @@ use Rattle.morsel_grammar.proofs.RunLemmas.{last_end-append}
 use Rattle.morsel_grammar.proofs.RecordRunLemmas.{record-follows}
 
 -- the state in which a record begins after another
-abbrev pub start : Options → CutState
+abbrev pub start : Dialect → CutState
 start o = first_state o AfterEol
 
 place_some : (here : Bool) (later : ℕ) → later ≢ 0 → place_or_later here later ≢ 0
@@ -28,16 +28,16 @@ one_is_some : (n : ℕ) → n ≡ 1 → n ≢ 0
 one_is_some n one = λ none. let both : n ≡ 0 = none in absurd (omega arith)
 
 -- at an end there is a last end
-pub end_here : (o : Options) (s : CutState) (b : ℕ) (bs : List ℕ) → (cut_after o s (b ∷ bs)).place ≡ AfterEol → last_end o s (b ∷ bs) ≢ 0
+pub end_here : (o : Dialect) (s : CutState) (b : ℕ) (bs : List ℕ) → (cut_after o s (b ∷ bs)).place ≡ AfterEol → last_end o s (b ∷ bs) ≢ 0
 end_here o s b [] is = one_is_some (last_end o s (b ∷ [])) (ap (λ (x : CutPlace). place_or_later (is_after_eol x) 0) is)
 end_here o s b (c ∷ bs) is = place_some (is_after_eol (cut_step o s b).place) (last_end o (cut_step o s b) (c ∷ bs)) (end_here o (cut_step o s b) c bs is)
 
-end_of_line : (o : Options) (s : CutState) (line : List ℕ) → (cut_after o s (line ++ o.eol ∷ [])).place ≡ AfterEol → last_end o s (line ++ o.eol ∷ []) ≢ 0
+end_of_line : (o : Dialect) (s : CutState) (line : List ℕ) → (cut_after o s (line ++ o.eol ∷ [])).place ≡ AfterEol → last_end o s (line ++ o.eol ∷ []) ≢ 0
 end_of_line o s [] is = end_here o s o.eol [] is
 end_of_line o s (b ∷ line) is = end_here o s b (line ++ o.eol ∷ []) is
 
 -- and also where more follows
-pub end_before : (o : Options) (s : CutState) (line more : List ℕ) → cut_after o s (line ++ o.eol ∷ []) ≡ start o → last_end o s (line ++ o.eol ∷ more) ≢ 0
+pub end_before : (o : Dialect) (s : CutState) (line more : List ℕ) → cut_after o s (line ++ o.eol ∷ []) ≡ start o → last_end o s (line ++ o.eol ∷ more) ≢ 0
 end_before o s line more reaches =
     let P : ℕ → Type 0 = λ n. n ≢ 0 in
     let front : List ℕ = line ++ o.eol ∷ [] in
@@ -64,7 +64,7 @@ nested eol (b ∷ line) (c ∷ other) rest left is =
     let later : line ++ eol ∷ rest ≡ other ++ eol ∷ left = cc in
     nested_byte eol b c line other rest left same (nested eol line other rest left later)
 
-one_line : (o : Options) (s : CutState) (line other rest left : List ℕ) → last_end o s line ≡ 0 → last_end o s other ≡ 0
+one_line : (o : Dialect) (s : CutState) (line other rest left : List ℕ) → last_end o s line ≡ 0 → last_end o s other ≡ 0
     → cut_after o s (line ++ o.eol ∷ []) ≡ start o → cut_after o s (other ++ o.eol ∷ []) ≡ start o → AreNested o.eol line other rest left → rest ≡ left
 one_line o s line other rest left none none_either reaches also (inl is) = is.1
 one_line o s line other rest left none none_either reaches also (inr (inl is)) =
@@ -73,7 +73,7 @@ one_line o s line other rest left none none_either reaches also (inr (inr is)) =
     absurd (end_before o s other is.0 also (ap (last_end o s) (sym is.1) ∙ none))
 
 -- a text has one first end
-pub one_first : (o : Options) (s : CutState) (text rest left : List ℕ) → EndsAtFirst o s text rest → EndsAtFirst o s text left → rest ≡ left
+pub one_first : (o : Dialect) (s : CutState) (text rest left : List ℕ) → EndsAtFirst o s text rest → EndsAtFirst o s text left → rest ≡ left
 one_first o s text rest left (inl (line, is, none, reaches)) (inl (other, other_is, none_either, also)) =
     one_line o s line other rest left none none_either reaches also (nested o.eol line other rest left (sym is ∙ other_is))
 one_first o s text rest left (inl (line, is, none, reaches)) (inr (all, without, may_end)) =
@@ -83,36 +83,36 @@ one_first o s text rest left (inr (all, without, may_end)) (inl (line, is, none,
 one_first o s text rest left (inr (all, without, may_end)) (inr (also, without_either, may_end_either)) = all ∙ sym also
 
 -- a first end contradicts a text that has none and may not end
-pub first_or_open : (o : Options) (s : CutState) (text rest : List ℕ) → EndsAtFirst o s text rest → last_end o s text ≡ 0 → RefusesEnd (cut_after o s text) → ⊥
+pub first_or_open : (o : Dialect) (s : CutState) (text rest : List ℕ) → EndsAtFirst o s text rest → last_end o s text ≡ 0 → RefusesEnd (cut_after o s text) → ⊥
 first_or_open o s text rest (inl (line, is, none, reaches)) without refuses = end_before o s line rest reaches (ap (last_end o s) (sym is) ∙ without)
 first_or_open o s text rest (inr (all, none, may_end)) without refuses = may_end refuses
 
-read_to : (o : Options) (text rest : List ℕ) (found : Option (CsvRecord × List ℕ)) → record_at o text ≡ found → FollowsFound o (start o) text found
+read_to : (o : Dialect) (text rest : List ℕ) (found : Option (CsvRecord × List ℕ)) → record_at o text ≡ found → FollowsFound o (start o) text found
     → EndsAtFirst o (start o) text rest → (r : CsvRecord) × (record_at o text ≡ Some (r, rest))
 read_to o text rest None is follows ends = absurd (first_or_open o (start o) text rest ends follows.0 follows.1)
 read_to o text rest (Some found) is follows ends =
     let same : found.1 ≡ rest = one_first o (start o) text found.1 rest follows ends in
     (found.0, is ∙ ap (λ (x : List ℕ). let one : CsvRecord × List ℕ = (found.0, x) in Some one) same)
 
-pub reads_to_first_end : (o : Options) → AreOptions o → ReadsToFirstEnd o
+pub reads_to_first_end : (o : Dialect) → IsDialect o → ReadsToFirstEnd o
 reads_to_first_end o fit = λ text rest ends. read_to o text rest (record_at o text) refl (record-follows o text fit) ends
 
-read_nothing : (o : Options) (text : List ℕ) (found : Option (CsvRecord × List ℕ)) → FollowsFound o (start o) text found
+read_nothing : (o : Dialect) (text : List ℕ) (found : Option (CsvRecord × List ℕ)) → FollowsFound o (start o) text found
     → last_end o (start o) text ≡ 0 → RefusesEnd (cut_after o (start o) text) → found ≡ None
 read_nothing o text None follows none refuses = refl
 read_nothing o text (Some found) follows none refuses = absurd (first_or_open o (start o) text found.1 follows none refuses)
 
-pub reads_nothing_open : (o : Options) → AreOptions o → ReadsNothingOpen o
+pub reads_nothing_open : (o : Dialect) → IsDialect o → ReadsNothingOpen o
 reads_nothing_open o fit = λ text none refuses. read_nothing o text (record_at o text) (record-follows o text fit) none refuses
 
 -- a record with its eol byte, whatever follows
-line_first : (o : Options) (line : List ℕ) → EndsAtFirst o (start o) (line ++ o.eol ∷ o.eol ∷ []) (o.eol ∷ []) → cut_after o (start o) (line ++ o.eol ∷ []) ≡ start o
+line_first : (o : Dialect) (line : List ℕ) → EndsAtFirst o (start o) (line ++ o.eol ∷ o.eol ∷ []) (o.eol ∷ []) → cut_after o (start o) (line ++ o.eol ∷ []) ≡ start o
 line_first o line (inl (other, is, none, reaches)) =
     let same : line ≡ other = append_cancel_right line other (o.eol ∷ o.eol ∷ []) is in
     ap (λ (x : List ℕ). cut_after o (start o) (x ++ o.eol ∷ [])) same ∙ reaches
 line_first o line (inr (all, none, may_end)) = cc
 
-pub line_reaches : (o : Options) (r : CsvRecord) (text line rest : List ℕ) → AreOptions o → IsRecord o r text rest → text ≡ line ++ o.eol ∷ rest
+pub line_reaches : (o : Dialect) (r : CsvRecord) (text line rest : List ℕ) → IsDialect o → IsRecord o r text rest → text ≡ line ++ o.eol ∷ rest
     → cut_after o (start o) (line ++ o.eol ∷ []) ≡ start o
 line_reaches o r text line rest fit is split =
     let again : IsRecord o r (line ++ o.eol ∷ o.eol ∷ []) (o.eol ∷ []) = record_again o r text line rest fit is split (o.eol ∷ []) in

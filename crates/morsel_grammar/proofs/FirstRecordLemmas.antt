@@ -5,7 +5,7 @@ use Rattle.std.proofs.lemmas.Str.{IsUtf8-append, IsUtf8-nil, IsUtf8-take, IsUtf8
 use Rattle.std.proofs.Math.Seq.{take-append_seam, drop-append_seam, get_or-append_seam}
 use Rattle.std.specs.Prelude.{Bool, true, false, not, ◌⊎◌, if◌then◌else◌, Option, Some, None, List, [], ◌∷◌, ◌++◌, length, IsUtf8}
 use Rattle.morsel_meaning.specs.declared.value.ColType.{ColType}
-use Rattle.morsel_grammar.specs.Options.{Options, AreOptions}
+use Rattle.morsel_grammar.specs.Dialect.{Dialect, IsDialect}
 use Rattle.morsel_grammar.specs.Grammar.{CsvField, CsvRecord, Comment, Fields, IsRecord}
 use Rattle.morsel_grammar.specs.Cells.{CsvCell, cell_of}
 use Rattle.morsel_grammar.specs.Rows.{NoRow, IsRow, Misfit, is_empty, is_header, cells_of, row_or_misfit, row_of_nothing, row_of, behind_header, with_first_row, rows_of_records}
@@ -13,7 +13,7 @@ use Rattle.morsel_grammar.specs.GrammarRows.{awaits_header_after, HasRows, HasRo
 use Rattle.morsel_grammar.proofs.RecordLemmas.{EndsIn, record_ends, takes_bytes}
 
 -- the record's bytes, with its eol byte unless the text ends with it
-pub record IsTaken (o : Options) (r : CsvRecord) (text next bytes : List ℕ) : Type 0 where
+pub record IsTaken (o : Dialect) (r : CsvRecord) (text next bytes : List ℕ) : Type 0 where
   pub is : IsRecord o r text next
   pub some : text ≢ []
   pub split : text ≡ bytes ++ next
@@ -21,11 +21,11 @@ pub record IsTaken (o : Options) (r : CsvRecord) (text next bytes : List ℕ) : 
   pub shorter : length next < length text
   pub end : (next ≡ []) ⊎ ((line : List ℕ) × (bytes ≡ line ++ o.eol ∷ []))
 
-pub bytes_taken : (o : Options) (r : CsvRecord) (text next bytes : List ℕ) → IsTaken o r text next bytes → take (length text - length next) text ≡ bytes
+pub bytes_taken : (o : Dialect) (r : CsvRecord) (text next bytes : List ℕ) → IsTaken o r text next bytes → take (length text - length next) text ≡ bytes
 bytes_taken o r text next bytes taken =
     ap (λ n. take n text) taken.size ∙ ap (take (length bytes)) taken.split ∙ take-append_seam bytes next
 
-taken_to : (o : Options) (r : CsvRecord) (text next : List ℕ) → IsRecord o r text next → text ≢ [] → length next < length text → EndsIn o (IsRecord o r) text next
+taken_to : (o : Dialect) (r : CsvRecord) (text next : List ℕ) → IsRecord o r text next → text ≢ [] → length next < length text → EndsIn o (IsRecord o r) text next
     → (bytes : List ℕ) × IsTaken o r text next bytes
 taken_to o r text next is some shorter (inl none) =
     let size : length next ≡ 0 = ap length none in (
@@ -53,12 +53,12 @@ taken_to o r text next is some shorter (inr (line, split, again)) =
       },
     )
 
-pub record_taken : (o : Options) (r : CsvRecord) (text next : List ℕ) → AreOptions o → IsRecord o r text next → text ≢ []
+pub record_taken : (o : Dialect) (r : CsvRecord) (text next : List ℕ) → IsDialect o → IsRecord o r text next → text ≢ []
     → (bytes : List ℕ) × IsTaken o r text next bytes
 record_taken o r text next fit is some =
     taken_to o r text next is some (takes_bytes o fit text r next is some).2 (record_ends o r text next fit is)
 
-line_utf8 : (o : Options) (text next line : List ℕ) → AreOptions o → text ≡ (line ++ o.eol ∷ []) ++ next → IsUtf8 text → IsUtf8 (line ++ o.eol ∷ []) × IsUtf8 next
+line_utf8 : (o : Dialect) (text next line : List ℕ) → IsDialect o → text ≡ (line ++ o.eol ∷ []) ++ next → IsUtf8 text → IsUtf8 (line ++ o.eol ∷ []) × IsUtf8 next
 line_utf8 o text next line fit split utf8 =
     let bytes : List ℕ = line ++ o.eol ∷ [] in
     let one : length bytes ≡ length line + 1 = length-append line (o.eol ∷ []) in
@@ -71,7 +71,7 @@ line_utf8 o text next line fit split utf8 =
       subst P (ap (λ n. drop n text) (sym one) ∙ ap (drop (length bytes)) split ∙ drop-append_seam bytes next) (IsUtf8-drop text (length line + 1) utf8 cut),
     )
 
-utf8_by_end : (o : Options) (text next bytes : List ℕ) → AreOptions o → text ≡ bytes ++ next → (next ≡ []) ⊎ ((line : List ℕ) × (bytes ≡ line ++ o.eol ∷ []))
+utf8_by_end : (o : Dialect) (text next bytes : List ℕ) → IsDialect o → text ≡ bytes ++ next → (next ≡ []) ⊎ ((line : List ℕ) × (bytes ≡ line ++ o.eol ∷ []))
     → IsUtf8 text → IsUtf8 bytes × IsUtf8 next
 utf8_by_end o text next bytes fit split (inl none) utf8 =
     let P : List ℕ → Type 0 = λ x. IsUtf8 x in
@@ -82,15 +82,15 @@ utf8_by_end o text next bytes fit split (inr (line, is)) utf8 =
     (subst P (sym is) parts.0, parts.1)
 
 -- a text is UTF-8 exactly where its first record and what follows are
-pub utf8_parts : (o : Options) (r : CsvRecord) (text next bytes : List ℕ) → AreOptions o → IsTaken o r text next bytes → IsUtf8 text → IsUtf8 bytes × IsUtf8 next
+pub utf8_parts : (o : Dialect) (r : CsvRecord) (text next bytes : List ℕ) → IsDialect o → IsTaken o r text next bytes → IsUtf8 text → IsUtf8 bytes × IsUtf8 next
 utf8_parts o r text next bytes fit taken utf8 = utf8_by_end o text next bytes fit taken.split taken.end utf8
 
-pub utf8_whole : (o : Options) (r : CsvRecord) (text next bytes : List ℕ) → IsTaken o r text next bytes → IsUtf8 bytes → IsUtf8 next → IsUtf8 text
+pub utf8_whole : (o : Dialect) (r : CsvRecord) (text next bytes : List ℕ) → IsTaken o r text next bytes → IsUtf8 bytes → IsUtf8 next → IsUtf8 text
 utf8_whole o r text next bytes taken first later =
     let P : List ℕ → Type 0 = λ x. IsUtf8 x in subst P (sym taken.split) (IsUtf8-append bytes next first later)
 
 -- what a record does to the rows that follow: the header's state before and after it, and the rows with those that follow
-pub record Adds (o : Options) (kinds : List ColType) (r : CsvRecord) (head awaits_header : Bool) (add : List (List CsvCell) → List (List CsvCell)) : Type 0 where
+pub record Adds (o : Dialect) (kinds : List ColType) (r : CsvRecord) (head awaits_header : Bool) (add : List (List CsvCell) → List (List CsvCell)) : Type 0 where
   pub rows_more : (records : List CsvRecord) (rows : List (List CsvCell)) → rows_of_records o kinds (behind_header awaits_header records) ≡ Some rows
       → rows_of_records o kinds (behind_header head (r ∷ records)) ≡ Some (add rows)
   pub awaits_header_more : (records : List CsvRecord) → awaits_header_after head (r ∷ records) ≡ awaits_header_after awaits_header records
@@ -104,26 +104,26 @@ header_awaited records true = refl
 header_awaited records false = refl
 
 -- up to the header there are no rows
-pub adds_header : (o : Options) (kinds : List ColType) (r : CsvRecord) → Adds o kinds r true (not (is_header r)) (λ rows. rows)
+pub adds_header : (o : Dialect) (kinds : List ColType) (r : CsvRecord) → Adds o kinds r true (not (is_header r)) (λ rows. rows)
 adds_header o kinds r = record {
   rows_more = λ records rows is. ap (rows_of_records o kinds) (sym (header_behind records (is_header r))) ∙ is;
   awaits_header_more = λ records. header_awaited records (is_header r);
 }
 
-pub adds_nothing : (o : Options) (kinds : List ColType) (r : CsvRecord) → row_of o kinds r ≡ NoRow → Adds o kinds r false false (λ rows. rows)
+pub adds_nothing : (o : Dialect) (kinds : List ColType) (r : CsvRecord) → row_of o kinds r ≡ NoRow → Adds o kinds r false false (λ rows. rows)
 adds_nothing o kinds r none = record {
   rows_more = λ records rows is. ap (λ row. with_first_row row (rows_of_records o kinds records)) none ∙ is;
   awaits_header_more = λ records. refl;
 }
 
-pub adds_row : (o : Options) (kinds : List ColType) (r : CsvRecord) (cells : List CsvCell) → row_of o kinds r ≡ IsRow cells → Adds o kinds r false false (λ rows. cells ∷ rows)
+pub adds_row : (o : Dialect) (kinds : List ColType) (r : CsvRecord) (cells : List CsvCell) → row_of o kinds r ≡ IsRow cells → Adds o kinds r false false (λ rows. cells ∷ rows)
 adds_row o kinds r cells row = record {
   rows_more = λ records rows is. ap (λ row. with_first_row row (rows_of_records o kinds records)) row ∙ ap (with_first_row (IsRow cells)) is;
   awaits_header_more = λ records. refl;
 }
 
 -- the rows of a text are those of its first record and of what follows
-pub rows_more : (o : Options) (kinds : List ColType) (r : CsvRecord) (head awaits_header later : Bool) (text next bytes : List ℕ) (add : List (List CsvCell) → List (List CsvCell)) (rows : List (List CsvCell))
+pub rows_more : (o : Dialect) (kinds : List ColType) (r : CsvRecord) (head awaits_header later : Bool) (text next bytes : List ℕ) (add : List (List CsvCell) → List (List CsvCell)) (rows : List (List CsvCell))
     → IsTaken o r text next bytes → IsUtf8 bytes → Adds o kinds r head awaits_header add → HasRows o kinds awaits_header next rows later → HasRows o kinds head text (add rows) later
 rows_more o kinds r head awaits_header later text next bytes add rows taken utf8 adds has = record {
   utf8 = utf8_whole o r text next bytes taken utf8 has.utf8;
@@ -133,8 +133,8 @@ rows_more o kinds r head awaits_header later text next bytes add rows taken utf8
   awaits_header_is = has.awaits_header_is ∙ sym (adds.awaits_header_more has.records);
 }
 
-before_line : (o : Options) (kinds : List ColType) (r : CsvRecord) (head awaits_header later : Bool) (at place : ℕ) (text next line rest : List ℕ) (add : List (List CsvCell) → List (List CsvCell)) (rows : List (List CsvCell))
-    → AreOptions o → text ≡ line ++ o.eol ∷ next → ((more : List ℕ) → IsRecord o r (line ++ o.eol ∷ more) more) → IsUtf8 (line ++ o.eol ∷ []) → Adds o kinds r head awaits_header add
+before_line : (o : Dialect) (kinds : List ColType) (r : CsvRecord) (head awaits_header later : Bool) (at place : ℕ) (text next line rest : List ℕ) (add : List (List CsvCell) → List (List CsvCell)) (rows : List (List CsvCell))
+    → IsDialect o → text ≡ line ++ o.eol ∷ next → ((more : List ℕ) → IsRecord o r (line ++ o.eol ∷ more) more) → IsUtf8 (line ++ o.eol ∷ []) → Adds o kinds r head awaits_header add
     → HasRowsBefore o kinds awaits_header (at + (length text - length next)) next place rows later rest → HasRowsBefore o kinds head at text place (add rows) later rest
 before_line o kinds r head awaits_header later at place text next line rest add rows fit split again utf8 adds has =
     let P : List ℕ → Type 0 = λ x. IsUtf8 x in
@@ -157,8 +157,8 @@ nothing_left : (next front rest : List ℕ) → next ≡ [] → next ≡ front +
 nothing_left next [] rest none is = sym is ∙ none
 nothing_left next (b ∷ front) rest none is = let never : [] ≡ b ∷ front ++ rest = sym none ∙ is in cc
 
-before_by_end : (o : Options) (kinds : List ColType) (r : CsvRecord) (head awaits_header later : Bool) (at place : ℕ) (text next bytes rest : List ℕ) (add : List (List CsvCell) → List (List CsvCell)) (rows : List (List CsvCell))
-    → AreOptions o → IsTaken o r text next bytes → IsUtf8 bytes → Adds o kinds r head awaits_header add → EndsIn o (IsRecord o r) text next
+before_by_end : (o : Dialect) (kinds : List ColType) (r : CsvRecord) (head awaits_header later : Bool) (at place : ℕ) (text next bytes rest : List ℕ) (add : List (List CsvCell) → List (List CsvCell)) (rows : List (List CsvCell))
+    → IsDialect o → IsTaken o r text next bytes → IsUtf8 bytes → Adds o kinds r head awaits_header add → EndsIn o (IsRecord o r) text next
     → HasRowsBefore o kinds awaits_header (at + (length text - length next)) next place rows later rest → HasRowsBefore o kinds head at text place (add rows) later rest
 before_by_end o kinds r head awaits_header later at place text next bytes rest add rows fit taken utf8 adds (inl none) has =
     absurd (has.some_rest (nothing_left next has.front rest none has.split))
@@ -169,13 +169,13 @@ before_by_end o kinds r head awaits_header later at place text next bytes rest a
     (subst P (append_cancel_right bytes (line ++ o.eol ∷ []) next same) utf8) adds has
 
 -- the rows before a place after the first record are those of that record and of what follows
-pub before_more : (o : Options) (kinds : List ColType) (r : CsvRecord) (head awaits_header later : Bool) (at place : ℕ) (text next bytes rest : List ℕ) (add : List (List CsvCell) → List (List CsvCell)) (rows : List (List CsvCell))
-    → AreOptions o → IsTaken o r text next bytes → IsUtf8 bytes → Adds o kinds r head awaits_header add
+pub before_more : (o : Dialect) (kinds : List ColType) (r : CsvRecord) (head awaits_header later : Bool) (at place : ℕ) (text next bytes rest : List ℕ) (add : List (List CsvCell) → List (List CsvCell)) (rows : List (List CsvCell))
+    → IsDialect o → IsTaken o r text next bytes → IsUtf8 bytes → Adds o kinds r head awaits_header add
     → HasRowsBefore o kinds awaits_header (at + (length text - length next)) next place rows later rest → HasRowsBefore o kinds head at text place (add rows) later rest
 before_more o kinds r head awaits_header later at place text next bytes rest add rows fit taken utf8 adds has =
     before_by_end o kinds r head awaits_header later at place text next bytes rest add rows fit taken utf8 adds (record_ends o r text next fit taken.is) has
 
-no_rows : (o : Options) (kinds : List ColType) (head : Bool) → rows_of_records o kinds (behind_header head []) ≡ Some []
+no_rows : (o : Dialect) (kinds : List ColType) (head : Bool) → rows_of_records o kinds (behind_header head []) ≡ Some []
 no_rows o kinds true = refl
 no_rows o kinds false = refl
 
@@ -184,7 +184,7 @@ awaits_header_as_before true = refl
 awaits_header_as_before false = refl
 
 -- there is nothing before the beginning
-pub before_first : (o : Options) (kinds : List ColType) (head : Bool) (at : ℕ) (text : List ℕ) → text ≢ [] → HasRowsBefore o kinds head at text at [] head text
+pub before_first : (o : Dialect) (kinds : List ColType) (head : Bool) (at : ℕ) (text : List ℕ) → text ≢ [] → HasRowsBefore o kinds head at text at [] head text
 before_first o kinds head at text some = record {
   front = [];
   records = [];
@@ -197,7 +197,7 @@ before_first o kinds head at text some = record {
   some_rest = some;
 }
 
-pub rows_of_nothing : (o : Options) (kinds : List ColType) (head : Bool) → HasRows o kinds head [] [] head
+pub rows_of_nothing : (o : Dialect) (kinds : List ColType) (head : Bool) → HasRows o kinds head [] [] head
 rows_of_nothing o kinds head = record {
   utf8 = IsUtf8-nil;
   records = [];
@@ -207,7 +207,7 @@ rows_of_nothing o kinds head = record {
 }
 
 -- a record of another width
-cells_found : (o : Options) (kinds : List ColType) (fields : List CsvField) → length fields ≡ length kinds → (cells : List CsvCell) × (cells_of o kinds fields ≡ Some cells)
+cells_found : (o : Dialect) (kinds : List ColType) (fields : List CsvField) → length fields ≡ length kinds → (cells : List CsvCell) × (cells_of o kinds fields ≡ Some cells)
 cells_found o [] [] same = ([], refl)
 cells_found o [] (f ∷ fields) same = absurd (omega arith)
 cells_found o (kind ∷ kinds) [] same = absurd (omega arith)
@@ -224,7 +224,7 @@ nothing_fits [] is = cc
 nothing_fits (kind ∷ []) is = cc
 nothing_fits (kind ∷ next ∷ kinds) is = cc
 
-width_of : (o : Options) (kinds : List ColType) (fields : List CsvField) (t : Bool) → is_empty fields ≡ t
+width_of : (o : Dialect) (kinds : List ColType) (fields : List CsvField) (t : Bool) → is_empty fields ≡ t
     → (if t then row_of_nothing kinds else row_or_misfit (cells_of o kinds fields)) ≡ Misfit → (is_empty fields ≡ false) × (length fields ≢ length kinds)
 width_of o kinds fields true empty is = absurd (nothing_fits kinds is)
 width_of o kinds fields false filled is = (
@@ -234,6 +234,6 @@ width_of o kinds fields false filled is = (
       let some : cells_of o kinds fields ≡ Some found.0 = found.1 in cc,
 )
 
-pub misfit_width : (o : Options) (kinds : List ColType) (r : CsvRecord) → row_of o kinds r ≡ Misfit → HasOtherWidth kinds r
+pub misfit_width : (o : Dialect) (kinds : List ColType) (r : CsvRecord) → row_of o kinds r ≡ Misfit → HasOtherWidth kinds r
 misfit_width o kinds (Comment body) is = cc
 misfit_width o kinds (Fields fields) is = width_of o kinds fields (is_empty fields) refl is

@@ -3,7 +3,7 @@ use Rattle.std.proofs.Common.{◌≡◌, ◌≢◌, ℕ, zero, suc, ◌+◌, ◌
 use Rattle.std.specs.Prelude.{Bool, true, false, not, if◌then◌else◌, Option, Some, None, List, [], ◌∷◌, ◌++◌, length}
 use Rattle.std.specs.Str.{is_utf8}
 use Rattle.morsel_meaning.specs.declared.value.ColType.{ColType}
-use Rattle.morsel_grammar.specs.Options.{Options, AreOptions}
+use Rattle.morsel_grammar.specs.Dialect.{Dialect, IsDialect}
 use Rattle.morsel_grammar.specs.Grammar.{CsvRecord, IsRecord}
 use Rattle.morsel_grammar.specs.Cells.{CsvCell}
 use Rattle.morsel_grammar.specs.Rows.{RowOf, NoRow, IsRow, Misfit, is_header, row_of}
@@ -20,13 +20,13 @@ abbrev Later : Type 0
 Later = Bool → ℕ → List ℕ → Reading
 
 -- where what follows is read alike, all is
-record_same : (o : Options) (kinds : List ColType) (head : Bool) (at : ℕ) (bytes : List ℕ) (r : CsvRecord) (a b : Bool → Reading) → ((awaits_header : Bool) → a awaits_header ≡ b awaits_header)
+record_same : (o : Dialect) (kinds : List ColType) (head : Bool) (at : ℕ) (bytes : List ℕ) (r : CsvRecord) (a b : Bool → Reading) → ((awaits_header : Bool) → a awaits_header ≡ b awaits_header)
     → record_then o kinds head at bytes r a ≡ record_then o kinds head at bytes r b
 record_same o kinds true at bytes r a b same = ap (λ (x : Reading). if is_utf8 bytes then x else refuses true at NotUtf8) (same (not (is_header r)))
 record_same o kinds false at bytes r a b same =
     ap (λ (x : Reading). if is_utf8 bytes then row_then false at (row_of o kinds r) x else refuses false at NotUtf8) (same false)
 
-split_same : (o : Options) (kinds : List ColType) (head : Bool) (at : ℕ) (text : List ℕ) (found : Option (CsvRecord × List ℕ)) (a b : Later) → AreOptions o → text ≢ []
+split_same : (o : Dialect) (kinds : List ColType) (head : Bool) (at : ℕ) (text : List ℕ) (found : Option (CsvRecord × List ℕ)) (a b : Later) → IsDialect o → text ≢ []
     → record_at o text ≡ found → ((awaits_header : Bool) (place : ℕ) (rest : List ℕ) → length rest < length text → a awaits_header place rest ≡ b awaits_header place rest)
     → split_then o kinds head at text found a ≡ split_then o kinds head at text found b
 split_same o kinds head at text None a b fit some is same = refl
@@ -42,7 +42,7 @@ some_text : (b : ℕ) (bs : List ℕ) → b ∷ bs ≢ []
 some_text b bs = λ is. cc
 
 -- enough is enough
-pub reading_up_to-enough : (n m : ℕ) (o : Options) (kinds : List ColType) (head : Bool) (at : ℕ) (text : List ℕ) → AreOptions o → length text ≤ n → length text ≤ m
+pub reading_up_to-enough : (n m : ℕ) (o : Dialect) (kinds : List ColType) (head : Bool) (at : ℕ) (text : List ℕ) → IsDialect o → length text ≤ n → length text ≤ m
     → reading_up_to n o kinds head at text ≡ reading_up_to m o kinds head at text
 reading_up_to-enough zero zero o kinds head at text fit one two = refl
 reading_up_to-enough zero (suc m) o kinds head at [] fit one two = refl
@@ -55,7 +55,7 @@ reading_up_to-enough (suc n) (suc m) o kinds head at (b ∷ bs) fit one two =
     fit (some_text b bs) refl (λ awaits_header place rest shorter. reading_up_to-enough n m o kinds awaits_header place rest fit (omega arith) (omega arith))
 
 -- reading splits a record off, and goes on after it
-pub reading-split : (o : Options) (kinds : List ColType) (head : Bool) (at : ℕ) (text : List ℕ) → AreOptions o → text ≢ []
+pub reading-split : (o : Dialect) (kinds : List ColType) (head : Bool) (at : ℕ) (text : List ℕ) → IsDialect o → text ≢ []
     → reading o kinds head at text ≡ split_then o kinds head at text (record_at o text) (λ awaits_header place rest. reading o kinds awaits_header place rest)
 reading-split o kinds head at [] fit some = absurd (some refl)
 reading-split o kinds head at (b ∷ bs) fit some =
@@ -63,7 +63,7 @@ reading-split o kinds head at (b ∷ bs) fit some =
     fit some refl (λ awaits_header place rest shorter. reading_up_to-enough (length bs) (length rest) o kinds awaits_header place rest fit (omega arith) (omega arith))
 
 -- reading a text that begins with a record
-pub reading-record : (o : Options) (kinds : List ColType) (head : Bool) (at : ℕ) (r : CsvRecord) (text next bytes : List ℕ) → AreOptions o → IsTaken o r text next bytes
+pub reading-record : (o : Dialect) (kinds : List ColType) (head : Bool) (at : ℕ) (r : CsvRecord) (text next bytes : List ℕ) → IsDialect o → IsTaken o r text next bytes
     → reading o kinds head at text ≡ record_then o kinds head at bytes r (λ awaits_header. reading o kinds awaits_header (at + length bytes) next)
 reading-record o kinds head at r text next bytes fit taken =
     let later : Later = λ awaits_header place rest. reading o kinds awaits_header place rest in
@@ -72,7 +72,7 @@ reading-record o kinds head at r text next bytes fit taken =
     ∙ ap (λ x. record_then o kinds head at x r (λ awaits_header. later awaits_header (at + (length text - length next)) next)) (bytes_taken o r text next bytes taken)
     ∙ ap (λ n. record_then o kinds head at bytes r (λ awaits_header. later awaits_header (at + n) next)) taken.size
 
-line_taken : (o : Options) (r : CsvRecord) (text line next : List ℕ) → IsRecord o r text next → text ≡ line ++ o.eol ∷ next → IsTaken o r text next (line ++ o.eol ∷ [])
+line_taken : (o : Dialect) (r : CsvRecord) (text line next : List ℕ) → IsRecord o r text next → text ≡ line ++ o.eol ∷ next → IsTaken o r text next (line ++ o.eol ∷ [])
 line_taken o r text line next is split =
     let size : length text ≡ length line + suc (length next) = ap length split ∙ length-append line (o.eol ∷ next) in
     let one : length (line ++ o.eol ∷ []) ≡ length line + 1 = length-append line (o.eol ∷ []) in
@@ -99,7 +99,7 @@ joined_row at NoRow first later = refl
 joined_row at (IsRow cells) first later = joined_cells at cells first.rows first.head first.refusal later
 joined_row at Misfit first later = refl
 
-joined_utf8 : (o : Options) (kinds : List ColType) (head : Bool) (at : ℕ) (r : CsvRecord) (first later : Bool → Reading) (t : Bool)
+joined_utf8 : (o : Dialect) (kinds : List ColType) (head : Bool) (at : ℕ) (r : CsvRecord) (first later : Bool → Reading) (t : Bool)
     → joined (if t then (if head then first (not (is_header r)) else row_then false at (row_of o kinds r) (first false)) else refuses head at NotUtf8) later
     ≡ (if t then (if head then joined (first (not (is_header r))) later else row_then false at (row_of o kinds r) (joined (first false) later)) else refuses head at NotUtf8)
 joined_utf8 o kinds true at r first later true = refl
@@ -107,16 +107,16 @@ joined_utf8 o kinds false at r first later true = joined_row at (row_of o kinds 
 joined_utf8 o kinds head at r first later false = refl
 
 -- a record, and then the rest in two pieces
-joined_record : (o : Options) (kinds : List ColType) (head : Bool) (at : ℕ) (bytes : List ℕ) (r : CsvRecord) (first later : Bool → Reading)
+joined_record : (o : Dialect) (kinds : List ColType) (head : Bool) (at : ℕ) (bytes : List ℕ) (r : CsvRecord) (first later : Bool → Reading)
     → joined (record_then o kinds head at bytes r first) later ≡ record_then o kinds head at bytes r (λ awaits_header. joined (first awaits_header) later)
 joined_record o kinds head at bytes r first later = joined_utf8 o kinds head at r first later (is_utf8 bytes)
 
-joined_nothing : (o : Options) (kinds : List ColType) (head : Bool) (at : ℕ) (front rest : List ℕ) → front ≡ []
+joined_nothing : (o : Dialect) (kinds : List ColType) (head : Bool) (at : ℕ) (front rest : List ℕ) → front ≡ []
     → reading o kinds head at (front ++ rest) ≡ joined (reading o kinds head at front) (λ awaits_header. reading o kinds awaits_header (at + length front) rest)
 joined_nothing o kinds head at [] rest none = let same : at ≡ at + 0 = omega arith in ap (λ place. reading o kinds head place rest) same
 joined_nothing o kinds head at (b ∷ front) rest none = cc
 
-pub reading-joined : (o : Options) (kinds : List ColType) (head : Bool) (at : ℕ) (front rest : List ℕ) (records : List CsvRecord) → AreOptions o → AreWholeRecords o front records
+pub reading-joined : (o : Dialect) (kinds : List ColType) (head : Bool) (at : ℕ) (front rest : List ℕ) (records : List CsvRecord) → IsDialect o → AreWholeRecords o front records
     → reading o kinds head at (front ++ rest) ≡ joined (reading o kinds head at front) (λ awaits_header. reading o kinds awaits_header (at + length front) rest)
 reading-joined o kinds head at front rest [] fit whole = joined_nothing o kinds head at front rest whole
 reading-joined o kinds head at front rest (r ∷ records) fit whole =
@@ -139,5 +139,5 @@ reading-joined o kinds head at front rest (r ∷ records) fit whole =
     ∙ ap (λ (x : Reading). joined x (λ later. reading o kinds later (at + length front) rest))
     (sym (reading-record o kinds head at r front next bytes fit (line_taken o r front line next whole.3 whole.2)))
 
-pub reads_pieces : (o : Options) → AreOptions o → ReadsPieces o
+pub reads_pieces : (o : Dialect) → IsDialect o → ReadsPieces o
 reads_pieces o fit = λ kinds head at front rest records whole. reading-joined o kinds head at front rest records fit whole

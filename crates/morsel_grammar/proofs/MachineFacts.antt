@@ -1,11 +1,11 @@
 -- The machine that finds where a text may be cut, on worked texts.
 use Rattle.std.proofs.Common.{◌≡◌, refl}
 use Rattle.std.specs.Prelude.{Some, None, [], ◌∷◌, codes}
-use Rattle.morsel_grammar.specs.Options.{Options, standard}
+use Rattle.morsel_grammar.specs.Dialect.{Dialect, standard}
 use Rattle.morsel_grammar.specs.Machine.{CutState, AtOpening, InMarkTwo, AfterEol, InPlain, InQuotes, InComment, BrokenQuote, first_state, cut_after, last_end, last_begin, begun_after}
 
 -- comments begin with a quote and a letter
-abbrev commented : Options
+abbrev commented : Dialect
 commented = record standard { comment = Some (codes "\"a") }
 
 abbrev first : CutState

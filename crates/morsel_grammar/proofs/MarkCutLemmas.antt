@@ -1,7 +1,7 @@
 -- The machine that finds cuts from each place where bytes begin, beside its start after an eol byte.
 use Rattle.std.proofs.Common.{◌≡◌, ◌≢◌, ℕ, ◌+◌, ap, sym, subst, refl, ◌∙◌, inl, inr, arith}
 use Rattle.std.specs.Prelude.{Bool, true, false, ◌&&◌, ◌==◌, if◌then◌else◌, Option, None, List, [], ◌∷◌, drop}
-use Rattle.morsel_grammar.specs.Options.{Options}
+use Rattle.morsel_grammar.specs.Dialect.{Dialect}
 use Rattle.morsel_grammar.specs.Split.{is_quote}
 use Rattle.morsel_grammar.specs.Machine.{CutPlace, CutState, AtOpening, InMarkOne, InMarkTwo, AfterMark, AfterEol, AfterSeparator, InPlain, InQuotes, AfterQuote, AfterReturn, InComment, BrokenQuote, place_or_later, plain_step, first_step, closed_step, place_step, is_after_eol, begins_record, matched_step, is_whole_prefix, first_state, cut_step, cut_after, last_end, last_begin, RefusesRecord, RefusesEnd}
 use Rattle.morsel_grammar.specs.Cuts.{text_from, text_begins}
@@ -27,19 +27,19 @@ either_in : (t : Bool) (a b : CutPlace) → IsInRecord a → IsInRecord b → Is
 either_in true a b first second = first
 either_in false a b first second = second
 
-plain_in : (o : Options) (b : ℕ) → IsInRecord (plain_step o b)
+plain_in : (o : Dialect) (b : ℕ) → IsInRecord (plain_step o b)
 plain_in o b = either_in (b == o.separator) AfterSeparator (if b == o.eol then AfterEol else InPlain) tt (either_in (b == o.eol) AfterEol InPlain tt tt)
 
-first_in : (o : Options) (b : ℕ) → IsInRecord (first_step o b)
+first_in : (o : Dialect) (b : ℕ) → IsInRecord (first_step o b)
 first_in o b = either_in (is_quote o.quote b) InQuotes (plain_step o b) tt (plain_in o b)
 
-closed_in : (o : Options) (b : ℕ) → IsInRecord (closed_step o b)
+closed_in : (o : Dialect) (b : ℕ) → IsInRecord (closed_step o b)
 closed_in o b =
     let returned : CutPlace = if b == 13 && o.eol == 10 then AfterReturn else BrokenQuote in
     either_in (b == o.separator) AfterSeparator (if b == o.eol then AfterEol else returned) tt
     (either_in (b == o.eol) AfterEol returned tt (either_in (b == 13 && o.eol == 10) AfterReturn BrokenQuote tt tt))
 
-pub place_in : (o : Options) (place : CutPlace) (b : ℕ) → IsPastMark place → IsInRecord (place_step o place b)
+pub place_in : (o : Dialect) (place : CutPlace) (b : ℕ) → IsPastMark place → IsInRecord (place_step o place b)
 place_in o AtOpening b past = absurd past
 place_in o InMarkOne b past = absurd past
 place_in o InMarkTwo b past = absurd past
@@ -53,13 +53,13 @@ place_in o AfterReturn b past = either_in (b == o.eol) AfterEol BrokenQuote tt t
 place_in o InComment b past = either_in (b == o.eol) AfterEol InComment tt tt
 place_in o BrokenQuote b past = tt
 
-state_in : (o : Options) (matched : Option ℕ) (place : CutPlace) (t u : Bool) → IsInRecord place
+state_in : (o : Dialect) (matched : Option ℕ) (place : CutPlace) (t u : Bool) → IsInRecord place
     → (let s : CutState = if t then first_state o place else (if u then record { matched = None; place = InComment } else record { matched = matched; place = place }) in IsInRecord s.place)
 state_in o matched place true u is = is
 state_in o matched place false true is = tt
 state_in o matched place false false is = is
 
-step_in : (o : Options) (s : CutState) (b : ℕ) → IsPastMark s.place → IsInRecord (cut_step o s b).place
+step_in : (o : Dialect) (s : CutState) (b : ℕ) → IsPastMark s.place → IsInRecord (cut_step o s b).place
 step_in o s b past =
     let matched : Option ℕ = matched_step o.comment s.matched b in
     let place : CutPlace = place_step o s.place b in
@@ -87,7 +87,7 @@ in_record_begins InComment is = refl
 in_record_begins BrokenQuote is = refl
 
 -- behind the mark a record begins only where another ends
-pub begin_is_end : (o : Options) (s : CutState) (bytes : List ℕ) → IsPastMark s.place → last_begin o s bytes ≡ last_end o s bytes
+pub begin_is_end : (o : Dialect) (s : CutState) (bytes : List ℕ) → IsPastMark s.place → last_begin o s bytes ≡ last_end o s bytes
 begin_is_end o s [] past = refl
 begin_is_end o s (b ∷ bs) past =
     let next : CutState = cut_step o s b in
@@ -96,12 +96,12 @@ begin_is_end o s (b ∷ bs) past =
     ∙ ap (place_or_later (is_after_eol next.place)) (begin_is_end o next bs (in_record_past next.place is))
 
 -- the machine finds the same from either state
-pub record IsSameFrom (o : Options) (s t : CutState) (bytes : List ℕ) : Type 0 where
+pub record IsSameFrom (o : Dialect) (s t : CutState) (bytes : List ℕ) : Type 0 where
   pub after : cut_after o s bytes ≡ cut_after o t bytes
   pub end : last_end o s bytes ≡ last_end o t bytes
   pub begin : last_begin o s bytes ≡ last_end o t bytes
 
-pub same_step : (o : Options) (s t : CutState) (b : ℕ) (bs : List ℕ) → cut_step o s b ≡ cut_step o t b → IsPastMark t.place → IsSameFrom o s t (b ∷ bs)
+pub same_step : (o : Dialect) (s t : CutState) (b : ℕ) (bs : List ℕ) → cut_step o s b ≡ cut_step o t b → IsPastMark t.place → IsSameFrom o s t (b ∷ bs)
 same_step o s t b bs same past = record {
   after = ap (λ (x : CutState). cut_after o x bs) same;
   end = ap (λ (x : CutState). place_or_later (is_after_eol x.place) (last_end o x bs)) same;
@@ -109,7 +109,7 @@ same_step o s t b bs same past = record {
 }
 
 -- after a byte that ends nothing and after which nothing begins
-pub same_later : (o : Options) (s t : CutState) (place other : CutPlace) (b : ℕ) (bs : List ℕ) → cut_step o s b ≡ lone place → cut_step o t b ≡ lone other
+pub same_later : (o : Dialect) (s t : CutState) (place other : CutPlace) (b : ℕ) (bs : List ℕ) → cut_step o s b ≡ lone place → cut_step o t b ≡ lone other
     → begins_record place ≡ false → is_after_eol place ≡ false → is_after_eol other ≡ false
     → IsSameFrom o (lone place) (lone other) bs → IsSameFrom o s t (b ∷ bs)
 same_later o s t place other b bs s_is t_is begins ends other_ends later =
@@ -176,7 +176,7 @@ show_places s t text place other s_is t_is may other_may ends other_ends =
     show_after s (lone place) t text s_is (subst P (sym t_is) (show_neither (lone place) (lone other) text may other_may ends (λ some. other_ends)))
 
 -- bytes that begin at a place, beside the text of their records after the start of another
-pub record IsPassed (o : Options) (place : CutPlace) (bytes : List ℕ) : Type 0 where
+pub record IsPassed (o : Dialect) (place : CutPlace) (bytes : List ℕ) : Type 0 where
   pub mark : ℕ
   pub mark_is : text_begins place bytes ≡ mark
   pub begin : last_begin o (first_state o place) bytes ≡ mark + last_end o (start o) (drop mark bytes)
@@ -188,13 +188,13 @@ pub text_from-begins : (place : CutPlace) (bytes : List ℕ) → text_from place
 text_from-begins AtOpening bytes = refl
 text_from-begins place bytes = refl
 
-pub passed_text : (o : Options) (place : CutPlace) (bytes : List ℕ) → (all : IsPassed o place bytes) → text_from place bytes ≡ drop all.mark bytes
+pub passed_text : (o : Dialect) (place : CutPlace) (bytes : List ℕ) → (all : IsPassed o place bytes) → text_from place bytes ≡ drop all.mark bytes
 passed_text o place bytes all = text_from-begins place bytes ∙ ap (λ (n : ℕ). drop n bytes) all.mark_is
 
 nothing_added : (a b : ℕ) → a ≡ b → a ≡ 0 + b
 nothing_added a b same = omega arith
 
-pub passed_same : (o : Options) (place : CutPlace) (bytes : List ℕ) → text_begins place bytes ≡ 0 → IsSameFrom o (first_state o place) (start o) bytes → IsPassed o place bytes
+pub passed_same : (o : Dialect) (place : CutPlace) (bytes : List ℕ) → text_begins place bytes ≡ 0 → IsSameFrom o (first_state o place) (start o) bytes → IsPassed o place bytes
 passed_same o place bytes is same = record {
   mark = 0;
   mark_is = is;
@@ -204,7 +204,7 @@ passed_same o place bytes is same = record {
   show = show_equal (cut_after o (first_state o place) bytes) (cut_after o (start o) bytes) bytes same.after;
 }
 
-pub passed_shown : (o : Options) (place : CutPlace) (bytes : List ℕ) → text_begins place bytes ≡ 0 → last_begin o (first_state o place) bytes ≡ 0
+pub passed_shown : (o : Dialect) (place : CutPlace) (bytes : List ℕ) → text_begins place bytes ≡ 0 → last_begin o (first_state o place) bytes ≡ 0
     → last_end o (first_state o place) bytes ≡ 0 → last_end o (start o) bytes ≡ 0
     → ShowSame (cut_after o (first_state o place) bytes) (cut_after o (start o) bytes) bytes → IsPassed o place bytes
 passed_shown o place bytes is begin end start_end show = record {
@@ -217,21 +217,21 @@ passed_shown o place bytes is begin end start_end show = record {
 }
 
 -- after an eol byte, and after the mark
-pub passed_eol : (o : Options) (bytes : List ℕ) → IsPassed o AfterEol bytes
+pub passed_eol : (o : Dialect) (bytes : List ℕ) → IsPassed o AfterEol bytes
 passed_eol o bytes = passed_same o AfterEol bytes refl (record { after = refl; end = refl; begin = begin_is_end o (start o) bytes tt })
 
-pub mark_show : (o : Options) (bytes : List ℕ) → ShowSame (cut_after o (first_state o AfterMark) bytes) (cut_after o (start o) bytes) bytes
+pub mark_show : (o : Dialect) (bytes : List ℕ) → ShowSame (cut_after o (first_state o AfterMark) bytes) (cut_after o (start o) bytes) bytes
 mark_show o [] = show_neither (first_state o AfterMark) (start o) [] tt tt (λ is. cc) (λ some is. some refl)
 mark_show o (b ∷ bs) = show_equal (cut_after o (first_state o AfterMark) (b ∷ bs)) (cut_after o (start o) (b ∷ bs)) (b ∷ bs) refl
 
-pub mark_end : (o : Options) (bytes : List ℕ) → last_end o (first_state o AfterMark) bytes ≡ last_end o (start o) bytes
+pub mark_end : (o : Dialect) (bytes : List ℕ) → last_end o (first_state o AfterMark) bytes ≡ last_end o (start o) bytes
 mark_end o [] = refl
 mark_end o (b ∷ bs) = refl
 
-pub mark_begin : (o : Options) (bytes : List ℕ) → last_begin o (first_state o AfterMark) bytes ≡ last_end o (start o) bytes
+pub mark_begin : (o : Dialect) (bytes : List ℕ) → last_begin o (first_state o AfterMark) bytes ≡ last_end o (start o) bytes
 mark_begin o bytes = begin_is_end o (first_state o AfterMark) bytes tt ∙ mark_end o bytes
 
-pub passed_mark : (o : Options) (bytes : List ℕ) → IsPassed o AfterMark bytes
+pub passed_mark : (o : Dialect) (bytes : List ℕ) → IsPassed o AfterMark bytes
 passed_mark o bytes = record {
   mark = 0;
   mark_is = refl;

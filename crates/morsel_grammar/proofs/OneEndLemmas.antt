@@ -6,7 +6,7 @@ use Rattle.std.specs.Prelude.{Bool, true, false, not, if◌then◌else◌, Optio
 use Rattle.std.specs.Str.{is_utf8}
 use Rattle.morsel_meaning.specs.declared.value.ColType.{ColType}
 use Rattle.morsel_meaning.specs.Values.{Row}
-use Rattle.morsel_grammar.specs.Options.{Options, AreOptions}
+use Rattle.morsel_grammar.specs.Dialect.{Dialect, IsDialect}
 use Rattle.morsel_grammar.specs.Grammar.{CsvField, CsvRecord, Comment, Fields, IsRecord}
 use Rattle.morsel_grammar.specs.Cells.{CsvCell}
 use Rattle.morsel_grammar.specs.Rows.{RowOf, IsRow, Misfit, is_header, cells_of, row_of}
@@ -40,13 +40,13 @@ stops_not_utf8 used head at bytes kept true is never = absurd (never (IsUtf8-fro
 stops_not_utf8 used head at bytes kept false is never = stops_refused used head at NotUtf8
 
 -- a record of another width is no row
-pub cells_of-other : (o : Options) (kinds : List ColType) (fields : List CsvField) → length fields ≢ length kinds → cells_of o kinds fields ≡ None
+pub cells_of-other : (o : Dialect) (kinds : List ColType) (fields : List CsvField) → length fields ≢ length kinds → cells_of o kinds fields ≡ None
 cells_of-other o [] [] other = absurd (other refl)
 cells_of-other o [] (f ∷ fields) other = refl
 cells_of-other o (kind ∷ kinds) [] other = refl
 cells_of-other o (kind ∷ kinds) (f ∷ fields) other = rw (cells_of-other o kinds fields (λ same. other (ap suc same))) refl
 
-pub row_of-other : (o : Options) (kinds : List ColType) (r : CsvRecord) → HasOtherWidth kinds r → row_of o kinds r ≡ Misfit
+pub row_of-other : (o : Dialect) (kinds : List ColType) (r : CsvRecord) → HasOtherWidth kinds r → row_of o kinds r ≡ Misfit
 row_of-other o kinds (Comment body) other = absurd other
 row_of-other o kinds (Fields fields) other = rw (other.0, cells_of-other o kinds fields other.1) refl
 
@@ -61,7 +61,7 @@ stops_bad : (used : List Bool) (at : ℕ) (row : RowOf) (cells : List CsvCell) (
 stops_bad used at row cells later is bad = rw is (stops_value later.head at (used_values used cells) (read_of used later) bad)
 
 -- after the header a record whose row stops, whatever its bytes are
-stops_row : (o : Options) (kinds : List ColType) (used : List Bool) (at : ℕ) (text next : List ℕ) (r : CsvRecord) → AreOptions o → text ≢ [] → IsRecord o r text next
+stops_row : (o : Dialect) (kinds : List ColType) (used : List Bool) (at : ℕ) (text next : List ℕ) (r : CsvRecord) → IsDialect o → text ≢ [] → IsRecord o r text next
     → ((later : Reading) → StopsAt at (read_of used (row_then false at (row_of o kinds r) later))) → StopsAt at (read_of used (reading o kinds false at text))
 stops_row o kinds used at text next r fit some is stops =
     let all = record_taken o r text next fit is some in
@@ -70,13 +70,13 @@ stops_row o kinds used at text next r fit some is stops =
     subst P (sym (reading-record o kinds false at r text next all.0 fit all.1))
     (stops_utf8 used false at (row_then false at (row_of o kinds r) (later false)) (is_utf8 all.0) (stops (later false)))
 
-stops_bytes : (o : Options) (kinds : List ColType) (used : List Bool) (head : Bool) (at : ℕ) (bytes : List ℕ) (r : CsvRecord) (later : Bool → Reading) → (IsUtf8 bytes → ⊥)
+stops_bytes : (o : Dialect) (kinds : List ColType) (used : List Bool) (head : Bool) (at : ℕ) (bytes : List ℕ) (r : CsvRecord) (later : Bool → Reading) → (IsUtf8 bytes → ⊥)
     → StopsAt at (read_of used (record_then o kinds head at bytes r later))
 stops_bytes o kinds used head at bytes r later never =
     stops_not_utf8 used head at bytes (if head then later (not (is_header r)) else row_then false at (row_of o kinds r) (later false)) (is_utf8 bytes) refl never
 
 -- what has a flaw is refused where it begins
-stops_at : (o : Options) (kinds : List ColType) (used : List Bool) (awaits_header : Bool) (at : ℕ) (text : List ℕ) (flaw : Flaw) → AreOptions o → text ≢ []
+stops_at : (o : Dialect) (kinds : List ColType) (used : List Bool) (awaits_header : Bool) (at : ℕ) (text : List ℕ) (flaw : Flaw) → IsDialect o → text ≢ []
     → HasFlaw o kinds used awaits_header text flaw → StopsAt at (read_of used (reading o kinds awaits_header at text))
 stops_at o kinds used awaits_header at text Malformed fit some (inl none) =
     let P : Reading → Type 0 = λ x. StopsAt at (read_of used x) in
@@ -108,8 +108,8 @@ joined_stops rows head awaits_header None later values place none same is stops 
 joined_stops rows head awaits_header (Some refusal) later values place none same is stops = cc
 
 -- what the grammar says of a text is what is read of it
-pub read_of-one : (o : Options) (kinds : List ColType) (used : List Bool) (head : Bool) (at : ℕ) (text : List ℕ) (rows : List Row) (awaits_header : Bool) (refusal : Option Refusal)
-    → AreOptions o → RowsOfGrammar o kinds used head at text rows awaits_header refusal
+pub read_of-one : (o : Dialect) (kinds : List ColType) (used : List Bool) (head : Bool) (at : ℕ) (text : List ℕ) (rows : List Row) (awaits_header : Bool) (refusal : Option Refusal)
+    → IsDialect o → RowsOfGrammar o kinds used head at text rows awaits_header refusal
     → (let read = read_of used (reading o kinds head at text) in (values_in read.rows ≡ rows) × (place_in read.refusal ≡ place_in refusal))
 read_of-one o kinds used head at text rows awaits_header None fit is =
     let whole = read_of-ends o kinds used head at text is.0 rows awaits_header fit is.1 is.2 in (whole.1, ap place_in whole.0)
@@ -136,7 +136,7 @@ read_of-one o kinds used head at text rows awaits_header (Some refusal) fit (cel
       ap (λ (x : Read). place_in x.refusal) same ∙ all.1 ∙ ap (λ (n : ℕ). Some n) (sym before.place_is),
     )
 
-pub ends_once : (o : Options) → AreOptions o → EndsOnce o
+pub ends_once : (o : Dialect) → IsDialect o → EndsOnce o
 ends_once o fit = λ kinds used head at text rows others awaits_header other refusal found is also.
     let one = read_of-one o kinds used head at text rows awaits_header refusal fit is in
     let two = read_of-one o kinds used head at text others other found fit also in

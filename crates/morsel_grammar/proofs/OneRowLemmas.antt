@@ -4,7 +4,7 @@ use Rattle.std.proofs.lemmas.List.{append-nil, length-map}
 use Rattle.std.specs.Prelude.{Bool, true, false, ◌⊎◌, if◌then◌else◌, Option, Some, None, List, [], ◌∷◌, ◌++◌, length}
 use Rattle.std.specs.Str.{is_utf8}
 use Rattle.morsel_meaning.specs.declared.value.ColType.{ColType}
-use Rattle.morsel_grammar.specs.Options.{Options, AreOptions}
+use Rattle.morsel_grammar.specs.Dialect.{Dialect, IsDialect}
 use Rattle.morsel_grammar.specs.Grammar.{CsvRecord}
 use Rattle.morsel_grammar.specs.Cells.{CsvCell}
 use Rattle.morsel_grammar.specs.Rows.{RowOf, IsRow, row_of}
@@ -27,7 +27,7 @@ stands_first : (place : ℕ) (cells : List CsvCell) (later : Reading) (t : Bool)
 stands_first place cells later true = inl ([], cells, later.rows, refl, refl)
 stands_first place cells later false = inr (refl, refl)
 
-stands_row : (o : Options) (kinds : List ColType) (place : ℕ) (bytes : List ℕ) (r : CsvRecord) (cells : List CsvCell) (later : Bool → Reading) → row_of o kinds r ≡ IsRow cells
+stands_row : (o : Dialect) (kinds : List ColType) (place : ℕ) (bytes : List ℕ) (r : CsvRecord) (cells : List CsvCell) (later : Bool → Reading) → row_of o kinds r ≡ IsRow cells
     → StandsAt (record_then o kinds false place bytes r later) 0 place
 stands_row o kinds place bytes r cells later is =
     let P : RowOf → Type 0 = λ row. StandsAt (if is_utf8 bytes then row_then false place row (later false) else refuses false place NotUtf8) 0 place in
@@ -48,7 +48,7 @@ stands_behind rows false None later n place none is same (inl (row ∷ before, c
 stands_behind rows false None later n place none is same (inr (count, refused)) = inr (length-joined rows (later false).rows n count same, refused)
 
 -- what the grammar says of a row is what is read
-pub stands_at : (o : Options) (kinds : List ColType) (head : Bool) (at : ℕ) (text : List ℕ) (before : List (List CsvCell)) (place : ℕ) (cells : List CsvCell) → AreOptions o
+pub stands_at : (o : Dialect) (kinds : List ColType) (head : Bool) (at : ℕ) (text : List ℕ) (before : List (List CsvCell)) (place : ℕ) (cells : List CsvCell) → IsDialect o
     → HasRowAt o kinds head at text before place cells → StandsAt (reading o kinds head at text) (length before) place
 stands_at o kinds head at text before place cells fit (rest, r, after, behind, is, row) =
     let front : List ℕ = behind.front in
@@ -96,7 +96,7 @@ one_place r n place other (inr one) (inr two) =
     let same : Some a ≡ Some b = sym one.1 ∙ two.1 in
     let inside : a ≡ b = cc in ap (λ (x : Refusal). x.at) inside
 
-pub stands_once : (o : Options) → AreOptions o → StandsOnce o
+pub stands_once : (o : Dialect) → IsDialect o → StandsOnce o
 stands_once o fit = λ kinds head at text before others place other cells more is also count.
     let P : ℕ → Type 0 = λ n. StandsAt (reading o kinds head at text) n other in
     one_place (reading o kinds head at text) (length before) place other (stands_at o kinds head at text before place cells fit is)

@@ -1,7 +1,7 @@
 -- The machine that finds cuts over a whole file, with its byte order mark or without.
 use Rattle.std.proofs.Common.{◌≡◌, ℕ, zero, suc, ◌+◌, ◌<◌, ◌≤◌, ap, sym, refl, ◌∙◌, arith}
 use Rattle.std.specs.Prelude.{Bool, true, false, ◌&&◌, ◌==◌, if◌then◌else◌, Option, Some, None, List, [], ◌∷◌, ◌++◌, length}
-use Rattle.morsel_grammar.specs.Options.{Options, AreOptions, IsQuoteFor, IsCommentFor}
+use Rattle.morsel_grammar.specs.Dialect.{Dialect, IsDialect, IsQuoteFor, IsCommentFor}
 use Rattle.morsel_grammar.specs.Split.{is_quote}
 use Rattle.morsel_grammar.specs.Rows.{mark_len}
 use Rattle.morsel_grammar.specs.Machine.{CutPlace, CutState, AtOpening, InMarkOne, InMarkTwo, AfterMark, AfterEol, InPlain, place_or_later, plain_step, first_step, place_step, is_after_eol, begins_record, no_byte_matched, matched_step, first_state, state_at, cut_step, cut_after, last_end, last_begin}
@@ -20,10 +20,10 @@ high_no_quote : (separator eol b : ℕ) (quote : Option ℕ) → IsQuoteFor sepa
 high_no_quote separator eol b None fit high = refl
 high_no_quote separator eol b (Some q) fit high = high_other b q high fit.0
 
-high_plain : (o : Options) (b : ℕ) → AreOptions o → 128 ≤ b → plain_step o b ≡ InPlain
+high_plain : (o : Dialect) (b : ℕ) → IsDialect o → 128 ≤ b → plain_step o b ≡ InPlain
 high_plain o b fit high = plain_step-on o b (high_other b o.separator high fit.separator_ascii) (high_other b o.eol high fit.eol_ascii)
 
-high_first : (o : Options) (b : ℕ) → AreOptions o → 128 ≤ b → first_step o b ≡ InPlain
+high_first : (o : Dialect) (b : ℕ) → IsDialect o → 128 ≤ b → first_step o b ≡ InPlain
 high_first o b fit high = first_step-plain o b (high_no_quote o.separator o.eol b o.quote fit.quote high) ∙ high_plain o b fit high
 
 high_unmatched : (eol b : ℕ) (prefix : Option (List ℕ)) → IsCommentFor eol prefix → 128 ≤ b → matched_step prefix (no_byte_matched prefix) b ≡ None
@@ -37,35 +37,35 @@ high_unmatched eol b (Some (c ∷ prefix)) fit high =
 mark_byte : (a n : ℕ) → (a == n) ≡ true → 128 ≤ n → 128 ≤ a
 mark_byte a n is high = let same : a ≡ n = same_byte a n is in omega arith
 
-first_byte : (o : Options) (place next : CutPlace) (b : ℕ) → AreOptions o → 128 ≤ b → place_step o place b ≡ next → begins_record next ≡ false
+first_byte : (o : Dialect) (place next : CutPlace) (b : ℕ) → IsDialect o → 128 ≤ b → place_step o place b ≡ next → begins_record next ≡ false
     → cut_step o (first_state o place) b ≡ lone next
 first_byte o place next b fit high is goes =
     ap (λ (m : Option ℕ). state_at o m (place_step o place b)) (high_unmatched o.eol b o.comment fit.comment high)
     ∙ ap (state_at o None) is ∙ state_at-lost o next goes
 
-open_one : (o : Options) (a : ℕ) → AreOptions o → (a == 239) ≡ true → cut_step o (first_state o AtOpening) a ≡ lone InMarkOne
+open_one : (o : Dialect) (a : ℕ) → IsDialect o → (a == 239) ≡ true → cut_step o (first_state o AtOpening) a ≡ lone InMarkOne
 open_one o a fit is = first_byte o AtOpening InMarkOne a fit (mark_byte a 239 is (omega arith)) (rw is refl) refl
 
-start_one : (o : Options) (a : ℕ) → AreOptions o → (a == 239) ≡ true → cut_step o (start o) a ≡ lone InPlain
+start_one : (o : Dialect) (a : ℕ) → IsDialect o → (a == 239) ≡ true → cut_step o (start o) a ≡ lone InPlain
 start_one o a fit is = first_byte o AfterEol InPlain a fit (mark_byte a 239 is (omega arith)) (high_first o a fit (mark_byte a 239 is (omega arith))) refl
 
-open_two : (o : Options) (b : ℕ) → (b == 187) ≡ true → cut_step o (lone InMarkOne) b ≡ lone InMarkTwo
+open_two : (o : Dialect) (b : ℕ) → (b == 187) ≡ true → cut_step o (lone InMarkOne) b ≡ lone InMarkTwo
 open_two o b is = step_on o InMarkOne InMarkTwo b (rw is refl) refl
 
-start_two : (o : Options) (b : ℕ) → AreOptions o → (b == 187) ≡ true → cut_step o (lone InPlain) b ≡ lone InPlain
+start_two : (o : Dialect) (b : ℕ) → IsDialect o → (b == 187) ≡ true → cut_step o (lone InPlain) b ≡ lone InPlain
 start_two o b fit is = step_on o InPlain InPlain b (high_plain o b fit (mark_byte b 187 is (omega arith))) refl
 
-open_three : (o : Options) (c : ℕ) → (c == 191) ≡ true → cut_step o (lone InMarkTwo) c ≡ first_state o AfterMark
+open_three : (o : Dialect) (c : ℕ) → (c == 191) ≡ true → cut_step o (lone InMarkTwo) c ≡ first_state o AfterMark
 open_three o c is =
     let marks : place_step o InMarkTwo c ≡ AfterMark = rw is refl in step_lost o InMarkTwo c ∙ ap (state_at o None) marks
 
 -- a byte that is not the mark's is passed as another place passes it
-other_first : (o : Options) (a : ℕ) → (a == 239) ≡ false → cut_step o (first_state o AtOpening) a ≡ cut_step o (start o) a
+other_first : (o : Dialect) (a : ℕ) → (a == 239) ≡ false → cut_step o (first_state o AtOpening) a ≡ cut_step o (start o) a
 other_first o a other =
     let same : place_step o AtOpening a ≡ place_step o AfterEol a = rw other refl in
     ap (state_at o (matched_step o.comment (no_byte_matched o.comment) a)) same
 
-other_lone : (o : Options) (place : CutPlace) (b : ℕ) → place_step o place b ≡ place_step o InPlain b → cut_step o (lone place) b ≡ cut_step o (lone InPlain) b
+other_lone : (o : Dialect) (place : CutPlace) (b : ℕ) → place_step o place b ≡ place_step o InPlain b → cut_step o (lone place) b ≡ cut_step o (lone InPlain) b
 other_lone o place b same = ap (state_at o (matched_step o.comment None b)) same
 
 -- which bytes are the mark
@@ -88,13 +88,13 @@ no_mark_third : (a b c : ℕ) (bs : List ℕ) → (a == 239) ≡ true → (b == 
 no_mark_third a b c bs is also other = mark_len_all a b c bs false (mark_test a b c true true false is also other)
 
 -- the mark, and what follows it
-end_step : (o : Options) (s t : CutState) (b : ℕ) (bs : List ℕ) → cut_step o s b ≡ t → last_end o s (b ∷ bs) ≡ place_or_later (is_after_eol t.place) (last_end o t bs)
+end_step : (o : Dialect) (s t : CutState) (b : ℕ) (bs : List ℕ) → cut_step o s b ≡ t → last_end o s (b ∷ bs) ≡ place_or_later (is_after_eol t.place) (last_end o t bs)
 end_step o s t b bs is = ap (λ (x : CutState). place_or_later (is_after_eol x.place) (last_end o x bs)) is
 
-begin_step : (o : Options) (s t : CutState) (b : ℕ) (bs : List ℕ) → cut_step o s b ≡ t → last_begin o s (b ∷ bs) ≡ place_or_later (begins_record t.place) (last_begin o t bs)
+begin_step : (o : Dialect) (s t : CutState) (b : ℕ) (bs : List ℕ) → cut_step o s b ≡ t → last_begin o s (b ∷ bs) ≡ place_or_later (begins_record t.place) (last_begin o t bs)
 begin_step o s t b bs is = ap (λ (x : CutState). place_or_later (begins_record x.place) (last_begin o x bs)) is
 
-after_step : (o : Options) (s t : CutState) (b : ℕ) (bs : List ℕ) → cut_step o s b ≡ t → cut_after o s (b ∷ bs) ≡ cut_after o t bs
+after_step : (o : Dialect) (s t : CutState) (b : ℕ) (bs : List ℕ) → cut_step o s b ≡ t → cut_after o s (b ∷ bs) ≡ cut_after o t bs
 after_step o s t b bs is = ap (λ (x : CutState). cut_after o x bs) is
 
 third_begin : (n : ℕ) → place_or_later false (place_or_later false (place_or_later true n)) ≡ 3 + n
@@ -108,14 +108,14 @@ third_end (suc n) none = cc
 third_end_again : (n : ℕ) → n ≡ 0 → place_or_later false (place_or_later false (place_or_later false n)) ≡ 0
 third_end_again n none = ap (λ (n : ℕ). place_or_later false (place_or_later false (place_or_later false n))) none
 
-after_mark : (o : Options) (a b c : ℕ) (bs : List ℕ) → AreOptions o → (a == 239) ≡ true → (b == 187) ≡ true → (c == 191) ≡ true
+after_mark : (o : Dialect) (a b c : ℕ) (bs : List ℕ) → IsDialect o → (a == 239) ≡ true → (b == 187) ≡ true → (c == 191) ≡ true
     → cut_after o (first_state o AtOpening) (a ∷ b ∷ c ∷ bs) ≡ cut_after o (first_state o AfterMark) bs
 after_mark o a b c bs fit one two three =
     after_step o (first_state o AtOpening) (lone InMarkOne) a (b ∷ c ∷ bs) (open_one o a fit one)
     ∙ after_step o (lone InMarkOne) (lone InMarkTwo) b (c ∷ bs) (open_two o b two)
     ∙ after_step o (lone InMarkTwo) (first_state o AfterMark) c bs (open_three o c three)
 
-passed_whole : (o : Options) (a b c : ℕ) (bs : List ℕ) → AreOptions o → (a == 239) ≡ true → (b == 187) ≡ true → (c == 191) ≡ true → IsPassed o AtOpening (a ∷ b ∷ c ∷ bs)
+passed_whole : (o : Dialect) (a b c : ℕ) (bs : List ℕ) → IsDialect o → (a == 239) ≡ true → (b == 187) ≡ true → (c == 191) ≡ true → IsPassed o AtOpening (a ∷ b ∷ c ∷ bs)
 passed_whole o a b c bs fit one two three =
     let opening : CutState = first_state o AtOpening in
     let marked : CutState = first_state o AfterMark in
@@ -138,7 +138,7 @@ passed_whole o a b c bs fit one two three =
     }
 
 -- a whole file
-third_byte : (o : Options) (a b c : ℕ) (bs : List ℕ) (t : Bool) → AreOptions o → (a == 239) ≡ true → (b == 187) ≡ true → (c == 191) ≡ t → IsPassed o AtOpening (a ∷ b ∷ c ∷ bs)
+third_byte : (o : Dialect) (a b c : ℕ) (bs : List ℕ) (t : Bool) → IsDialect o → (a == 239) ≡ true → (b == 187) ≡ true → (c == 191) ≡ t → IsPassed o AtOpening (a ∷ b ∷ c ∷ bs)
 third_byte o a b c bs true fit one two is = passed_whole o a b c bs fit one two is
 third_byte o a b c bs false fit one two other =
     let same : place_step o InMarkTwo c ≡ place_step o InPlain c = rw other refl in
@@ -147,7 +147,7 @@ third_byte o a b c bs false fit one two other =
     (same_later o (lone InMarkOne) (lone InPlain) InMarkTwo InPlain b (c ∷ bs) (open_two o b two) (start_two o b fit two) refl refl refl
     (same_step o (lone InMarkTwo) (lone InPlain) c bs (other_lone o InMarkTwo c same) tt)))
 
-two_bytes : (o : Options) (a b : ℕ) → AreOptions o → (a == 239) ≡ true → (b == 187) ≡ true → IsPassed o AtOpening (a ∷ b ∷ [])
+two_bytes : (o : Dialect) (a b : ℕ) → IsDialect o → (a == 239) ≡ true → (b == 187) ≡ true → IsPassed o AtOpening (a ∷ b ∷ [])
 two_bytes o a b fit one two =
     let opening : CutState = first_state o AtOpening in
     let opened : cut_after o opening (a ∷ b ∷ []) ≡ lone InMarkTwo = after_step o opening (lone InMarkOne) a (b ∷ []) (open_one o a fit one) ∙ open_two o b two in
@@ -161,7 +161,7 @@ two_bytes o a b fit one two =
     ∙ ap (place_or_later false) (end_step o (lone InPlain) (lone InPlain) b [] (start_two o b fit two)))
     (show_places (cut_after o opening (a ∷ b ∷ [])) (cut_after o (start o) (a ∷ b ∷ [])) (a ∷ b ∷ []) InMarkTwo InPlain opened started tt tt (λ is. cc) (λ is. cc))
 
-second_byte : (o : Options) (a b : ℕ) (bs : List ℕ) (t : Bool) → AreOptions o → (a == 239) ≡ true → (b == 187) ≡ t → IsPassed o AtOpening (a ∷ b ∷ bs)
+second_byte : (o : Dialect) (a b : ℕ) (bs : List ℕ) (t : Bool) → IsDialect o → (a == 239) ≡ true → (b == 187) ≡ t → IsPassed o AtOpening (a ∷ b ∷ bs)
 second_byte o a b [] true fit one is = two_bytes o a b fit one is
 second_byte o a b (c ∷ bs) true fit one is = third_byte o a b c bs (c == 191) fit one is refl
 second_byte o a b bs false fit one other =
@@ -170,7 +170,7 @@ second_byte o a b bs false fit one other =
     (same_later o (first_state o AtOpening) (start o) InMarkOne InPlain a (b ∷ bs) (open_one o a fit one) (start_one o a fit one) refl refl refl
     (same_step o (lone InMarkOne) (lone InPlain) b bs (other_lone o InMarkOne b same) tt))
 
-one_byte : (o : Options) (a : ℕ) → AreOptions o → (a == 239) ≡ true → IsPassed o AtOpening (a ∷ [])
+one_byte : (o : Dialect) (a : ℕ) → IsDialect o → (a == 239) ≡ true → IsPassed o AtOpening (a ∷ [])
 one_byte o a fit one =
     let opening : CutState = first_state o AtOpening in
     passed_shown o AtOpening (a ∷ []) refl
@@ -179,33 +179,33 @@ one_byte o a fit one =
     (end_step o (start o) (lone InPlain) a [] (start_one o a fit one))
     (show_places (cut_after o opening (a ∷ [])) (cut_after o (start o) (a ∷ [])) (a ∷ []) InMarkOne InPlain (open_one o a fit one) (start_one o a fit one) tt tt (λ is. cc) (λ is. cc))
 
-first_of_file : (o : Options) (a : ℕ) (bs : List ℕ) (t : Bool) → AreOptions o → (a == 239) ≡ t → IsPassed o AtOpening (a ∷ bs)
+first_of_file : (o : Dialect) (a : ℕ) (bs : List ℕ) (t : Bool) → IsDialect o → (a == 239) ≡ t → IsPassed o AtOpening (a ∷ bs)
 first_of_file o a [] true fit is = one_byte o a fit is
 first_of_file o a (b ∷ bs) true fit is = second_byte o a b bs (b == 187) fit is refl
 first_of_file o a bs false fit other =
     passed_same o AtOpening (a ∷ bs) (no_mark_first a bs other) (same_step o (first_state o AtOpening) (start o) a bs (other_first o a other) tt)
 
-pub passed_opening : (o : Options) (bytes : List ℕ) → AreOptions o → IsPassed o AtOpening bytes
+pub passed_opening : (o : Dialect) (bytes : List ℕ) → IsDialect o → IsPassed o AtOpening bytes
 passed_opening o [] fit = passed_shown o AtOpening [] refl refl refl refl (show_neither (first_state o AtOpening) (start o) [] tt tt (λ is. cc) (λ some is. some refl))
 passed_opening o (a ∷ bs) fit = first_of_file o a bs (a == 239) fit refl
 
 -- from each place where bytes begin
-pub passed : (o : Options) (place : CutPlace) (bytes : List ℕ) → AreOptions o → IsFirstPlace place → IsPassed o place bytes
+pub passed : (o : Dialect) (place : CutPlace) (bytes : List ℕ) → IsDialect o → IsFirstPlace place → IsPassed o place bytes
 passed o AtOpening bytes fit is = passed_opening o bytes fit
 passed o AfterMark bytes fit is = passed_mark o bytes
 passed o AfterEol bytes fit is = passed_eol o bytes
 passed o place bytes fit is = absurd is
 
-pub passes_mark : (o : Options) → AreOptions o → PassesMark o
+pub passes_mark : (o : Dialect) → IsDialect o → PassesMark o
 passes_mark o fit = λ bytes. (after_mark o 239 187 191 bytes fit refl refl refl, mark_end o bytes)
 
 -- no record ends within the mark: what follows an end does not make a mark
-mark_after_one : (o : Options) (a : ℕ) (more : List ℕ) (t : Bool) → AreOptions o → (a == 239) ≡ t → (cut_step o (first_state o AtOpening) a).place ≡ AfterEol → mark_len (a ∷ more) ≡ 0
+mark_after_one : (o : Dialect) (a : ℕ) (more : List ℕ) (t : Bool) → IsDialect o → (a == 239) ≡ t → (cut_step o (first_state o AtOpening) a).place ≡ AfterEol → mark_len (a ∷ more) ≡ 0
 mark_after_one o a more true fit is ends =
     let both : InMarkOne ≡ AfterEol = ap (λ (x : CutState). x.place) (sym (open_one o a fit is)) ∙ ends in cc
 mark_after_one o a more false fit other ends = no_mark_first a more other
 
-mark_after_two : (o : Options) (a b : ℕ) (more : List ℕ) (t u : Bool) → AreOptions o → (a == 239) ≡ t → (b == 187) ≡ u
+mark_after_two : (o : Dialect) (a b : ℕ) (more : List ℕ) (t u : Bool) → IsDialect o → (a == 239) ≡ t → (b == 187) ≡ u
     → (cut_after o (first_state o AtOpening) (a ∷ b ∷ [])).place ≡ AfterEol → mark_len (a ∷ b ∷ more) ≡ 0
 mark_after_two o a b more true true fit one two ends =
     let after : cut_after o (first_state o AtOpening) (a ∷ b ∷ []) ≡ lone InMarkTwo =
@@ -214,7 +214,7 @@ mark_after_two o a b more true true fit one two ends =
 mark_after_two o a b more true false fit one other ends = no_mark_second a b more one other
 mark_after_two o a b more false u fit other two ends = no_mark_first a (b ∷ more) other
 
-pub mark_len-front : (o : Options) (front more : List ℕ) → AreOptions o → (cut_after o (first_state o AtOpening) front).place ≡ AfterEol → mark_len (front ++ more) ≡ mark_len front
+pub mark_len-front : (o : Dialect) (front more : List ℕ) → IsDialect o → (cut_after o (first_state o AtOpening) front).place ≡ AfterEol → mark_len (front ++ more) ≡ mark_len front
 mark_len-front o [] more fit ends = let both : AtOpening ≡ AfterEol = ends in cc
 mark_len-front o (a ∷ []) more fit ends = mark_after_one o a more (a == 239) fit refl ends
 mark_len-front o (a ∷ b ∷ []) more fit ends = mark_after_two o a b more (a == 239) (b == 187) fit refl refl ends

@@ -4,7 +4,7 @@ use Rattle.std.specs.Prelude.{Bool, true, false, not, if◌then◌else◌, Optio
 use Rattle.std.specs.Str.{is_utf8}
 use Rattle.morsel_meaning.specs.declared.value.ColType.{ColType}
 use Rattle.morsel_meaning.specs.Values.{Row}
-use Rattle.morsel_grammar.specs.Options.{Options, AreOptions}
+use Rattle.morsel_grammar.specs.Dialect.{Dialect, IsDialect}
 use Rattle.morsel_grammar.specs.Grammar.{CsvRecord}
 use Rattle.morsel_grammar.specs.Cells.{CsvCell}
 use Rattle.morsel_grammar.specs.Rows.{RowOf, NoRow, IsRow, Misfit, is_header, row_of}
@@ -33,20 +33,20 @@ past_row at Misfit later is = past_refusal false at Malformed
 past_header : (awaits_header : Bool) (later : Reading) → IsPast awaits_header later → IsPast true later
 past_header awaits_header later is = record { kept = λ never. true_not_false true refl never; behind_rows = is.behind_rows }
 
-past_utf8 : (o : Options) (kinds : List ColType) (head : Bool) (at : ℕ) (r : CsvRecord) (later : Bool → Reading) (t : Bool) → ((awaits_header : Bool) → IsPast awaits_header (later awaits_header))
+past_utf8 : (o : Dialect) (kinds : List ColType) (head : Bool) (at : ℕ) (r : CsvRecord) (later : Bool → Reading) (t : Bool) → ((awaits_header : Bool) → IsPast awaits_header (later awaits_header))
     → IsPast head (if t then (if head then later (not (is_header r)) else row_then false at (row_of o kinds r) (later false)) else refuses head at NotUtf8)
 past_utf8 o kinds true at r later true is = past_header (not (is_header r)) (later (not (is_header r))) (is (not (is_header r)))
 past_utf8 o kinds false at r later true is = past_row at (row_of o kinds r) (later false) (is false)
 past_utf8 o kinds head at r later false is = past_refusal head at NotUtf8
 
-past_split : (o : Options) (kinds : List ColType) (head : Bool) (at : ℕ) (text : List ℕ) (found : Option (CsvRecord × List ℕ)) (later : Bool → ℕ → List ℕ → Reading)
+past_split : (o : Dialect) (kinds : List ColType) (head : Bool) (at : ℕ) (text : List ℕ) (found : Option (CsvRecord × List ℕ)) (later : Bool → ℕ → List ℕ → Reading)
     → ((awaits_header : Bool) (place : ℕ) (rest : List ℕ) → IsPast awaits_header (later awaits_header place rest)) → IsPast head (split_then o kinds head at text found later)
 past_split o kinds head at text None later is = past_refusal head at Malformed
 past_split o kinds head at text (Some split) later is =
     let size : ℕ = length text - length split.1 in
     past_utf8 o kinds head at split.0 (λ awaits_header. later awaits_header (at + size) split.1) (is_utf8 (take size text)) (λ awaits_header. is awaits_header (at + size) split.1)
 
-pub reading_up_to-past : (n : ℕ) (o : Options) (kinds : List ColType) (head : Bool) (at : ℕ) (text : List ℕ) → IsPast head (reading_up_to n o kinds head at text)
+pub reading_up_to-past : (n : ℕ) (o : Dialect) (kinds : List ColType) (head : Bool) (at : ℕ) (text : List ℕ) → IsPast head (reading_up_to n o kinds head at text)
 reading_up_to-past zero o kinds head at [] = past_end head
 reading_up_to-past (suc n) o kinds head at [] = past_end head
 reading_up_to-past zero o kinds head at (b ∷ bs) = past_end head
@@ -54,7 +54,7 @@ reading_up_to-past (suc n) o kinds head at (b ∷ bs) =
     past_split o kinds head at (b ∷ bs) (record_at o (b ∷ bs)) (λ awaits_header place rest. reading_up_to n o kinds awaits_header place rest)
     (λ awaits_header place rest. reading_up_to-past n o kinds awaits_header place rest)
 
-pub reading-past : (o : Options) (kinds : List ColType) (head : Bool) (at : ℕ) (text : List ℕ) → IsPast head (reading o kinds head at text)
+pub reading-past : (o : Dialect) (kinds : List ColType) (head : Bool) (at : ℕ) (text : List ℕ) → IsPast head (reading o kinds head at text)
 reading-past o kinds head at text = reading_up_to-past (length text) o kinds head at text
 
 joined_values : (at : ℕ) (row : Row) (rows : List (ℕ × Row)) (head : Bool) (refusal : Option Refusal) (later : Bool → Read)
@@ -107,7 +107,7 @@ pub read_of-joined : (used : List Bool) (head : Bool) (first : Reading) (later :
     → read_of used (joined first later) ≡ joined_read (read_of used first) (λ awaits_header. read_of used (later awaits_header))
 read_of-joined used head first later past is = by_refusal used first.rows first.head first.refusal later past.behind_rows is
 
-pub reads_rows_of_pieces : (o : Options) → AreOptions o → ReadsRowsOfPieces o
+pub reads_rows_of_pieces : (o : Dialect) → IsDialect o → ReadsRowsOfPieces o
 reads_rows_of_pieces o fit = λ kinds used head at front rest records whole.
     ap (read_of used) (reading-joined o kinds head at front rest records fit whole)
     ∙ read_of-joined used head (reading o kinds head at front) (λ awaits_header. reading o kinds awaits_header (at + length front) rest)

@@ -1,26 +1,26 @@
 -- An unquoted field runs to the next separator or eol byte.
 use Rattle.std.proofs.Common.{◌≡◌, ◌≢◌, ℕ, ap, sym, refl, ◌∙◌}
 use Rattle.std.specs.Prelude.{Bool, true, false, ◌==◌, if◌then◌else◌, Option, Some, None, List, [], ◌∷◌, ◌++◌}
-use Rattle.morsel_grammar.specs.Options.{Options, IsWithout}
+use Rattle.morsel_grammar.specs.Dialect.{Dialect, IsWithout}
 use Rattle.morsel_grammar.specs.Grammar.{BeginsUnquoted}
 use Rattle.morsel_grammar.specs.Split.{plain_at, stops, is_quote}
 use Rattle.morsel_grammar.proofs.ByteLemmas.{byte_itself, other_byte, bytes_differ, neither, none_of, either_first, either_second, true_not_false, same_byte}
 
 -- the end of the text, or a byte before which an unquoted field ends
-abbrev pub IsStop : Options → List ℕ → Type 0
+abbrev pub IsStop : Dialect → List ℕ → Type 0
 IsStop o [] = Unit {0}
 IsStop o (b ∷ bs) = stops o b ≡ true
 
-pub goes_on : (o : Options) (b : ℕ) → b ≢ o.separator → b ≢ o.eol → stops o b ≡ false
+pub goes_on : (o : Dialect) (b : ℕ) → b ≢ o.separator → b ≢ o.eol → stops o b ≡ false
 goes_on o b no_separator no_eol = neither (b == o.separator) (b == o.eol) (other_byte b o.separator no_separator) (other_byte b o.eol no_eol)
 
-pub stops-separator : (o : Options) → stops o o.separator ≡ true
+pub stops-separator : (o : Dialect) → stops o o.separator ≡ true
 stops-separator o = either_first (o.separator == o.separator) (o.separator == o.eol) (byte_itself o.separator)
 
-pub stops-eol : (o : Options) → stops o o.eol ≡ true
+pub stops-eol : (o : Dialect) → stops o o.eol ≡ true
 stops-eol o = either_second (o.eol == o.separator) (o.eol == o.eol) (byte_itself o.eol)
 
-pub plain_at-written : (o : Options) (bytes after : List ℕ) → IsWithout o.separator bytes → IsWithout o.eol bytes → IsStop o after
+pub plain_at-written : (o : Dialect) (bytes after : List ℕ) → IsWithout o.separator bytes → IsWithout o.eol bytes → IsStop o after
     → plain_at o (bytes ++ after) ≡ (bytes, after)
 plain_at-written o [] [] no_separator no_eol stop = refl
 plain_at-written o [] (b ∷ after) no_separator no_eol stop = rw stop refl
@@ -29,13 +29,13 @@ plain_at-written o (b ∷ bytes) after no_separator no_eol stop =
     ∙ ap (λ (found : List ℕ × List ℕ). let more : List ℕ × List ℕ = (b ∷ found.0, found.1) in more) (plain_at-written o bytes after no_separator.1 no_eol.1 stop)
 
 -- the text is content with neither separator nor eol, and a rest that ends it
-pub record IsPlainText (o : Options) (text : List ℕ) (found : List ℕ × List ℕ) : Type 0 where
+pub record IsPlainText (o : Dialect) (text : List ℕ) (found : List ℕ × List ℕ) : Type 0 where
   pub is : text ≡ found.0 ++ found.1
   pub no_separator : IsWithout o.separator found.0
   pub no_eol : IsWithout o.eol found.0
   pub stop : IsStop o found.1
 
-read_byte : (o : Options) (b : ℕ) (bs : List ℕ) (found : List ℕ × List ℕ) (t : Bool) → stops o b ≡ t → IsPlainText o bs found
+read_byte : (o : Dialect) (b : ℕ) (bs : List ℕ) (found : List ℕ × List ℕ) (t : Bool) → stops o b ≡ t → IsPlainText o bs found
     → IsPlainText o (b ∷ bs) (if t then ([], b ∷ bs) else (b ∷ found.0, found.1))
 read_byte o b bs found true ends later = record { is = refl; no_separator = tt; no_eol = tt; stop = ends }
 read_byte o b bs found false goes later =
@@ -47,7 +47,7 @@ read_byte o b bs found false goes later =
       stop = later.stop;
     }
 
-pub plain_at-read : (o : Options) (text : List ℕ) → IsPlainText o text (plain_at o text)
+pub plain_at-read : (o : Dialect) (text : List ℕ) → IsPlainText o text (plain_at o text)
 plain_at-read o [] = record { is = refl; no_separator = tt; no_eol = tt; stop = tt }
 plain_at-read o (b ∷ bs) = read_byte o b bs (plain_at o bs) (stops o b) refl (plain_at-read o bs)
 

@@ -2,7 +2,7 @@
 use Rattle.std.proofs.Common.{◌≡◌, ℕ, zero, suc, ◌+◌, ◌<◌, ap, sym, subst, refl, ◌∙◌, arith}
 use Rattle.std.proofs.lemmas.Bool.{eq-eqb}
 use Rattle.std.specs.Prelude.{Bool, true, false, ◌&&◌, ◌==◌, if◌then◌else◌, Option, Some, None, List, [], ◌∷◌, ◌++◌, length, drop}
-use Rattle.morsel_grammar.specs.Options.{Options, IsWithout, AreAscii}
+use Rattle.morsel_grammar.specs.Dialect.{Dialect, IsWithout, AreAscii}
 use Rattle.morsel_grammar.specs.Split.{is_quote, begins, behind_front}
 use Rattle.morsel_grammar.specs.Machine.{CutPlace, CutState, AtOpening, InMarkOne, InMarkTwo, AfterMark, AfterEol, AfterSeparator, InPlain, InQuotes, AfterQuote, AfterReturn, InComment, BrokenQuote, plain_step, first_step, closed_step, place_step, begins_record, matched_step, is_whole_prefix, state_at, cut_step}
 use Rattle.morsel_grammar.proofs.ByteLemmas.{byte_itself, same_byte, other_byte}
@@ -17,13 +17,13 @@ either_goes false a b first second = second
 eol_goes : (t : Bool) (next : CutPlace) → t ≡ false → begins_record next ≡ false → begins_record (if t then AfterEol else next) ≡ false
 eol_goes t next other goes = rw other goes
 
-plain_goes : (o : Options) (b : ℕ) → (b == o.eol) ≡ false → begins_record (plain_step o b) ≡ false
+plain_goes : (o : Dialect) (b : ℕ) → (b == o.eol) ≡ false → begins_record (plain_step o b) ≡ false
 plain_goes o b no_eol = either_goes (b == o.separator) AfterSeparator (if b == o.eol then AfterEol else InPlain) refl (eol_goes (b == o.eol) InPlain no_eol refl)
 
-first_goes : (o : Options) (b : ℕ) → (b == o.eol) ≡ false → begins_record (first_step o b) ≡ false
+first_goes : (o : Dialect) (b : ℕ) → (b == o.eol) ≡ false → begins_record (first_step o b) ≡ false
 first_goes o b no_eol = either_goes (is_quote o.quote b) InQuotes (plain_step o b) refl (plain_goes o b no_eol)
 
-closed_goes : (o : Options) (b : ℕ) → (b == o.eol) ≡ false → begins_record (closed_step o b) ≡ false
+closed_goes : (o : Dialect) (b : ℕ) → (b == o.eol) ≡ false → begins_record (closed_step o b) ≡ false
 closed_goes o b no_eol =
     let returned : CutPlace = if b == 13 && o.eol == 10 then AfterReturn else BrokenQuote in
     either_goes (b == o.separator) AfterSeparator (if b == o.eol then AfterEol else returned) refl
@@ -32,7 +32,7 @@ closed_goes o b no_eol =
 mark_goes : (t : Bool) (next : CutPlace) → t ≡ false → begins_record next ≡ false → begins_record (if t then AfterMark else next) ≡ false
 mark_goes t next other goes = rw other goes
 
-pub record_goes : (o : Options) (place : CutPlace) (b : ℕ) → (b == o.eol) ≡ false → (b == 191) ≡ false → begins_record (place_step o place b) ≡ false
+pub record_goes : (o : Dialect) (place : CutPlace) (b : ℕ) → (b == o.eol) ≡ false → (b == 191) ≡ false → begins_record (place_step o place b) ≡ false
 record_goes o AtOpening b no_eol no_mark = either_goes (b == 239) InMarkOne (first_step o b) refl (first_goes o b no_eol)
 record_goes o InMarkOne b no_eol no_mark = either_goes (b == 187) InMarkTwo (plain_step o b) refl (plain_goes o b no_eol)
 record_goes o InMarkTwo b no_eol no_mark = mark_goes (b == 191) (plain_step o b) no_mark (plain_goes o b no_eol)
@@ -65,30 +65,30 @@ abbrev pub matching : ℕ → CutPlace → CutState
 matching k place = record { matched = Some k; place = place }
 
 -- what is left of the prefix to be matched
-pub record IsLeft (o : Options) (prefix : List ℕ) (k : ℕ) (left : List ℕ) : Type 0 where
+pub record IsLeft (o : Dialect) (prefix : List ℕ) (k : ℕ) (left : List ℕ) : Type 0 where
   pub asked : o.comment ≡ Some prefix
   pub is : drop k prefix ≡ left
   pub no_eol : IsWithout o.eol left
   pub ascii : AreAscii left
 
-pub left_next : (o : Options) (prefix : List ℕ) (k c : ℕ) (left : List ℕ) → IsLeft o prefix k (c ∷ left) → IsLeft o prefix (k + 1) left
+pub left_next : (o : Dialect) (prefix : List ℕ) (k c : ℕ) (left : List ℕ) → IsLeft o prefix k (c ∷ left) → IsLeft o prefix (k + 1) left
 left_next o prefix k c left is =
     record { asked = is.asked; is = (drop_next prefix k c left is.is).0; no_eol = is.no_eol.1; ascii = is.ascii.1 }
 
-matched_step-left : (o : Options) (prefix : List ℕ) (k c b : ℕ) (left : List ℕ) (t : Bool) → IsLeft o prefix k (c ∷ left) → (c == b) ≡ t
+matched_step-left : (o : Dialect) (prefix : List ℕ) (k c b : ℕ) (left : List ℕ) (t : Bool) → IsLeft o prefix k (c ∷ left) → (c == b) ≡ t
     → matched_step o.comment (Some k) b ≡ (if t then Some (k + 1) else None)
 matched_step-left o prefix k c b left t is same =
     ap (λ (x : Option (List ℕ)). matched_step x (Some k) b) is.asked
     ∙ ap (λ (x : List ℕ). if begins b x then Some (k + 1) else None) is.is
     ∙ ap (λ (t : Bool). if t then Some (k + 1) else None) same
 
-pub place_goes : (o : Options) (prefix : List ℕ) (k c : ℕ) (left : List ℕ) (place : CutPlace) → IsLeft o prefix k (c ∷ left) → begins_record (place_step o place c) ≡ false
+pub place_goes : (o : Dialect) (prefix : List ℕ) (k c : ℕ) (left : List ℕ) (place : CutPlace) → IsLeft o prefix k (c ∷ left) → begins_record (place_step o place c) ≡ false
 place_goes o prefix k c left place is =
     let small : c < 128 = is.ascii.0 in
     record_goes o place c (other_byte c o.eol is.no_eol.0) (other_byte c 191 (λ e. let large : c ≡ 191 = e in absurd (omega arith)))
 
 -- a further byte of the prefix, which is not its last
-pub step_within : (o : Options) (prefix : List ℕ) (k c d : ℕ) (left : List ℕ) (place : CutPlace) → IsLeft o prefix k (c ∷ d ∷ left)
+pub step_within : (o : Dialect) (prefix : List ℕ) (k c d : ℕ) (left : List ℕ) (place : CutPlace) → IsLeft o prefix k (c ∷ d ∷ left)
     → cut_step o (matching k place) c ≡ matching (k + 1) (place_step o place c)
 step_within o prefix k c d left place is =
     let size : length prefix ≡ k + suc (suc (length left)) = (drop_next prefix k c (d ∷ left) is.is).1 in
@@ -98,7 +98,7 @@ step_within o prefix k c d left place is =
     ∙ rw (place_goes o prefix k c (d ∷ left) place is, not_whole) refl
 
 -- the last byte of the prefix
-pub step_last : (o : Options) (prefix : List ℕ) (k c : ℕ) (place : CutPlace) → IsLeft o prefix k (c ∷ []) → cut_step o (matching k place) c ≡ lone InComment
+pub step_last : (o : Dialect) (prefix : List ℕ) (k c : ℕ) (place : CutPlace) → IsLeft o prefix k (c ∷ []) → cut_step o (matching k place) c ≡ lone InComment
 step_last o prefix k c place is =
     let size : length prefix ≡ k + 1 = (drop_next prefix k c [] is.is).1 in
     let all : (k + 1 == length prefix) ≡ true = eq-eqb (k + 1) (length prefix) (sym size) in
@@ -107,13 +107,13 @@ step_last o prefix k c place is =
     ∙ rw (place_goes o prefix k c [] place is, whole) refl
 
 -- a byte that differs from the prefix
-pub step_differs : (o : Options) (prefix : List ℕ) (k c b : ℕ) (left : List ℕ) (place : CutPlace) → IsLeft o prefix k (c ∷ left) → (c == b) ≡ false
+pub step_differs : (o : Dialect) (prefix : List ℕ) (k c b : ℕ) (left : List ℕ) (place : CutPlace) → IsLeft o prefix k (c ∷ left) → (c == b) ≡ false
     → cut_step o (matching k place) b ≡ cut_step o (lone place) b
 step_differs o prefix k c b left place is differs =
     ap (λ (m : Option ℕ). state_at o m (place_step o place b)) (matched_step-left o prefix k c b left false is differs) ∙ sym (step_lost o place b)
 
 -- over the rest of the prefix, into the comment
-pub prefix_run : (o : Options) (prefix : List ℕ) (k c : ℕ) (left : List ℕ) (place : CutPlace) → IsLeft o prefix k (c ∷ left) → IsRun o (matching k place) (c ∷ left) (lone InComment)
+pub prefix_run : (o : Dialect) (prefix : List ℕ) (k c : ℕ) (left : List ℕ) (place : CutPlace) → IsLeft o prefix k (c ∷ left) → IsRun o (matching k place) (c ∷ left) (lone InComment)
 prefix_run o prefix k c [] place is = run_byte o (matching k place) (lone InComment) c (step_last o prefix k c place is) refl
 prefix_run o prefix k c (d ∷ left) place is =
     let next : CutPlace = place_step o place c in
@@ -122,7 +122,7 @@ prefix_run o prefix k c (d ∷ left) place is =
     (prefix_run o prefix (k + 1) d left next (left_next o prefix k c (d ∷ left) is))
 
 -- a byte that goes on as the prefix does, or differs
-lost_byte : (o : Options) (prefix : List ℕ) (k c b : ℕ) (left bs : List ℕ) (place : CutPlace) (t : Bool) → IsLeft o prefix k (c ∷ left) → (c == b) ≡ t
+lost_byte : (o : Dialect) (prefix : List ℕ) (k c b : ℕ) (left bs : List ℕ) (place : CutPlace) (t : Bool) → IsLeft o prefix k (c ∷ left) → (c == b) ≡ t
     → (if t then behind_front left bs else None) ≡ None
     → (behind_front left bs ≡ None → (next : CutPlace) → AreAlike o (matching (k + 1) next) (lone next) bs)
     → AreAlike o (matching k place) (lone place) (b ∷ bs)
@@ -138,7 +138,7 @@ lost_byte o prefix k c b (d ∷ left) bs place true is same none later =
 lost_byte o prefix k c b left bs place false is same none later = alike_same o (matching k place) (lone place) b bs (step_differs o prefix k c b left place is same)
 
 -- a text that does not go on as the prefix does
-pub prefix_lost : (o : Options) (prefix : List ℕ) (k : ℕ) (left text : List ℕ) (place : CutPlace) → IsLeft o prefix k left → behind_front left text ≡ None
+pub prefix_lost : (o : Dialect) (prefix : List ℕ) (k : ℕ) (left text : List ℕ) (place : CutPlace) → IsLeft o prefix k left → behind_front left text ≡ None
     → AreAlike o (matching k place) (lone place) text
 prefix_lost o prefix k left [] place is none = alike_nothing o (matching k place) (lone place) refl
 prefix_lost o prefix k [] (b ∷ bs) place is none = cc

@@ -4,7 +4,7 @@ use Rattle.std.proofs.lemmas.Str.{IsUtf8-from_is_utf8, is_utf8-from_IsUtf8}
 use Rattle.std.specs.Prelude.{Bool, true, false, not, if◌then◌else◌, Option, Some, None, List, [], ◌∷◌, ◌++◌, length, map, IsUtf8}
 use Rattle.std.specs.Str.{is_utf8}
 use Rattle.morsel_meaning.specs.declared.value.ColType.{ColType}
-use Rattle.morsel_grammar.specs.Options.{Options, AreOptions}
+use Rattle.morsel_grammar.specs.Dialect.{Dialect, IsDialect}
 use Rattle.morsel_grammar.specs.Grammar.{CsvRecord, IsRecord, Records}
 use Rattle.morsel_grammar.specs.Cells.{CsvCell}
 use Rattle.morsel_grammar.specs.Rows.{RowOf, NoRow, IsRow, Misfit, is_header, row_of, behind_header, with_first_row, rows_of_records}
@@ -20,7 +20,7 @@ abbrev pub cells_in : List (ℕ × List CsvCell) → List (List CsvCell)
 cells_in rows = map (λ (row : ℕ × List CsvCell). row.1) rows
 
 -- a reading says of the text what the grammar says
-pub record IsReading (o : Options) (kinds : List ColType) (used : List Bool) (head : Bool) (at : ℕ) (text : List ℕ) (r : Reading) : Type 0 where
+pub record IsReading (o : Dialect) (kinds : List ColType) (used : List Bool) (head : Bool) (at : ℕ) (text : List ℕ) (r : Reading) : Type 0 where
   pub done : r.refusal ≡ None → HasRows o kinds head text (cells_in r.rows) r.head
   pub stopped : (refusal : Refusal) → r.refusal ≡ Some refusal → IsRefusedAt o kinds used head at text (cells_in r.rows) refusal
   pub rows : (before : List (ℕ × List CsvCell)) (place : ℕ) (cells : List CsvCell) (after : List (ℕ × List CsvCell)) → r.rows ≡ before ++ (place, cells) ∷ after
@@ -31,7 +31,7 @@ no_middle [] x after is = cc
 no_middle (b ∷ before) x after is = cc
 
 -- what is refused
-refused : (o : Options) (kinds : List ColType) (used : List Bool) (head : Bool) (at : ℕ) (text : List ℕ) (flaw : Flaw) → text ≢ [] → HasFlaw o kinds used head text flaw
+refused : (o : Dialect) (kinds : List ColType) (used : List Bool) (head : Bool) (at : ℕ) (text : List ℕ) (flaw : Flaw) → text ≢ [] → HasFlaw o kinds used head text flaw
     → IsReading o kinds used head at text (refuses head at flaw)
 refused o kinds used head at text flaw some has = record {
   done = λ none. cc;
@@ -44,7 +44,7 @@ refused o kinds used head at text flaw some has = record {
 }
 
 -- the end of the text
-ended : (o : Options) (kinds : List ColType) (used : List Bool) (head : Bool) (at : ℕ) → IsReading o kinds used head at [] (ends head)
+ended : (o : Dialect) (kinds : List ColType) (used : List Bool) (head : Bool) (at : ℕ) → IsReading o kinds used head at [] (ends head)
 ended o kinds used head at = record {
   done = λ none. rows_of_nothing o kinds head;
   stopped = λ refusal is. cc;
@@ -52,8 +52,8 @@ ended o kinds used head at = record {
 }
 
 -- a record that is no row
-passed : (o : Options) (kinds : List ColType) (used : List Bool) (head awaits_header : Bool) (at : ℕ) (text next bytes : List ℕ) (r : CsvRecord) (later : Reading)
-    → AreOptions o → IsTaken o r text next bytes → IsUtf8 bytes → Adds o kinds r head awaits_header (λ rows. rows)
+passed : (o : Dialect) (kinds : List ColType) (used : List Bool) (head awaits_header : Bool) (at : ℕ) (text next bytes : List ℕ) (r : CsvRecord) (later : Reading)
+    → IsDialect o → IsTaken o r text next bytes → IsUtf8 bytes → Adds o kinds r head awaits_header (λ rows. rows)
     → IsReading o kinds used awaits_header (at + (length text - length next)) next later → IsReading o kinds used head at text later
 passed o kinds used head awaits_header at text next bytes r later fit taken utf8 adds is = record {
   done = λ none. rows_more o kinds r head awaits_header later.head text next bytes (λ rows. rows) (cells_in later.rows) taken utf8 adds (is.done none);
@@ -76,8 +76,8 @@ passed o kinds used head awaits_header at text next bytes r later fit taken utf8
 }
 
 -- a record that is a row
-row_here : (o : Options) (kinds : List ColType) (used : List Bool) (at : ℕ) (text next bytes : List ℕ) (r : CsvRecord) (cells : List CsvCell) (later : Reading)
-    → AreOptions o → IsTaken o r text next bytes → IsUtf8 bytes → row_of o kinds r ≡ IsRow cells
+row_here : (o : Dialect) (kinds : List ColType) (used : List Bool) (at : ℕ) (text next bytes : List ℕ) (r : CsvRecord) (cells : List CsvCell) (later : Reading)
+    → IsDialect o → IsTaken o r text next bytes → IsUtf8 bytes → row_of o kinds r ≡ IsRow cells
     → IsReading o kinds used false (at + (length text - length next)) next later
     → (before : List (ℕ × List CsvCell)) (place : ℕ) (other : List CsvCell) (after : List (ℕ × List CsvCell)) → (at, cells) ∷ later.rows ≡ before ++ (place, other) ∷ after
     → HasRowAt o kinds false at text (cells_in before) place other
@@ -101,8 +101,8 @@ row_here o kinds used at text next bytes r cells later fit taken utf8 row is (b 
       found.5,
     )
 
-added : (o : Options) (kinds : List ColType) (used : List Bool) (at : ℕ) (text next bytes : List ℕ) (r : CsvRecord) (cells : List CsvCell) (later : Reading)
-    → AreOptions o → IsTaken o r text next bytes → IsUtf8 bytes → row_of o kinds r ≡ IsRow cells
+added : (o : Dialect) (kinds : List ColType) (used : List Bool) (at : ℕ) (text next bytes : List ℕ) (r : CsvRecord) (cells : List CsvCell) (later : Reading)
+    → IsDialect o → IsTaken o r text next bytes → IsUtf8 bytes → row_of o kinds r ≡ IsRow cells
     → IsReading o kinds used false (at + (length text - length next)) next later → IsReading o kinds used false at text (with_cells at cells later)
 added o kinds used at text next bytes r cells later fit taken utf8 row is = record {
   done = λ none. rows_more o kinds r false false later.head text next bytes (λ rows. cells ∷ rows) (cells_in later.rows) taken utf8 (adds_row o kinds r cells row) (is.done none);
@@ -116,8 +116,8 @@ added o kinds used at text next bytes r cells later fit taken utf8 row is = reco
   rows = row_here o kinds used at text next bytes r cells later fit taken utf8 row is;
 }
 
-by_row : (o : Options) (kinds : List ColType) (used : List Bool) (at : ℕ) (text next bytes : List ℕ) (r : CsvRecord) (row : RowOf) (later : Reading)
-    → AreOptions o → IsTaken o r text next bytes → IsUtf8 bytes → row_of o kinds r ≡ row
+by_row : (o : Dialect) (kinds : List ColType) (used : List Bool) (at : ℕ) (text next bytes : List ℕ) (r : CsvRecord) (row : RowOf) (later : Reading)
+    → IsDialect o → IsTaken o r text next bytes → IsUtf8 bytes → row_of o kinds r ≡ row
     → IsReading o kinds used false (at + (length text - length next)) next later → IsReading o kinds used false at text (row_then false at row later)
 by_row o kinds used at text next bytes r NoRow later fit taken utf8 row is =
     passed o kinds used false false at text next bytes r later fit taken utf8 (adds_nothing o kinds r row) is
@@ -125,8 +125,8 @@ by_row o kinds used at text next bytes r (IsRow cells) later fit taken utf8 row 
 by_row o kinds used at text next bytes r Misfit later fit taken utf8 row is =
     refused o kinds used false at text Malformed taken.some (inr (r, next, taken.is, refl, misfit_width o kinds r row))
 
-by_utf8 : (o : Options) (kinds : List ColType) (used : List Bool) (head : Bool) (at : ℕ) (text next bytes : List ℕ) (r : CsvRecord) (later : Bool → Reading) (t : Bool)
-    → AreOptions o → IsTaken o r text next bytes → is_utf8 bytes ≡ t
+by_utf8 : (o : Dialect) (kinds : List ColType) (used : List Bool) (head : Bool) (at : ℕ) (text next bytes : List ℕ) (r : CsvRecord) (later : Bool → Reading) (t : Bool)
+    → IsDialect o → IsTaken o r text next bytes → is_utf8 bytes ≡ t
     → ((awaits_header : Bool) → IsReading o kinds used awaits_header (at + (length text - length next)) next (later awaits_header))
     → IsReading o kinds used head at text (if t then (if head then later (not (is_header r)) else row_then false at (row_of o kinds r) (later false)) else refuses head at NotUtf8)
 by_utf8 o kinds used true at text next bytes r later true fit taken utf8 is =
@@ -142,8 +142,8 @@ by_utf8 o kinds used head at text next bytes r later false fit taken utf8 is =
 abbrev Later : Type 0
 Later = Bool → ℕ → List ℕ → Reading
 
-by_record : (o : Options) (kinds : List ColType) (used : List Bool) (head : Bool) (at : ℕ) (text : List ℕ) (found : Option (CsvRecord × List ℕ)) (later : Later)
-    → AreOptions o → text ≢ [] → record_at o text ≡ found
+by_record : (o : Dialect) (kinds : List ColType) (used : List Bool) (head : Bool) (at : ℕ) (text : List ℕ) (found : Option (CsvRecord × List ℕ)) (later : Later)
+    → IsDialect o → text ≢ [] → record_at o text ≡ found
     → ((awaits_header : Bool) (place : ℕ) (rest : List ℕ) → length rest < length text → IsReading o kinds used awaits_header place rest (later awaits_header place rest))
     → IsReading o kinds used head at text (split_then o kinds head at text found later)
 by_record o kinds used head at text None later fit some is shorter =
@@ -161,7 +161,7 @@ by_record o kinds used head at text (Some split) later fit some is shorter =
 some_text : (b : ℕ) (bs : List ℕ) → b ∷ bs ≢ []
 some_text b bs = λ is. cc
 
-pub reading_up_to-is : (n : ℕ) (o : Options) (kinds : List ColType) (used : List Bool) (head : Bool) (at : ℕ) (text : List ℕ) → AreOptions o → length text ≤ n
+pub reading_up_to-is : (n : ℕ) (o : Dialect) (kinds : List ColType) (used : List Bool) (head : Bool) (at : ℕ) (text : List ℕ) → IsDialect o → length text ≤ n
     → IsReading o kinds used head at text (reading_up_to n o kinds head at text)
 reading_up_to-is zero o kinds used head at [] fit enough = ended o kinds used head at
 reading_up_to-is (suc n) o kinds used head at [] fit enough = ended o kinds used head at
@@ -170,35 +170,35 @@ reading_up_to-is (suc n) o kinds used head at (b ∷ bs) fit enough =
     by_record o kinds used head at (b ∷ bs) (record_at o (b ∷ bs)) (λ awaits_header next rest. reading_up_to n o kinds awaits_header next rest) fit (some_text b bs) refl
     (λ awaits_header place rest shorter. reading_up_to-is n o kinds used awaits_header place rest fit (omega arith))
 
-pub reading-is : (o : Options) (kinds : List ColType) (used : List Bool) (head : Bool) (at : ℕ) (text : List ℕ) → AreOptions o
+pub reading-is : (o : Dialect) (kinds : List ColType) (used : List Bool) (head : Bool) (at : ℕ) (text : List ℕ) → IsDialect o
     → IsReading o kinds used head at text (reading o kinds head at text)
 reading-is o kinds used head at text fit = reading_up_to-is (length text) o kinds used head at text fit (omega arith)
 
-cells_by_refusal : (o : Options) (kinds : List ColType) (head : Bool) (at : ℕ) (text : List ℕ) (r : Reading) (refusal : Option Refusal) → r.refusal ≡ refusal
+cells_by_refusal : (o : Dialect) (kinds : List ColType) (head : Bool) (at : ℕ) (text : List ℕ) (r : Reading) (refusal : Option Refusal) → r.refusal ≡ refusal
     → IsReading o kinds [] head at text r → CellsOfGrammar o kinds head at text (cells_in r.rows) r.head refusal
 cells_by_refusal o kinds head at text r None none is = is.done none
 cells_by_refusal o kinds head at text r (Some refusal) one is = is.stopped refusal one
 
 -- a reading is what the grammar says
-pub reading-cells : (o : Options) (kinds : List ColType) (head : Bool) (at : ℕ) (text : List ℕ) → AreOptions o
+pub reading-cells : (o : Dialect) (kinds : List ColType) (head : Bool) (at : ℕ) (text : List ℕ) → IsDialect o
     → (let r = reading o kinds head at text in CellsOfGrammar o kinds head at text (cells_in r.rows) r.head r.refusal)
 reading-cells o kinds head at text fit =
     cells_by_refusal o kinds head at text (reading o kinds head at text) (reading o kinds head at text).refusal refl (reading-is o kinds [] head at text fit)
 
 -- a text that has rows is read to its end
-row_kept : (o : Options) (kinds : List ColType) (at : ℕ) (row : RowOf) (later : Reading) (found : Option (List (List CsvCell))) (rows : List (List CsvCell))
+row_kept : (o : Dialect) (kinds : List ColType) (at : ℕ) (row : RowOf) (later : Reading) (found : Option (List (List CsvCell))) (rows : List (List CsvCell))
     → with_first_row row found ≡ Some rows → ((before : List (List CsvCell)) → found ≡ Some before → later.refusal ≡ None) → (row_then false at row later).refusal ≡ None
 row_kept o kinds at NoRow later found rows is ends = ends rows is
 row_kept o kinds at (IsRow cells) later None rows is ends = cc
 row_kept o kinds at (IsRow cells) later (Some before) rows is ends = ends before refl
 row_kept o kinds at Misfit later found rows is ends = cc
 
-header_rows : (o : Options) (kinds : List ColType) (records : List CsvRecord) (t : Bool) (rows : List (List CsvCell))
+header_rows : (o : Dialect) (kinds : List ColType) (records : List CsvRecord) (t : Bool) (rows : List (List CsvCell))
     → rows_of_records o kinds (if t then records else behind_header true records) ≡ Some rows → rows_of_records o kinds (behind_header (not t) records) ≡ Some rows
 header_rows o kinds records true rows is = is
 header_rows o kinds records false rows is = is
 
-head_kept : (o : Options) (kinds : List ColType) (head : Bool) (at : ℕ) (r : CsvRecord) (records : List CsvRecord) (rows : List (List CsvCell)) (later : Bool → Reading)
+head_kept : (o : Dialect) (kinds : List ColType) (head : Bool) (at : ℕ) (r : CsvRecord) (records : List CsvRecord) (rows : List (List CsvCell)) (later : Bool → Reading)
     → rows_of_records o kinds (behind_header head (r ∷ records)) ≡ Some rows
     → ((awaits_header : Bool) (before : List (List CsvCell)) → rows_of_records o kinds (behind_header awaits_header records) ≡ Some before → (later awaits_header).refusal ≡ None)
     → (if head then later (not (is_header r)) else row_then false at (row_of o kinds r) (later false)).refusal ≡ None
@@ -206,13 +206,13 @@ head_kept o kinds true at r records rows later is ends = ends (not (is_header r)
 head_kept o kinds false at r records rows later is ends =
     row_kept o kinds at (row_of o kinds r) (later false) (rows_of_records o kinds records) rows is (ends false)
 
-utf8_kept : (o : Options) (kinds : List ColType) (head : Bool) (at : ℕ) (bytes : List ℕ) (r : CsvRecord) (later : Bool → Reading) → IsUtf8 bytes
+utf8_kept : (o : Dialect) (kinds : List ColType) (head : Bool) (at : ℕ) (bytes : List ℕ) (r : CsvRecord) (later : Bool → Reading) → IsUtf8 bytes
     → (if head then later (not (is_header r)) else row_then false at (row_of o kinds r) (later false)).refusal ≡ None
     → (record_then o kinds head at bytes r later).refusal ≡ None
 utf8_kept o kinds head at bytes r later utf8 kept = rw (is_utf8-from_IsUtf8 bytes utf8) kept
 
-pub reading_up_to-ends : (n : ℕ) (o : Options) (kinds : List ColType) (head : Bool) (at : ℕ) (text : List ℕ) (records : List CsvRecord) (rows : List (List CsvCell))
-    → AreOptions o → length text ≤ n → IsUtf8 text → Records o text records → rows_of_records o kinds (behind_header head records) ≡ Some rows
+pub reading_up_to-ends : (n : ℕ) (o : Dialect) (kinds : List ColType) (head : Bool) (at : ℕ) (text : List ℕ) (records : List CsvRecord) (rows : List (List CsvCell))
+    → IsDialect o → length text ≤ n → IsUtf8 text → Records o text records → rows_of_records o kinds (behind_header head records) ≡ Some rows
     → (reading_up_to n o kinds head at text).refusal ≡ None
 reading_up_to-ends zero o kinds head at [] records rows fit enough utf8 split is = refl
 reading_up_to-ends (suc n) o kinds head at [] records rows fit enough utf8 split is = refl
@@ -235,14 +235,14 @@ reading_up_to-ends (suc n) o kinds head at (b ∷ bs) (r ∷ records) rows fit e
     ∙ kept
 
 -- two answers of the grammar are one
-rows_same : (o : Options) (kinds : List ColType) (head : Bool) (text : List ℕ) (rows others : List (List CsvCell)) (awaits_header other : Bool) → AreOptions o
+rows_same : (o : Dialect) (kinds : List ColType) (head : Bool) (text : List ℕ) (rows others : List (List CsvCell)) (awaits_header other : Bool) → IsDialect o
     → HasRows o kinds head text rows awaits_header → HasRows o kinds head text others other → (rows ≡ others) × (awaits_header ≡ other)
 rows_same o kinds head text rows others awaits_header other fit is also =
     let same : is.records ≡ also.records = one_list o fit text is.records also.records is.split also.split in
     let found : Some rows ≡ Some others = sym is.rows_are ∙ ap (λ records. rows_of_records o kinds (behind_header head records)) same ∙ also.rows_are in
     (cc, is.awaits_header_is ∙ ap (awaits_header_after head) same ∙ sym also.awaits_header_is)
 
-pub reading-ends : (o : Options) (kinds : List ColType) (head : Bool) (at : ℕ) (text : List ℕ) (rows : List (List CsvCell)) (awaits_header : Bool) → AreOptions o
+pub reading-ends : (o : Dialect) (kinds : List ColType) (head : Bool) (at : ℕ) (text : List ℕ) (rows : List (List CsvCell)) (awaits_header : Bool) → IsDialect o
     → HasRows o kinds head text rows awaits_header
     → (let r = reading o kinds head at text in (r.refusal ≡ None) × (cells_in r.rows ≡ rows) × (r.head ≡ awaits_header))
 reading-ends o kinds head at text rows awaits_header fit is =

@@ -2,7 +2,7 @@
 use Rattle.std.proofs.Common.{◌≡◌, ℕ, ap, sym, subst, refl, ◌∙◌, inl, inr, append_assoc}
 use Rattle.std.proofs.lemmas.Bool.{eq-eqb}
 use Rattle.std.specs.Prelude.{Bool, true, false, ◌==◌, ◌⊎◌, if◌then◌else◌, Option, Some, None, List, [], ◌∷◌, ◌++◌}
-use Rattle.morsel_grammar.specs.Options.{Options, AreOptions, IsQuoteFor}
+use Rattle.morsel_grammar.specs.Dialect.{Dialect, IsDialect, IsQuoteFor}
 use Rattle.morsel_grammar.specs.Grammar.{CsvField, doubled, BeginsUnquoted, IsPlain, Spells, EndsInReturn}
 use Rattle.morsel_grammar.specs.Split.{is_quote, stops, plain_at, quoted_at, in_quotes, plain_field, field_at, without_return, last_field}
 use Rattle.morsel_grammar.specs.Split.{begins}
@@ -16,30 +16,30 @@ quote_apart separator eol b None apart is = refl
 quote_apart separator eol b (Some q) apart (inl is) = other_byte b q (λ e. apart.1 (sym e ∙ is))
 quote_apart separator eol b (Some q) apart (inr is) = other_byte b q (λ e. apart.2 (sym e ∙ is))
 
-stop_cases : (o : Options) (b : ℕ) → (b == o.separator ≡ true) ⊎ (b == o.eol ≡ true) → (b ≡ o.separator) ⊎ (b ≡ o.eol)
+stop_cases : (o : Dialect) (b : ℕ) → (b == o.separator ≡ true) ⊎ (b == o.eol ≡ true) → (b ≡ o.separator) ⊎ (b ≡ o.eol)
 stop_cases o b (inl is) = inl (same_byte b o.separator is)
 stop_cases o b (inr is) = inr (same_byte b o.eol is)
 
-pub is_quote-stop : (o : Options) (b : ℕ) → AreOptions o → stops o b ≡ true → is_quote o.quote b ≡ false
+pub is_quote-stop : (o : Dialect) (b : ℕ) → IsDialect o → stops o b ≡ true → is_quote o.quote b ≡ false
 is_quote-stop o b fit stop = quote_apart o.separator o.eol b o.quote fit.quote (stop_cases o b (one_of (b == o.separator) (b == o.eol) stop))
 
 return_apart : (separator eol : ℕ) (quote : Option ℕ) → IsQuoteFor separator eol quote → is_quote quote 13 ≡ false
 return_apart separator eol None apart = refl
 return_apart separator eol (Some q) apart = other_byte 13 q (λ e. apart.4 (sym e))
 
-pub is_quote-return : (o : Options) → AreOptions o → is_quote o.quote 13 ≡ false
+pub is_quote-return : (o : Dialect) → IsDialect o → is_quote o.quote 13 ≡ false
 is_quote-return o fit = return_apart o.separator o.eol o.quote fit.quote
 
 -- the first field of a text, by its first byte
-pub field_at-first : (o : Options) (b : ℕ) (bs : List ℕ) (t : Bool) → is_quote o.quote b ≡ t
+pub field_at-first : (o : Dialect) (b : ℕ) (bs : List ℕ) (t : Bool) → is_quote o.quote b ≡ t
     → field_at o (b ∷ bs) ≡ (if t then in_quotes (quoted_at b bs) else plain_field (plain_at o (b ∷ bs)))
 field_at-first o b bs t is = ap (λ t. if t then in_quotes (quoted_at b bs) else plain_field (plain_at o (b ∷ bs))) is
 
-quote_itself : (o : Options) (q : ℕ) → o.quote ≡ Some q → is_quote o.quote q ≡ true
+quote_itself : (o : Dialect) (q : ℕ) → o.quote ≡ Some q → is_quote o.quote q ≡ true
 quote_itself o q asked = ap (λ (x : Option ℕ). is_quote x q) asked ∙ byte_itself q
 
 -- a quoted field that a text has is read, unless another quote follows
-pub field_at-quoted : (o : Options) (q : ℕ) (bytes spelled after : List ℕ) → o.quote ≡ Some q → spelled ≡ q ∷ doubled q bytes ++ q ∷ []
+pub field_at-quoted : (o : Dialect) (q : ℕ) (bytes spelled after : List ℕ) → o.quote ≡ Some q → spelled ≡ q ∷ doubled q bytes ++ q ∷ []
     → begins q after ≡ false → field_at o (spelled ++ after) ≡ Some (record { quoted = true; bytes = bytes }, after)
 field_at-quoted o q bytes spelled after asked is lone =
     ap (λ (x : List ℕ). field_at o (x ++ after)) is
@@ -48,7 +48,7 @@ field_at-quoted o q bytes spelled after asked is lone =
     ∙ ap in_quotes (quoted_at-written q bytes after lone)
 
 -- an unquoted field that a text has is read, where it ends
-pub field_at-plain : (o : Options) (bytes after : List ℕ) → AreOptions o → IsPlain o bytes → IsStop o after
+pub field_at-plain : (o : Dialect) (bytes after : List ℕ) → IsDialect o → IsPlain o bytes → IsStop o after
     → field_at o (bytes ++ after) ≡ Some (record { quoted = false; bytes = bytes }, after)
 field_at-plain o [] [] fit plain stop = refl
 field_at-plain o [] (b ∷ after) fit plain stop =
@@ -57,12 +57,12 @@ field_at-plain o (b ∷ bytes) after fit plain stop =
     field_at-first o b (bytes ++ after) false (is_quote-unquoted o.quote b bytes plain.unquoted)
     ∙ ap plain_field (plain_at-written o (b ∷ bytes) after plain.no_separator plain.no_eol stop)
 
-lone_first : (o : Options) (q : ℕ) (after : List ℕ) → o.quote ≡ Some q → AreOptions o → IsStop o after → begins q after ≡ false
+lone_first : (o : Dialect) (q : ℕ) (after : List ℕ) → o.quote ≡ Some q → IsDialect o → IsStop o after → begins q after ≡ false
 lone_first o q [] asked fit stop = refl
 lone_first o q (b ∷ after) asked fit stop = ap (λ (x : Option ℕ). is_quote x b) (sym asked) ∙ is_quote-stop o b fit stop
 
 -- a field of either kind is read, where a byte follows that ends an unquoted one
-pub field_at-written : (o : Options) (quoted : Bool) (bytes spelled after : List ℕ) → AreOptions o → Spells o quoted bytes spelled → IsStop o after
+pub field_at-written : (o : Dialect) (quoted : Bool) (bytes spelled after : List ℕ) → IsDialect o → Spells o quoted bytes spelled → IsStop o after
     → field_at o (spelled ++ after) ≡ Some (record { quoted = quoted; bytes = bytes }, after)
 field_at-written o true bytes spelled after fit spells stop =
     field_at-quoted o spells.0 bytes spelled after spells.1 spells.2 (lone_first o spells.0 after spells.1 fit stop)
@@ -70,12 +70,12 @@ field_at-written o false bytes spelled after fit spells stop =
     ap (λ (x : List ℕ). field_at o (x ++ after)) spells.0 ∙ field_at-plain o bytes after fit spells.1 stop
 
 -- the text is a field as it is written, and a rest
-abbrev pub IsFieldText : Options → List ℕ → Option (CsvField × List ℕ) → Type 0
+abbrev pub IsFieldText : Dialect → List ℕ → Option (CsvField × List ℕ) → Type 0
 IsFieldText o text None = Unit {0}
 IsFieldText o text (Some found) = (spelled : List ℕ) × Spells o found.0.quoted found.0.bytes spelled × (text ≡ spelled ++ found.1)
     × (found.0.quoted ≡ false → IsStop o found.1)
 
-read_quoted : (o : Options) (q : ℕ) (bs : List ℕ) (found : Option (List ℕ × List ℕ)) → o.quote ≡ Some q → IsQuotedText q bs found → IsFieldText o (q ∷ bs) (in_quotes found)
+read_quoted : (o : Dialect) (q : ℕ) (bs : List ℕ) (found : Option (List ℕ × List ℕ)) → o.quote ≡ Some q → IsQuotedText q bs found → IsFieldText o (q ∷ bs) (in_quotes found)
 read_quoted o q bs None asked is = tt
 read_quoted o q bs (Some found) asked is = (
   q ∷ doubled q found.0 ++ q ∷ [],
@@ -84,7 +84,7 @@ read_quoted o q bs (Some found) asked is = (
   λ plain. true_not_false true refl plain,
 )
 
-read_plain : (o : Options) (text : List ℕ) (found : List ℕ × List ℕ) → BeginsUnquoted o.quote text → IsPlainText o text found → IsFieldText o text (plain_field found)
+read_plain : (o : Dialect) (text : List ℕ) (found : List ℕ × List ℕ) → BeginsUnquoted o.quote text → IsPlainText o text found → IsFieldText o text (plain_field found)
 read_plain o text found unquoted is =
     let P : List ℕ → Type 0 = λ x. BeginsUnquoted o.quote x in (
       found.0,
@@ -100,13 +100,13 @@ read_plain o text found unquoted is =
       λ plain. is.stop,
     )
 
-read_first : (o : Options) (b : ℕ) (bs : List ℕ) (t : Bool) → is_quote o.quote b ≡ t
+read_first : (o : Dialect) (b : ℕ) (bs : List ℕ) (t : Bool) → is_quote o.quote b ≡ t
     → IsFieldText o (b ∷ bs) (if t then in_quotes (quoted_at b bs) else plain_field (plain_at o (b ∷ bs)))
 read_first o b bs true is = read_quoted o b bs (quoted_at b bs) (quote_is o.quote b is) (quoted_at-read b bs)
 read_first o b bs false is = read_plain o (b ∷ bs) (plain_at o (b ∷ bs)) (BeginsUnquoted-first o.quote b bs is) (plain_at-read o (b ∷ bs))
 
 -- a field that is read is written so
-pub field_at-read : (o : Options) (text : List ℕ) → IsFieldText o text (field_at o text)
+pub field_at-read : (o : Dialect) (text : List ℕ) → IsFieldText o text (field_at o text)
 field_at-read o [] = read_plain o [] ([], []) (begins_nothing o.quote) (plain_at-read o [])
 field_at-read o (b ∷ bs) = read_first o b bs (is_quote o.quote b) refl
 
@@ -146,19 +146,19 @@ kept_alone bytes kept never (inr ends) =
 pub without_return-keeps : (bytes : List ℕ) → (EndsInReturn bytes → ⊥) → without_return bytes ≡ bytes
 without_return-keeps bytes never = kept_alone bytes (without_return bytes) never (without_return-cases bytes)
 
-last_plain : (o : Options) (bytes : List ℕ) (t : Bool) → (o.eol == 10) ≡ t → (o.eol ≡ 10 → EndsInReturn bytes → ⊥)
+last_plain : (o : Dialect) (bytes : List ℕ) (t : Bool) → (o.eol == 10) ≡ t → (o.eol ≡ 10 → EndsInReturn bytes → ⊥)
     → (let f : CsvField = record { quoted = false; bytes = bytes } in (if t then record f { bytes = without_return f.bytes } else f) ≡ f)
 last_plain o bytes true is never =
     ap (λ (x : List ℕ). let f : CsvField = record { quoted = false; bytes = x } in f) (without_return-keeps bytes (never (same_byte o.eol 10 is)))
 last_plain o bytes false other never = refl
 
 -- the last field as it is written is the last field
-pub last_field-written : (o : Options) (quoted : Bool) (bytes : List ℕ) → (o.eol ≡ 10 → quoted ≡ false → EndsInReturn bytes → ⊥)
+pub last_field-written : (o : Dialect) (quoted : Bool) (bytes : List ℕ) → (o.eol ≡ 10 → quoted ≡ false → EndsInReturn bytes → ⊥)
     → (let f : CsvField = record { quoted = quoted; bytes = bytes } in last_field o f ≡ f)
 last_field-written o true bytes never = refl
 last_field-written o false bytes never = last_plain o bytes (o.eol == 10) refl (λ ten. never ten refl)
 
-pub last_field-returned : (o : Options) (bytes : List ℕ) → o.eol ≡ 10
+pub last_field-returned : (o : Dialect) (bytes : List ℕ) → o.eol ≡ 10
     → (let f : CsvField = record { quoted = false; bytes = bytes ++ 13 ∷ [] } in let g : CsvField = record { quoted = false; bytes = bytes } in last_field o f ≡ g)
 last_field-returned o bytes ten = rw (eq-eqb o.eol 10 ten)
     (ap (λ (x : List ℕ). let f : CsvField = record { quoted = false; bytes = x } in f) (without_return-push bytes))

@@ -4,7 +4,7 @@ use Rattle.std.proofs.lemmas.List.{map-append}
 use Rattle.std.specs.Prelude.{Bool, false, ◌⊎◌, Option, Some, None, List, [], ◌∷◌, ◌++◌, map}
 use Rattle.morsel_meaning.specs.declared.value.ColType.{ColType}
 use Rattle.morsel_meaning.specs.Values.{Row}
-use Rattle.morsel_grammar.specs.Options.{Options, AreOptions}
+use Rattle.morsel_grammar.specs.Dialect.{Dialect, IsDialect}
 use Rattle.morsel_grammar.specs.Cells.{CsvCell}
 use Rattle.morsel_grammar.specs.Reading.{IllTyped, Refusal, Reading, reading, used_values, Read, value_then, used_rows, read_of}
 use Rattle.morsel_grammar.specs.GrammarRows.{values_of, HasRows, IsRefusedAt, RowsOfGrammar}
@@ -38,7 +38,7 @@ used_rows-takes used head [] refusal = inl (refl, refl, refl)
 used_rows-takes used head (row ∷ rows) refusal =
     takes_row used head row.0 row.1 rows refusal (used_rows used head rows refusal) (used_values used row.1) refl (used_rows-takes used head rows refusal)
 
-read_all : (o : Options) (kinds : List ColType) (used : List Bool) (head : Bool) (at : ℕ) (text : List ℕ) (r : Reading) (read : Read) (refusal : Option Refusal)
+read_all : (o : Dialect) (kinds : List ColType) (used : List Bool) (head : Bool) (at : ℕ) (text : List ℕ) (r : Reading) (read : Read) (refusal : Option Refusal)
     → r.refusal ≡ refusal → IsReading o kinds used head at text r → values_of used (cells_in r.rows) ≡ Some (values_in read.rows) → read.head ≡ r.head
     → RowsOfGrammar o kinds used head at text (values_in read.rows) read.head refusal
 read_all o kinds used head at text r read None none is values awaits_header =
@@ -46,7 +46,7 @@ read_all o kinds used head at text r read None none is values awaits_header =
     (cells_in r.rows, subst P (sym awaits_header) (is.done none), values)
 read_all o kinds used head at text r read (Some refusal) one is values awaits_header = (cells_in r.rows, is.stopped refusal one, values)
 
-read_taken : (o : Options) (kinds : List ColType) (used : List Bool) (head : Bool) (at : ℕ) (text : List ℕ) (r : Reading) (read : Read) → IsReading o kinds used head at text r
+read_taken : (o : Dialect) (kinds : List ColType) (used : List Bool) (head : Bool) (at : ℕ) (text : List ℕ) (r : Reading) (read : Read) → IsReading o kinds used head at text r
     → (TakesAll used r.head r.rows r.refusal read) ⊎ (TakesBefore used r.rows read)
     → RowsOfGrammar o kinds used head at text (values_in read.rows) read.head read.refusal
 read_taken o kinds used head at text r read is (inl all) =
@@ -59,7 +59,7 @@ read_taken o kinds used head at text r read is (inr some) =
     subst P (sym some.7) (cells_in some.0, bad, some.5)
 
 -- the rows of the used columns are those of the grammar
-pub read_of-rows : (o : Options) (kinds : List ColType) (used : List Bool) (head : Bool) (at : ℕ) (text : List ℕ) → AreOptions o
+pub read_of-rows : (o : Dialect) (kinds : List ColType) (used : List Bool) (head : Bool) (at : ℕ) (text : List ℕ) → IsDialect o
     → (let read = read_of used (reading o kinds head at text) in RowsOfGrammar o kinds used head at text (values_in read.rows) read.head read.refusal)
 read_of-rows o kinds used head at text fit =
     let r = reading o kinds head at text in
@@ -87,7 +87,7 @@ ends_taken used r read cells rows none same values (inr some) =
     cc
 
 -- a text whose rows are of the grammar is read to its end
-pub read_of-ends : (o : Options) (kinds : List ColType) (used : List Bool) (head : Bool) (at : ℕ) (text : List ℕ) (cells : List (List CsvCell)) (rows : List Row) (awaits_header : Bool) → AreOptions o
+pub read_of-ends : (o : Dialect) (kinds : List ColType) (used : List Bool) (head : Bool) (at : ℕ) (text : List ℕ) (cells : List (List CsvCell)) (rows : List Row) (awaits_header : Bool) → IsDialect o
     → HasRows o kinds head text cells awaits_header → values_of used cells ≡ Some rows
     → (let read = read_of used (reading o kinds head at text) in (read.refusal ≡ None) × (values_in read.rows ≡ rows) × (read.head ≡ awaits_header))
 read_of-ends o kinds used head at text cells rows awaits_header fit has values =

@@ -3,7 +3,7 @@ use Rattle.std.proofs.Common.{◌≡◌, ℕ, refl}
 use lib.Utf8.{encode}
 use Rattle.std.specs.Str.{is_utf8, chars}
 use Rattle.std.specs.Prelude.{true, false, Option, Some, None, List, [], ◌∷◌, codes, pos}
-use Rattle.morsel_grammar.specs.Options.{Options, standard}
+use Rattle.morsel_grammar.specs.Dialect.{Dialect, standard}
 use Rattle.morsel_grammar.specs.Grammar.{CsvField, CsvRecord, Comment, Fields}
 use Rattle.morsel_meaning.specs.declared.value.ColType.TheVariants as types
 use Rattle.morsel_meaning.specs.declared.value.Value.TheVariants as values
@@ -23,10 +23,10 @@ abbrev read : List CsvField → List ℕ → Option (CsvRecord × List ℕ)
 read fields rest = let found : CsvRecord × List ℕ = (Fields fields, rest) in Some found
 
 -- with comments after a number sign, and with byte 13 as eol
-abbrev commented : Options
+abbrev commented : Dialect
 commented = record standard { comment = Some (35 ∷ []) }
 
-abbrev returns : Options
+abbrev returns : Dialect
 returns = record standard { eol = 13 }
 
 pub two_fields : record_at standard (codes "a,b\nc") ≡ read (plain (codes "a") ∷ plain (codes "b") ∷ []) (codes "c")
@@ -70,7 +70,7 @@ pub open_quote : record_at standard (codes "a,\"b\n") ≡ None
 open_quote = refl
 
 -- with NA for null
-abbrev marked : Options
+abbrev marked : Dialect
 marked = record standard { null_text = codes "NA" }
 
 pub quoted_null : row_of marked (types.Text ∷ types.Text ∷ []) (Fields (quoted (codes "NA") ∷ plain (codes "NA") ∷ []))

@@ -7,7 +7,7 @@ use Rattle.morsel_meaning.specs.declared.value.ColType.{ColType}
 use Rattle.morsel_meaning.specs.declared.value.ColType.TheVariants as types
 use Rattle.morsel_meaning.specs.declared.value.Value.{Value}
 use Rattle.morsel_meaning.specs.declared.value.Value.TheVariants as values
-use Rattle.morsel_grammar.specs.Options.{Options}
+use Rattle.morsel_grammar.specs.Dialect.{Dialect}
 use Rattle.morsel_grammar.specs.Grammar.{CsvField}
 
 -- a cell of a row: a value, or none of its type
@@ -70,6 +70,6 @@ cell_or_bad true None = Good values.Null
 cell_or_bad false None = Bad
 
 -- a field without quotes that is the null text is null; a field that does not fit its type is bad, or null where errors are ignored
-abbrev pub cell_of : Options → ColType → CsvField → CsvCell
+abbrev pub cell_of : Dialect → ColType → CsvField → CsvCell
 cell_of o kind f = if not f.quoted && same_text f.bytes o.null_text then Good values.Null
     else cell_or_bad o.ignore_errors (value_written kind f.bytes)

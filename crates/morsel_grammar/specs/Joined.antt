@@ -1,7 +1,7 @@
 -- What is read of a text in two pieces.
 use Rattle.std.specs.Prelude.{◌≡◌, ℕ, ◌+◌, Bool, Option, Some, None, List, ◌++◌, length}
 use Rattle.morsel_meaning.specs.declared.value.ColType.{ColType}
-use Rattle.morsel_grammar.specs.Options.{Options}
+use Rattle.morsel_grammar.specs.Dialect.{Dialect}
 use Rattle.morsel_grammar.specs.Grammar.{CsvRecord}
 use Rattle.morsel_meaning.specs.Values.{Row}
 use Rattle.morsel_grammar.specs.Cells.{CsvCell}
@@ -18,7 +18,7 @@ abbrev pub joined : Reading → (Bool → Reading) → Reading
 joined first later = joined_at first.rows first.head first.refusal later
 
 -- a text that is cut after whole records is read piece by piece
-abbrev pub ReadsPieces : Options → Type 0
+abbrev pub ReadsPieces : Dialect → Type 0
 ReadsPieces o = (kinds : List ColType) (head : Bool) (at : ℕ) (front rest : List ℕ) (records : List CsvRecord) → AreWholeRecords o front records
     → reading o kinds head at (front ++ rest) ≡ joined (reading o kinds head at front) (λ awaits_header. reading o kinds awaits_header (at + length front) rest)
 
@@ -32,7 +32,7 @@ abbrev pub joined_read : Read → (Bool → Read) → Read
 joined_read first later = joined_read_at first.rows first.head first.refusal later
 
 -- the used columns of a text that is cut after whole records are read piece by piece
-abbrev pub ReadsRowsOfPieces : Options → Type 0
+abbrev pub ReadsRowsOfPieces : Dialect → Type 0
 ReadsRowsOfPieces o = (kinds : List ColType) (used : List Bool) (head : Bool) (at : ℕ) (front rest : List ℕ) (records : List CsvRecord) → AreWholeRecords o front records
     → read_of used (reading o kinds head at (front ++ rest))
     ≡ joined_read (read_of used (reading o kinds head at front)) (λ awaits_header. read_of used (reading o kinds awaits_header (at + length front) rest))

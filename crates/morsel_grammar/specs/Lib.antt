@@ -1,5 +1,5 @@
 -- The grammar of CSV, the function on lists that reads it, and the laws between the two.
-pub mod Options
+pub mod Dialect
 pub mod Grammar
 pub mod Cells
 pub mod Rows

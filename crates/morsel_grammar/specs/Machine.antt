@@ -1,7 +1,7 @@
 -- Where a CSV text may be cut: a machine that is told one byte after the other, and knows after which of them a record ends.
 -- A text that is read in pieces may be cut after an eol byte that ends a record, and nowhere else.
 use Rattle.std.specs.Prelude.{◌≡◌, ◌⊎◌, ℕ, zero, suc, ◌+◌, Bool, true, false, ◌&&◌, ◌==◌, if◌then◌else◌, Option, Some, None, List, [], ◌∷◌, length, drop}
-use Rattle.morsel_grammar.specs.Options.{Options}
+use Rattle.morsel_grammar.specs.Dialect.{Dialect}
 use Rattle.morsel_grammar.specs.Split.{is_quote, begins}
 
 -- the state of a machine after these bytes
@@ -40,21 +40,21 @@ pub data CutPlace : Type 0 where
   BrokenQuote : CutPlace  -- a closing quote is followed by what may not follow it
 
 -- the place after a byte of a field without quotes
-abbrev pub plain_step : Options → ℕ → CutPlace
+abbrev pub plain_step : Dialect → ℕ → CutPlace
 plain_step o b = if b == o.separator then AfterSeparator else (if b == o.eol then AfterEol else InPlain)
 
 -- the place after the first byte of a field, or after the separator or eol byte that follows an empty one
-abbrev pub first_step : Options → ℕ → CutPlace
+abbrev pub first_step : Dialect → ℕ → CutPlace
 first_step o b = if is_quote o.quote b then InQuotes else plain_step o b
 
 -- the place after a byte that follows a closing quote
-abbrev pub closed_step : Options → ℕ → CutPlace
+abbrev pub closed_step : Dialect → ℕ → CutPlace
 closed_step o b = if b == o.separator then AfterSeparator
     else (if b == o.eol then AfterEol
     else (if b == 13 && o.eol == 10 then AfterReturn else BrokenQuote))
 
 -- the place after one byte more, where no comment prefix ends with it
-abbrev pub place_step : Options → CutPlace → ℕ → CutPlace
+abbrev pub place_step : Dialect → CutPlace → ℕ → CutPlace
 place_step o AtOpening b = if b == 239 then InMarkOne else first_step o b
 place_step o InMarkOne b = if b == 187 then InMarkTwo else plain_step o b
 place_step o InMarkTwo b = if b == 191 then AfterMark else plain_step o b
@@ -103,33 +103,33 @@ is_whole_prefix (Some prefix) None = false
 is_whole_prefix (Some prefix) (Some k) = k == length prefix
 
 -- the state in which a record begins at this place
-abbrev pub first_state : Options → CutPlace → CutState
+abbrev pub first_state : Dialect → CutPlace → CutState
 first_state o place = record { matched = no_byte_matched o.comment; place = place }
 
 -- the state of a record that is these bytes of the prefix, and at this place if it is no comment
-abbrev pub state_at : Options → Option ℕ → CutPlace → CutState
+abbrev pub state_at : Dialect → Option ℕ → CutPlace → CutState
 state_at o matched place = if begins_record place then first_state o place
     else (if is_whole_prefix o.comment matched then record { matched = None; place = InComment }
     else record { matched = matched; place = place })
 
 -- the state after one byte more
-abbrev pub cut_step : Options → CutState → ℕ → CutState
+abbrev pub cut_step : Dialect → CutState → ℕ → CutState
 cut_step o s b = state_at o (matched_step o.comment s.matched b) (place_step o s.place b)
 
 -- the state after these bytes
-abbrev pub cut_after : Options → CutState → List ℕ → CutState
+abbrev pub cut_after : Dialect → CutState → List ℕ → CutState
 cut_after o s bytes = state_after (cut_step o) s bytes
 
 -- how many of these bytes there are up to the last after which they may be cut, the last eol byte that ends a record; 0 where there is none
-abbrev pub last_end : Options → CutState → List ℕ → ℕ
+abbrev pub last_end : Dialect → CutState → List ℕ → ℕ
 last_end o s bytes = last_place (cut_step o) (λ (s : CutState). is_after_eol s.place) s bytes
 
 -- how many of these bytes there are up to the last after which a record begins; 0 where there is none
-abbrev pub last_begin : Options → CutState → List ℕ → ℕ
+abbrev pub last_begin : Dialect → CutState → List ℕ → ℕ
 last_begin o s bytes = last_place (cut_step o) (λ (s : CutState). begins_record s.place) s bytes
 
 -- the place of the first byte of the record that is under way after these bytes, before which there were `fed`, where it began at `begun` if it is still the same
-abbrev pub begun_after : Options → CutState → ℕ → ℕ → List ℕ → ℕ
+abbrev pub begun_after : Dialect → CutState → ℕ → ℕ → List ℕ → ℕ
 begun_after o s fed begun bytes = joined_place begun fed (last_begin o s bytes)
 
 -- the record that is under way is none, whatever follows: a closing quote is followed by what may not follow it, and it can become no comment

@@ -4,7 +4,7 @@ use Rattle.std.specs.Str.{is_utf8}
 use Rattle.morsel_meaning.specs.declared.value.ColType.{ColType}
 use Rattle.morsel_meaning.specs.declared.value.Value.{Value}
 use Rattle.morsel_meaning.specs.Values.{Row}
-use Rattle.morsel_grammar.specs.Options.{Options}
+use Rattle.morsel_grammar.specs.Dialect.{Dialect}
 use Rattle.morsel_grammar.specs.Grammar.{CsvRecord}
 use Rattle.morsel_grammar.specs.Cells.{CsvCell, Good, Bad}
 use Rattle.morsel_grammar.specs.Rows.{RowOf, NoRow, IsRow, Misfit, row_of, is_header}
@@ -46,28 +46,28 @@ row_then head at (IsRow cells) later = with_cells at cells later
 row_then head at Misfit later = refuses head at Malformed
 
 -- one record at a place, with its bytes; `later` reads what follows, told whether the header is still to come
-abbrev pub record_then : Options → List ColType → Bool → ℕ → List ℕ → CsvRecord → (Bool → Reading) → Reading
+abbrev pub record_then : Dialect → List ColType → Bool → ℕ → List ℕ → CsvRecord → (Bool → Reading) → Reading
 record_then o kinds head at bytes r later =
     if is_utf8 bytes
     then (if head then later (not (is_header r)) else row_then false at (row_of o kinds r) (later false))
     else refuses head at NotUtf8
 
 -- what the split of a text gave, and then what is read later
-abbrev pub split_then : Options → List ColType → Bool → ℕ → List ℕ → Option (CsvRecord × List ℕ) → (Bool → ℕ → List ℕ → Reading) → Reading
+abbrev pub split_then : Dialect → List ColType → Bool → ℕ → List ℕ → Option (CsvRecord × List ℕ) → (Bool → ℕ → List ℕ → Reading) → Reading
 split_then o kinds head at text None later = refuses head at Malformed
 split_then o kinds head at text (Some split) later =
     let size = length text - length split.1 in
     record_then o kinds head at (take size text) split.0 (λ awaits_header. later awaits_header (at + size) split.1)
 
 -- at most `n` records of the text, which begins at a place
-abbrev pub reading_up_to : ℕ → Options → List ColType → Bool → ℕ → List ℕ → Reading
+abbrev pub reading_up_to : ℕ → Dialect → List ColType → Bool → ℕ → List ℕ → Reading
 reading_up_to n o kinds head at [] = ends head
 reading_up_to zero o kinds head at (b ∷ bs) = ends head
 reading_up_to (suc n) o kinds head at (b ∷ bs) =
     split_then o kinds head at (b ∷ bs) (record_at o (b ∷ bs)) (λ awaits_header next rest. reading_up_to n o kinds awaits_header next rest)
 
 -- a text is read record by record, each of at least one byte; `head` says that the header is still to come
-abbrev pub reading : Options → List ColType → Bool → ℕ → List ℕ → Reading
+abbrev pub reading : Dialect → List ColType → Bool → ℕ → List ℕ → Reading
 reading o kinds head at text = reading_up_to (length text) o kinds head at text
 
 -- the values of the used columns, where none of their cells is bad

@@ -2,7 +2,7 @@
 use Rattle.std.specs.Prelude.{◌≡◌, ℕ, Bool, true, false, not, ◌&&◌, ◌==◌, if◌then◌else◌, Option, Some, None, List, [], ◌∷◌, length, drop, IsUtf8}
 use Rattle.morsel_meaning.specs.declared.value.ColType.{ColType}
 use Rattle.morsel_meaning.specs.declared.value.Value.TheVariants as values
-use Rattle.morsel_grammar.specs.Options.{Options}
+use Rattle.morsel_grammar.specs.Dialect.{Dialect}
 use Rattle.morsel_grammar.specs.Grammar.{CsvField, CsvRecord, Comment, Fields, Records}
 use Rattle.morsel_grammar.specs.Cells.{CsvCell, Good, cell_of}
 
@@ -19,7 +19,7 @@ is_empty (f ∷ []) = not f.quoted && length f.bytes == 0
 is_empty (f ∷ g ∷ fields) = false
 
 -- a cell for each column, where there are as many fields
-abbrev pub cells_of : Options → List ColType → List CsvField → Option (List CsvCell)
+abbrev pub cells_of : Dialect → List ColType → List CsvField → Option (List CsvCell)
 cells_of o [] [] = Some []
 cells_of o [] (f ∷ fields) = None
 cells_of o (kind ∷ kinds) [] = None
@@ -40,7 +40,7 @@ row_of_nothing (kind ∷ []) = IsRow (Good values.Null ∷ [])
 row_of_nothing kinds = NoRow
 
 -- a comment is no row; fields are a row where there are as many as columns
-abbrev pub row_of : Options → List ColType → CsvRecord → RowOf
+abbrev pub row_of : Dialect → List ColType → CsvRecord → RowOf
 row_of o kinds (Comment body) = NoRow
 row_of o kinds (Fields fields) = if is_empty fields then row_of_nothing kinds else row_or_misfit (cells_of o kinds fields)
 
@@ -63,7 +63,7 @@ with_first_row (IsRow cells) (Some rows) = Some (cells ∷ rows)
 with_first_row Misfit rows = None
 
 -- the rows of the records, unless one does not fit the columns
-abbrev pub rows_of_records : Options → List ColType → List CsvRecord → Option (List (List CsvCell))
+abbrev pub rows_of_records : Dialect → List ColType → List CsvRecord → Option (List (List CsvCell))
 rows_of_records o kinds [] = Some []
 rows_of_records o kinds (r ∷ records) = with_first_row (row_of o kinds r) (rows_of_records o kinds records)
 
@@ -77,10 +77,10 @@ abbrev pub unmarked : List ℕ → List ℕ
 unmarked bytes = drop (mark_len bytes) bytes
 
 -- the rows of a whole text after its mark
-abbrev pub CsvRows : Options → List ColType → List ℕ → List (List CsvCell) → Type 0
+abbrev pub CsvRows : Dialect → List ColType → List ℕ → List (List CsvCell) → Type 0
 CsvRows o kinds text rows = (records : List CsvRecord) × Records o text records
     × (rows_of_records o kinds (behind_header o.has_header records) ≡ Some rows)
 
 -- a file that is UTF-8 and has rows
-abbrev pub IsOfGrammar : Options → List ColType → List ℕ → Type 0
+abbrev pub IsOfGrammar : Dialect → List ColType → List ℕ → Type 0
 IsOfGrammar o kinds bytes = IsUtf8 bytes × (rows : List (List CsvCell)) × CsvRows o kinds (unmarked bytes) rows

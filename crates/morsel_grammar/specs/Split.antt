@@ -1,6 +1,6 @@
 -- A text split field by field: the function that reading follows. Each answers what it found and the bytes after it.
 use Rattle.std.specs.Prelude.{ℕ, zero, suc, ◌+◌, Bool, true, false, not, ◌&&◌, ◌||◌, ◌==◌, if◌then◌else◌, Option, Some, None, List, [], ◌∷◌, length}
-use Rattle.morsel_grammar.specs.Options.{Options}
+use Rattle.morsel_grammar.specs.Dialect.{Dialect}
 use Rattle.morsel_grammar.specs.Grammar.{CsvField, CsvRecord, Comment, Fields}
 
 -- whether a field that begins with this byte is in quotes
@@ -9,11 +9,11 @@ is_quote None b = false
 is_quote (Some quote) b = b == quote
 
 -- whether a field without quotes ends before this byte
-abbrev pub stops : Options → ℕ → Bool
+abbrev pub stops : Dialect → ℕ → Bool
 stops o b = b == o.separator || b == o.eol
 
 -- the bytes up to the next separator or eol, and the rest from there
-abbrev pub plain_at : Options → List ℕ → List ℕ × List ℕ
+abbrev pub plain_at : Dialect → List ℕ → List ℕ × List ℕ
 plain_at o [] = ([], [])
 plain_at o (b ∷ bs) = if stops o b then ([], b ∷ bs) else (b ∷ (plain_at o bs).0, (plain_at o bs).1)
 
@@ -40,7 +40,7 @@ abbrev pub plain_field : List ℕ × List ℕ → Option (CsvField × List ℕ)
 plain_field found = Some (record { quoted = false; bytes = found.0 }, found.1)
 
 -- the field that the text begins with
-abbrev pub field_at : Options → List ℕ → Option (CsvField × List ℕ)
+abbrev pub field_at : Dialect → List ℕ → Option (CsvField × List ℕ)
 field_at o [] = plain_field ([], [])
 field_at o (b ∷ bs) = if is_quote o.quote b then in_quotes (quoted_at b bs) else plain_field (plain_at o (b ∷ bs))
 
@@ -51,15 +51,15 @@ without_return (b ∷ []) = if b == 13 then [] else b ∷ []
 without_return (b ∷ c ∷ bs) = b ∷ without_return (c ∷ bs)
 
 -- the last field: a byte 13 before the end of the record belongs to the end, where eol is 10
-abbrev pub last_field : Options → CsvField → CsvField
+abbrev pub last_field : Dialect → CsvField → CsvField
 last_field o f = if not f.quoted && o.eol == 10 then record f { bytes = without_return f.bytes } else f
 
 -- the record ends after field `f`
-abbrev pub ended : Options → CsvField → List ℕ → Option (List CsvField × List ℕ)
+abbrev pub ended : Dialect → CsvField → List ℕ → Option (List CsvField × List ℕ)
 ended o f rest = Some (last_field o f ∷ [], rest)
 
 -- what follows a byte 13 after a closing quote: the end of the record
-abbrev pub returned : Options → CsvField → List ℕ → Option (List CsvField × List ℕ)
+abbrev pub returned : Dialect → CsvField → List ℕ → Option (List CsvField × List ℕ)
 returned o f [] = ended o f []
 returned o f (b ∷ rest) = if b == o.eol then ended o f rest else None
 
@@ -69,7 +69,7 @@ with_field f None = None
 with_field f (Some found) = Some (f ∷ found.0, found.1)
 
 -- a field, and then the end of the record or the fields after a separator, which `more` finds
-abbrev pub fields_then : Options → Option (CsvField × List ℕ) → (List ℕ → Option (List CsvField × List ℕ)) → Option (List CsvField × List ℕ)
+abbrev pub fields_then : Dialect → Option (CsvField × List ℕ) → (List ℕ → Option (List CsvField × List ℕ)) → Option (List CsvField × List ℕ)
 fields_then o None more = None
 fields_then o (Some found) more = behind found.0 found.1
   where
@@ -80,7 +80,7 @@ fields_then o (Some found) more = behind found.0 found.1
         else (if b == 13 && o.eol == 10 then returned o f rest else None))
 
 -- at most `n` fields
-abbrev pub fields_up_to : ℕ → Options → List ℕ → Option (List CsvField × List ℕ)
+abbrev pub fields_up_to : ℕ → Dialect → List ℕ → Option (List CsvField × List ℕ)
 fields_up_to zero o text = None
 fields_up_to (suc n) o text = fields_then o (field_at o text) (λ rest. fields_up_to n o rest)
 
@@ -110,12 +110,12 @@ abbrev pub comment_record : List ℕ × List ℕ → Option (CsvRecord × List �
 comment_record found = Some (Comment found.0, found.1)
 
 -- a comment with this body, where there is one, and fields where there is none
-abbrev pub record_then_fields : Options → List ℕ → Option (List ℕ) → Option (CsvRecord × List ℕ)
+abbrev pub record_then_fields : Dialect → List ℕ → Option (List ℕ) → Option (CsvRecord × List ℕ)
 record_then_fields o text None = fields_record (fields_up_to (length text + 1) o text)
 record_then_fields o text (Some body) = comment_record (line_at o.eol body)
 
 -- the record that a text begins with
-abbrev pub record_at : Options → List ℕ → Option (CsvRecord × List ℕ)
+abbrev pub record_at : Dialect → List ℕ → Option (CsvRecord × List ℕ)
 record_at o text = record_then_fields o text (comment_body o.comment text)
 
 -- whether the text begins with this byte

@@ -1,6 +1,6 @@
 //! How a CSV text is written.
 ghost use Rattle.std.specs.Prelude.{◌≡◌, ◌↔◌, IfOk, IsErrOf, IsOkUnless, IsTrue, option_copied};
-ghost use Rattle.morsel_grammar.specs.Options.{Options, AreOptions, AreAscii, IsWithout, AreLineBytes, IsQuoteFor, IsCommentFor, options_of, standard};
+ghost use Rattle.morsel_grammar.specs.Dialect.{Dialect, IsDialect, AreAscii, IsWithout, AreLineBytes, IsQuoteFor, IsCommentFor, options_of, standard};
 
 use morsel_meaning::{Fault, Name, Why};
 use std::alloc::Global;
@@ -19,9 +19,9 @@ pub struct CsvOptions {
 }
 
 impl Model for CsvOptions {
-    ghost use Rattle.morsel_grammar.specs.Options.{Options, AreOptions};
+    ghost use Rattle.morsel_grammar.specs.Dialect.{Dialect, IsDialect};
 
-    ghost Value = { Options };
+    ghost Value = { Dialect };
 
     ghost view = { λ o. record {
       separator = o.separator;
@@ -33,7 +33,7 @@ impl Model for CsvOptions {
       ignore_errors = o.ignore_errors;
     } };
 
-    ghost invariant = { λ o. AreOptions (record {
+    ghost invariant = { λ o. IsDialect (record {
       separator = o.separator;
       quote = o.quote;
       eol = o.eol;
@@ -62,7 +62,7 @@ impl CsvOptions {
     ) -> Result<CsvOptions, Fault>
         ensures value { IfOk result (λ options. options ≡ options_of separator quote eol comment has_header null ignore_errors) }
         ensures parse_bytes { IsErrOf result (Fault.InvalidQuery Why.ParseBytes)
-            ↔ (AreOptions (options_of separator quote eol comment has_header null ignore_errors) → ⊥) }
+            ↔ (IsDialect (options_of separator quote eol comment has_header null ignore_errors) → ⊥) }
         ensures fault { IsOkUnless result (Fault.InvalidQuery Why.ParseBytes) }
     {
         if !are_line_bytes(separator, eol)
@@ -139,7 +139,7 @@ impl CsvOptions {
     #[inline(always)]
     pub fn comment(&self) -> Option<&Name>
         ensures value { option_copied result ≡ self.now.comment }
-        ensures fit { AreOptions self.now }
+        ensures fit { IsDialect self.now }
     {
         self.comment.as_ref()
     }

@@ -1,7 +1,7 @@
 -- What a query asks: scans of files, and a sink.
 use Rattle.std.specs.Prelude.{ℕ, Option, List, map}
 use Rattle.morsel_meaning.specs.declared.value.Field.{Field}
-use Rattle.morsel_grammar.specs.Options.{Options}
+use Rattle.morsel_grammar.specs.Dialect.{Dialect}
 use Rattle.morsel_expr.specs.declared.node.PredNode.{PredNode}
 use Rattle.morsel_grammar.specs.Reading.{chosen}
 use Rattle.morsel_scan.specs.Scans.{FileOptions, Scan}
@@ -13,7 +13,7 @@ use Rattle.morsel_query.specs.declared.sink.SinkSpec.{SinkSpec}
 
 -- the format of files, with what has to be told to read them
 pub data FileFormat : Type 0 where
-  CsvFiles : List Field → Options → FileFormat
+  CsvFiles : List Field → Dialect → FileFormat
 
 -- files, and what is asked of their rows
 pub record FileScan : Type 0 where

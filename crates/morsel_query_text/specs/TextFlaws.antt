@@ -8,7 +8,7 @@ use Rattle.morsel_meaning.specs.declared.fault.Fault.TheVariants.{OutOfMemory, I
 use Rattle.morsel_meaning.specs.declared.fault.Why.{Why}
 use Rattle.morsel_meaning.specs.declared.fault.Why.TheVariants.{OptionRange, ParseBytes, PredDepth}
 use Rattle.morsel_frame.specs.Names.{first_repeated}
-use Rattle.morsel_grammar.specs.Options.{Options, AreOptions}
+use Rattle.morsel_grammar.specs.Dialect.{Dialect, IsDialect}
 use Rattle.morsel_query.specs.RunOptions.{AreInRange}
 use Rattle.morsel_query.specs.QueryFlaws.{Side, IsFlaw}
 use Rattle.morsel_query_text.specs.Predicates.{tree_levels}
@@ -16,7 +16,7 @@ use Rattle.morsel_query_text.specs.Written.{WrittenCsv, WrittenFormat, WrittenCs
 
 -- no options of CSV texts are written so
 abbrev pub AreNoBytes : WrittenCsv → Type 0
-AreNoBytes csv = (options : Options) → AreOptions options → csv ≡ csv_written options → ⊥
+AreNoBytes csv = (options : Dialect) → IsDialect options → csv ≡ csv_written options → ⊥
 
 -- no options are written so, or memory is out
 abbrev pub RefusesBytes : WrittenCsv → Fault → Type 0

@@ -2,7 +2,7 @@
 use Rattle.std.specs.Prelude.{ℕ, ℤ, Bool, Option, option_map, List, [], ◌∷◌}
 use Rattle.serde_json.specs.Data.{Data}
 use Rattle.morsel_meaning.specs.declared.value.Field.{Field}
-use Rattle.morsel_grammar.specs.Options.{Options, standard}
+use Rattle.morsel_grammar.specs.Dialect.{Dialect, standard}
 use Rattle.morsel_scan.specs.declared.spec.RowIndex.{RowIndex}
 use Rattle.morsel_query.specs.RunOptions.{RunOptions}
 use Rattle.morsel_query.specs.Queries.{FileFormat, CsvFiles, FileScan, QueryParts}
@@ -46,7 +46,7 @@ pub record WrittenQuery : Type 0 where
   pub options : RunOptions
 
 -- how the options of CSV texts are written
-abbrev pub csv_written : Options → WrittenCsv
+abbrev pub csv_written : Dialect → WrittenCsv
 csv_written options = record {
   separator = options.separator ∷ [];
   quote = option_map (λ (byte : ℕ). byte ∷ []) options.quote;

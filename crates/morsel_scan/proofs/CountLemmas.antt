@@ -7,7 +7,7 @@ use Rattle.std.proofs.lemmas.List.{length-map}
 use Rattle.morsel_meaning.specs.declared.value.ColType.{ColType}
 use Rattle.morsel_meaning.specs.declared.value.Field.{Field}
 use Rattle.morsel_meaning.specs.Values.{kinds_of}
-use Rattle.morsel_grammar.specs.Options.{Options, AreOptions}
+use Rattle.morsel_grammar.specs.Dialect.{Dialect, IsDialect}
 use Rattle.morsel_grammar.specs.Grammar.{CsvRecord, Records}
 use Rattle.morsel_grammar.specs.Rows.{RowOf, NoRow, IsRow, Misfit, row_of}
 use Rattle.morsel_grammar.specs.Reading.{NotUtf8, Reading, reading, refuses, row_then}
@@ -38,7 +38,7 @@ counted_record : (at : ℕ) (row : RowOf) (counts : Bool) (later : Reading) (n :
 counted_record at row counts later n true agrees is = counted_row at row counts later n agrees is
 counted_record at row counts later n false agrees is = record { most = omega arith; all = λ none. absurd (cc) }
 
-counted_kinds : (o : Options) (kinds : List ColType) (at : ℕ) (text : List ℕ) (records : List CsvRecord) → AreOptions o → Records o text records
+counted_kinds : (o : Dialect) (kinds : List ColType) (at : ℕ) (text : List ℕ) (records : List CsvRecord) → IsDialect o → Records o text records
     → IsCounted (reading o kinds false at text) (row_count (length kinds) records)
 counted_kinds o kinds at text [] fit split =
     subst (λ t. IsCounted (reading o kinds false at t) 0) (sym split) (record { most = omega arith; all = λ none. refl })
@@ -55,7 +55,7 @@ counted_kinds o kinds at text (r ∷ records) fit (some, next, is, later) =
     (subst (λ x. IsCounted x (cond counts 1 0 + row_count (length kinds) records)) (sym (reading-record o kinds false at r text next taken.0 fit taken.1)) here)
 
 -- the records of a text count the rows that are read of it
-pub counted : (s : CsvScan) (at : ℕ) (text : List ℕ) (records : List CsvRecord) → AreOptions s.options → Records s.options text records
+pub counted : (s : CsvScan) (at : ℕ) (text : List ℕ) (records : List CsvRecord) → IsDialect s.options → Records s.options text records
     → IsCounted (reading s.options (kinds_of s.scan.fields) false at text) (row_count (length s.scan.fields) records)
 counted s at text records fit split =
     subst (λ columns. IsCounted (reading s.options (kinds_of s.scan.fields) false at text) (row_count columns records))

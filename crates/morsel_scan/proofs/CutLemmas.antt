@@ -3,7 +3,7 @@ use Rattle.std.proofs.Common.{◌≡◌, ℕ, zero, suc, ◌+◌, ◌≤◌, ap,
 use Rattle.std.specs.Prelude.{false, Some, None, List, [], ◌∷◌, ◌++◌, length, map}
 use Rattle.std.proofs.lemmas.List.{length-map}
 use Rattle.morsel_meaning.specs.declared.value.ColType.{ColType}
-use Rattle.morsel_grammar.specs.Options.{Options, AreOptions}
+use Rattle.morsel_grammar.specs.Dialect.{Dialect, IsDialect}
 use Rattle.morsel_grammar.specs.Grammar.{CsvRecord}
 use Rattle.morsel_grammar.specs.Cells.{CsvCell}
 use Rattle.morsel_grammar.specs.Reading.{reading, row_place}
@@ -12,7 +12,7 @@ use Rattle.morsel_grammar.proofs.FileLemmas.{reads_all_cells, places_rows}
 use Rattle.morsel_grammar.proofs.WholeRecordLemmas.{records_whole}
 
 -- what comes before so many rows of the text, which begins at a place, is whole records and has just these rows
-pub record HasRowsOnly (o : Options) (kinds : List ColType) (at : ℕ) (front : List ℕ) (rows : ℕ) : Type 0 where
+pub record HasRowsOnly (o : Dialect) (kinds : List ColType) (at : ℕ) (front : List ℕ) (rows : ℕ) : Type 0 where
   pub records : List CsvRecord
   pub whole : AreWholeRecords o front records
   pub sound : (reading o kinds false at front).refusal ≡ None
@@ -31,7 +31,7 @@ row_past [] row is = omega arith
 row_past (r ∷ rows) zero is = absurd (cc)
 row_past (r ∷ rows) (suc row) is = let later = row_past rows row is in omega arith
 
-rows_only : (o : Options) (kinds : List ColType) (at : ℕ) (front : List ℕ) (records : List CsvRecord) (before : List (ℕ × List CsvCell)) → AreOptions o → AreWholeRecords o front records
+rows_only : (o : Dialect) (kinds : List ColType) (at : ℕ) (front : List ℕ) (records : List CsvRecord) (before : List (ℕ × List CsvCell)) → IsDialect o → AreWholeRecords o front records
     → HasRows o kinds false front (map (λ (row : ℕ × List CsvCell). row.1) before) false → HasRowsOnly o kinds at front (length before)
 rows_only o kinds at front records before fit whole has =
     let all = reads_all_cells o fit kinds false at front (map (λ (row : ℕ × List CsvCell). row.1) before) false has in
@@ -43,7 +43,7 @@ rows_only o kinds at front records before fit whole has =
     }
 
 -- the text is cut before the row whose place is told
-pub cut_at : (o : Options) (kinds : List ColType) (at : ℕ) (text : List ℕ) (row place : ℕ) → AreOptions o → row_place (reading o kinds false at text).rows row ≡ Some place
+pub cut_at : (o : Dialect) (kinds : List ColType) (at : ℕ) (text : List ℕ) (row place : ℕ) → IsDialect o → row_place (reading o kinds false at text).rows row ≡ Some place
     → (front : List ℕ) × (rest : List ℕ) × (text ≡ front ++ rest) × (place ≡ at + length front) × HasRowsOnly o kinds at front row
 cut_at o kinds at text row place fit is =
     let split = row_split (reading o kinds false at text).rows row place is in

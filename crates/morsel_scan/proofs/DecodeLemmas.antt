@@ -4,7 +4,7 @@ use Rattle.std.specs.Prelude.{◌⊎◌, true, if◌then◌else◌, Option, Some
 use Rattle.std.proofs.lemmas.List.{length-take, take-append-drop}
 use Rattle.morsel_meaning.specs.declared.fault.Fault.{Fault}
 use Rattle.morsel_meaning.specs.Values.{Row, Table}
-use Rattle.morsel_grammar.specs.Options.{AreOptions}
+use Rattle.morsel_grammar.specs.Dialect.{IsDialect}
 use Rattle.morsel_grammar.specs.Grammar.{CsvRecord}
 use Rattle.morsel_grammar.specs.Cells.{CsvCell}
 use Rattle.morsel_grammar.specs.Reading.{used_values}
@@ -60,7 +60,7 @@ record IsUncut (s : CsvScan) (at : ℕ) (text : List ℕ) (row cut : ℕ) : Type
   rest : drop cut text ≡ []
   few : length (text_reading s at text).rows ≤ row
 
-cut_cases : (s : CsvScan) (at : ℕ) (text : List ℕ) (row cut : ℕ) → AreOptions s.options → IsCut s at text row cut → (IsParted s at text row cut) ⊎ (IsUncut s at text row cut)
+cut_cases : (s : CsvScan) (at : ℕ) (text : List ℕ) (row cut : ℕ) → IsDialect s.options → IsCut s at text row cut → (IsParted s at text row cut) ⊎ (IsUncut s at text row cut)
 cut_cases s at text row cut fit is = by is.found
   where
     by : ((records : List CsvRecord) × AreWholeRecords s.options (take cut text) records × ((text_reading s at (take cut text)).refusal ≡ None) × (length (text_reading s at (take cut text)).rows ≡ row))
@@ -132,15 +132,15 @@ first_check_err s file at text len cut fault (inr all) is =
     unless-map fault (refusal_fault file (text_reading s (at + cut) (drop cut text)).refusal ≡ Some fault) (IsFirstFault s file at text len fault)
     (λ refused. absurd (let none : None ≡ Some fault = ap (λ t. refusal_fault file (text_reading s (at + cut) t).refusal) (sym all.rest) ∙ refused in cc)) is
 
-pub reads_up_to_ok : (s : CsvScan) (file at : ℕ) (text : List ℕ) (len cut : ℕ) (frame : Table) → AreOptions s.options → IsCut s at text len cut
+pub reads_up_to_ok : (s : CsvScan) (file at : ℕ) (text : List ℕ) (len cut : ℕ) (frame : Table) → IsDialect s.options → IsCut s at text len cut
     → ReadsText s file at (take cut text) (Ok frame) → ChecksText s file (at + cut) (drop cut text) (Ok tt) → ReadsFirst s file at text len (Ok frame)
 reads_up_to_ok s file at text len cut frame fit is read rest = first_ok s file at text len cut frame (cut_cases s at text len cut fit is) read rest
 
-pub reads_up_to_err : (s : CsvScan) (file at : ℕ) (text : List ℕ) (len cut : ℕ) (fault : Fault) → AreOptions s.options → IsCut s at text len cut
+pub reads_up_to_err : (s : CsvScan) (file at : ℕ) (text : List ℕ) (len cut : ℕ) (fault : Fault) → IsDialect s.options → IsCut s at text len cut
     → ReadsText s file at (take cut text) (Err fault) → ReadsFirst s file at text len (Err fault)
 reads_up_to_err s file at text len cut fault fit is read = first_read_err s file at text len cut fault (cut_cases s at text len cut fit is) read
 
-pub reads_up_to_rest_err : (s : CsvScan) (file at : ℕ) (text : List ℕ) (len cut : ℕ) (fault : Fault) → AreOptions s.options → IsCut s at text len cut
+pub reads_up_to_rest_err : (s : CsvScan) (file at : ℕ) (text : List ℕ) (len cut : ℕ) (fault : Fault) → IsDialect s.options → IsCut s at text len cut
     → ChecksText s file (at + cut) (drop cut text) (Err fault) → ReadsFirst s file at text len (Err fault)
 reads_up_to_rest_err s file at text len cut fault fit is rest = first_check_err s file at text len cut fault (cut_cases s at text len cut fit is) rest
 
@@ -213,11 +213,11 @@ kept_check_err s piece cut fault (inr all) is =
     unless-map fault (refusal_fault piece.file (text_reading s piece.at (take cut piece.bytes)).refusal ≡ Some fault) (IsRowsFault s piece fault)
     (λ refused. inl (ap (λ t. refusal_fault piece.file (text_reading s piece.at t).refusal) (sym all.front) ∙ refused)) is
 
-pub reads_kept : (s : CsvScan) (piece : Piece) (cut : ℕ) (result : Result Table Fault) → AreOptions s.options → IsCut s piece.at piece.bytes piece.slice.0 cut
+pub reads_kept : (s : CsvScan) (piece : Piece) (cut : ℕ) (result : Result Table Fault) → IsDialect s.options → IsCut s piece.at piece.bytes piece.slice.0 cut
     → ChecksText s piece.file piece.at (take cut piece.bytes) (Ok tt) → ReadsFirst s piece.file (piece.at + cut) (drop cut piece.bytes) piece.slice.1 result → ReadsKept s piece result
 reads_kept s piece cut (Ok frame) fit is front read = kept_ok s piece cut frame (cut_cases s piece.at piece.bytes piece.slice.0 cut fit is) front read
 reads_kept s piece cut (Err fault) fit is front read = kept_err s piece cut fault (cut_cases s piece.at piece.bytes piece.slice.0 cut fit is) read
 
-pub reads_kept_err : (s : CsvScan) (piece : Piece) (cut : ℕ) (fault : Fault) → AreOptions s.options → IsCut s piece.at piece.bytes piece.slice.0 cut
+pub reads_kept_err : (s : CsvScan) (piece : Piece) (cut : ℕ) (fault : Fault) → IsDialect s.options → IsCut s piece.at piece.bytes piece.slice.0 cut
     → ChecksText s piece.file piece.at (take cut piece.bytes) (Err fault) → ReadsKept s piece (Err fault)
 reads_kept_err s piece cut fault fit is front = kept_check_err s piece cut fault (cut_cases s piece.at piece.bytes piece.slice.0 cut fit is) front

@@ -3,7 +3,7 @@ use Rattle.std.proofs.Common.{◌≡◌, ℕ, ◌+◌, ap, sym, subst, refl, ◌
 use Rattle.std.specs.Prelude.{◌⊎◌, Bool, false, Option, Some, None, Result, Ok, Err, List, [], ◌∷◌, ◌++◌, length, map}
 use Rattle.morsel_meaning.specs.declared.fault.Fault.{Fault}
 use Rattle.morsel_meaning.specs.Values.{Row, kinds_of}
-use Rattle.morsel_grammar.specs.Options.{AreOptions}
+use Rattle.morsel_grammar.specs.Dialect.{IsDialect}
 use Rattle.morsel_grammar.specs.Grammar.{CsvRecord, Records}
 use Rattle.morsel_grammar.specs.Cells.{CsvCell}
 use Rattle.morsel_grammar.specs.Reading.{Refusal, Reading, reading}
@@ -28,7 +28,7 @@ read-joined : (file : ℕ) (name : List ℕ) (rows : List (ℕ × List CsvCell))
 read-joined file name rows head None later = refl
 read-joined file name rows head (Some refusal) later = refl
 
-pub reads_parts : (s : CsvScan) → AreOptions s.options → ReadsParts s
+pub reads_parts : (s : CsvScan) → IsDialect s.options → ReadsParts s
 reads_parts s fit = λ file name head at front rest records whole.
     let first : Reading = reading s.options (kinds_of s.scan.fields) head at front in
     ap (read_source file name) (reading-joined s.options (kinds_of s.scan.fields) head at front rest records fit whole)
@@ -42,7 +42,7 @@ read_behind s file name at text = read_source file name (reading s.options (kind
 head_stays : (s : CsvScan) (at : ℕ) (text : List ℕ) → (reading s.options (kinds_of s.scan.fields) false at text).head ≡ false
 head_stays s at text = (reading-past s.options (kinds_of s.scan.fields) false at text).kept refl
 
-behind-append : (s : CsvScan) (keeps : ℕ → Bool) (file : ℕ) (name : List ℕ) (at position : ℕ) (front rest : List ℕ) (records : List CsvRecord) → AreOptions s.options → AreWholeRecords s.options front records
+behind-append : (s : CsvScan) (keeps : ℕ → Bool) (file : ℕ) (name : List ℕ) (at position : ℕ) (front rest : List ℕ) (records : List CsvRecord) → IsDialect s.options → AreWholeRecords s.options front records
     → scanned_source s.scan keeps position (read_behind s file name at (front ++ rest))
     ≡ followed_by (scanned_source s.scan keeps position (read_behind s file name at front))
     (scanned_source s.scan keeps (position + length (read_behind s file name at front).rows) (read_behind s file name (at + length front) rest))
@@ -76,7 +76,7 @@ no_rows_made s keeps file name position [] (Some refusal) none is = absurd (cc)
 no_rows_made s keeps file name position (row ∷ rows) refusal none is = absurd (cc)
 
 -- of a text without rows nothing is made
-passed_made : (s : CsvScan) (keeps : ℕ → Bool) (file : ℕ) (name : List ℕ) (at position : ℕ) (text : List ℕ) → AreOptions s.options → HasNoRows s text
+passed_made : (s : CsvScan) (keeps : ℕ → Bool) (file : ℕ) (name : List ℕ) (at position : ℕ) (text : List ℕ) → IsDialect s.options → HasNoRows s text
     → (scanned_source s.scan keeps position (read_behind s file name at text) ≡ Ok []) × (length (read_behind s file name at text).rows ≡ 0)
 passed_made s keeps file name at position text fit has =
     let all = reads_all_cells s.options fit (kinds_of s.scan.fields) false at text [] false has in
@@ -98,7 +98,7 @@ fault_first s keeps file name position n rows (Some refusal) later all =
     by fault (Err first) = refl
 
 -- what is made of a text that begins with a piece's bytes
-piece-append : (s : CsvScan) (keeps : ℕ → Bool) (file : ℕ) (name : List ℕ) (at position : ℕ) (bytes rest : List ℕ) (records : List CsvRecord) → AreOptions s.options → Records s.options bytes records
+piece-append : (s : CsvScan) (keeps : ℕ → Bool) (file : ℕ) (name : List ℕ) (at position : ℕ) (bytes rest : List ℕ) (records : List CsvRecord) → IsDialect s.options → Records s.options bytes records
     → (AreWholeRecords s.options bytes records) ⊎ (rest ≡ [])
     → scanned_source s.scan keeps position (read_behind s file name at (bytes ++ rest))
     ≡ followed_by (scanned_source s.scan keeps position (read_behind s file name at bytes))
@@ -116,7 +116,7 @@ piece-append s keeps file name at position bytes rest records fit split (inr las
     (sym (nothing_behind s keeps file name (at + length bytes) (position + row_count (length s.scan.fields) records) rest last))
 
 -- what is made of a piece's bytes, where it stands
-piece_here : (s : CsvScan) (keeps : ℕ → Bool) (file : ℕ) (name : List ℕ) (at position : ℕ) (piece : Piece) (text rest : List ℕ) → AreOptions s.options
+piece_here : (s : CsvScan) (keeps : ℕ → Bool) (file : ℕ) (name : List ℕ) (at position : ℕ) (piece : Piece) (text rest : List ℕ) → IsDialect s.options
     → IsFirstPiece s keeps file name at position piece text rest
     → scanned_source s.scan keeps position (read_behind s file name piece.at piece.bytes) ≡ piece_rows s piece
 piece_here s keeps file name at position piece text rest fit is =
@@ -130,7 +130,7 @@ piece_here s keeps file name at position piece text rest fit is =
     ∙ piece_rows-alike s keeps piece alike
 
 -- what is made of a text whose first piece is known
-first_made : (s : CsvScan) (keeps : ℕ → Bool) (file : ℕ) (name : List ℕ) (at position : ℕ) (piece : Piece) (text rest : List ℕ) → AreOptions s.options
+first_made : (s : CsvScan) (keeps : ℕ → Bool) (file : ℕ) (name : List ℕ) (at position : ℕ) (piece : Piece) (text rest : List ℕ) → IsDialect s.options
     → IsFirstPiece s keeps file name at position piece text rest
     → scanned_source s.scan keeps position (read_behind s file name at text)
     ≡ followed_by (piece_rows s piece) (scanned_source s.scan keeps (position + piece.rows) (read_behind s file name (piece.at + length piece.bytes) rest))
@@ -148,12 +148,12 @@ first_made s keeps file name at position piece text rest fit is =
     ∙ ap (λ n. followed_by (scanned_source s.scan keeps position (read_behind s file name piece.at piece.bytes)) (scanned_source s.scan keeps (position + n) (read_behind s file name (piece.at + length piece.bytes) rest))) (sym is.rows_are)
     ∙ ap (λ x. followed_by x (scanned_source s.scan keeps (position + piece.rows) (read_behind s file name (piece.at + length piece.bytes) rest))) (piece_here s keeps file name at position piece text rest fit is)
 
-scans_cut : (s : CsvScan) (keeps : ℕ → Bool) (file : ℕ) (name : List ℕ) (at position : ℕ) (pieces : List Piece) (text : List ℕ) → AreOptions s.options → CutText s keeps file name at position pieces text
+scans_cut : (s : CsvScan) (keeps : ℕ → Bool) (file : ℕ) (name : List ℕ) (at position : ℕ) (pieces : List Piece) (text : List ℕ) → IsDialect s.options → CutText s keeps file name at position pieces text
     → scanned_source s.scan keeps position (read_behind s file name at text) ≡ rows_of_pieces s pieces
 scans_cut s keeps file name at position [] text fit cut = (passed_made s keeps file name at position text fit cut).0
 scans_cut s keeps file name at position (piece ∷ pieces) text fit (rest, is, later) =
     first_made s keeps file name at position piece text rest fit is
     ∙ ap (followed_by (piece_rows s piece)) (scans_cut s keeps file name (piece.at + length piece.bytes) (position + piece.rows) pieces rest fit later)
 
-pub scans_pieces : (s : CsvScan) → AreOptions s.options → ScansPieces s
+pub scans_pieces : (s : CsvScan) → IsDialect s.options → ScansPieces s
 scans_pieces s fit = λ keeps file name at position pieces text cut. scans_cut s keeps file name at position pieces text fit cut

@@ -7,7 +7,7 @@ use Rattle.morsel_meaning.specs.declared.fault.Fault.TheVariants as faults
 use Rattle.morsel_meaning.specs.declared.fault.ComputeKind.TheVariants as kinds
 use Rattle.morsel_meaning.specs.declared.value.Field.{Field}
 use Rattle.morsel_meaning.specs.Values.{Row, Table, kinds_of}
-use Rattle.morsel_grammar.specs.Options.{AreOptions}
+use Rattle.morsel_grammar.specs.Dialect.{IsDialect}
 use Rattle.morsel_grammar.specs.Grammar.{CsvRecord}
 use Rattle.morsel_grammar.specs.Cells.{CsvCell}
 use Rattle.morsel_grammar.specs.Reading.{IllTyped, Refusal, Reading, reading, used_values, Read, value_then, used_rows, read_of}
@@ -142,7 +142,7 @@ checks_text_err s file at text fault is =
     (unless-refused file (read_of (none_of s.scan.fields) (text_reading s at text)).refusal fault is)
 
 -- a text that is cut after whole records, none of which is refused, has the rows of both parts, and what is refused of the second
-pub parts : (s : CsvScan) (at : ℕ) (front rest : List ℕ) (records : List CsvRecord) → AreOptions s.options → AreWholeRecords s.options front records → (text_reading s at front).refusal ≡ None
+pub parts : (s : CsvScan) (at : ℕ) (front rest : List ℕ) (records : List CsvRecord) → IsDialect s.options → AreWholeRecords s.options front records → (text_reading s at front).refusal ≡ None
     → ((text_reading s at (front ++ rest)).rows ≡ (text_reading s at front).rows ++ (text_reading s (at + length front) rest).rows)
     × ((text_reading s at (front ++ rest)).refusal ≡ (text_reading s (at + length front) rest).refusal)
 parts s at front rest records fit whole sound =

@@ -3,7 +3,7 @@ use Rattle.std.proofs.Common.{◌≡◌, ℕ, ◌+◌, ◌-◌, ◌≤◌, ap, s
 use Rattle.std.specs.Prelude.{Some, None, List, length}
 use Rattle.std.proofs.Math.Seq.{take-append_seam}
 use Rattle.morsel_meaning.specs.Values.{kinds_of}
-use Rattle.morsel_grammar.specs.Options.{AreOptions}
+use Rattle.morsel_grammar.specs.Dialect.{IsDialect}
 use Rattle.morsel_grammar.specs.Grammar.{CsvRecord}
 use Rattle.morsel_grammar.specs.Reading.{row_place}
 use Rattle.morsel_grammar.specs.GrammarRows.{AreWholeRecords}
@@ -15,7 +15,7 @@ use Rattle.morsel_scan.proofs.CutLemmas.{cut_at, row_past}
 abbrev IsFront : CsvScan → ℕ → ℕ → List ℕ → Type 0
 IsFront s at row front = (records : List CsvRecord) × AreWholeRecords s.options front records × ((text_reading s at front).refusal ≡ None) × (length (text_reading s at front).rows ≡ row)
 
-pub cut_found : (s : CsvScan) (at : ℕ) (text : List ℕ) (row place : ℕ) → AreOptions s.options → row_place (text_reading s at text).rows row ≡ Some place
+pub cut_found : (s : CsvScan) (at : ℕ) (text : List ℕ) (row place : ℕ) → IsDialect s.options → row_place (text_reading s at text).rows row ≡ Some place
     → (at ≤ place) × IsCut s at text row (place - at)
 cut_found s at text row place fit is =
     let found = cut_at s.options (kinds_of s.scan.fields) at text row place fit is in

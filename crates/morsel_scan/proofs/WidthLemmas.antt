@@ -3,7 +3,7 @@ use Rattle.std.proofs.Common.{◌≡◌, ℕ, zero, suc, ◌+◌, ◌-◌, ap, r
 use Rattle.std.specs.Prelude.{Bool, true, false, not, if◌then◌else◌, Option, Some, None, List, [], ◌∷◌, length}
 use Rattle.std.specs.Str.{is_utf8}
 use Rattle.morsel_meaning.specs.declared.value.ColType.{ColType}
-use Rattle.morsel_grammar.specs.Options.{Options}
+use Rattle.morsel_grammar.specs.Dialect.{Dialect}
 use Rattle.morsel_grammar.specs.Grammar.{CsvField, CsvRecord, Comment, Fields}
 use Rattle.morsel_grammar.specs.Cells.{CsvCell}
 use Rattle.morsel_grammar.specs.Rows.{RowOf, NoRow, IsRow, Misfit, is_empty, cells_of, row_or_misfit, row_of_nothing, is_header, row_of}
@@ -25,7 +25,7 @@ abbrev AreFound : ℕ → Option (List CsvCell) → Type 0
 AreFound width None = Unit {0}
 AreFound width (Some cells) = length cells ≡ width
 
-found_cells : (o : Options) (kinds : List ColType) (fields : List CsvField) → AreFound (length kinds) (cells_of o kinds fields)
+found_cells : (o : Dialect) (kinds : List ColType) (fields : List CsvField) → AreFound (length kinds) (cells_of o kinds fields)
 found_cells o [] [] = refl
 found_cells o [] (f ∷ fields) = tt
 found_cells o (kind ∷ kinds) [] = tt
@@ -44,11 +44,11 @@ wide_found : (width : ℕ) (found : Option (List CsvCell)) → AreFound width fo
 wide_found width None wide = tt
 wide_found width (Some cells) wide = wide
 
-wide_fields : (o : Options) (kinds : List ColType) (fields : List CsvField) (t : Bool) → IsWide (length kinds) (if t then row_of_nothing kinds else row_or_misfit (cells_of o kinds fields))
+wide_fields : (o : Dialect) (kinds : List ColType) (fields : List CsvField) (t : Bool) → IsWide (length kinds) (if t then row_of_nothing kinds else row_or_misfit (cells_of o kinds fields))
 wide_fields o kinds fields true = wide_nothing kinds
 wide_fields o kinds fields false = wide_found (length kinds) (cells_of o kinds fields) (found_cells o kinds fields)
 
-wide_row : (o : Options) (kinds : List ColType) (r : CsvRecord) → IsWide (length kinds) (row_of o kinds r)
+wide_row : (o : Dialect) (kinds : List ColType) (r : CsvRecord) → IsWide (length kinds) (row_of o kinds r)
 wide_row o kinds (Comment body) = tt
 wide_row o kinds (Fields fields) = wide_fields o kinds fields (is_empty fields)
 
@@ -57,20 +57,20 @@ wide_then width at NoRow later one all = all
 wide_then width at (IsRow cells) later one all = (one, all)
 wide_then width at Misfit later one all = tt
 
-wide_record : (o : Options) (kinds : List ColType) (head : Bool) (at : ℕ) (r : CsvRecord) (later : Bool → Reading) (t : Bool) → ((awaits_header : Bool) → AreWide (length kinds) (later awaits_header).rows)
+wide_record : (o : Dialect) (kinds : List ColType) (head : Bool) (at : ℕ) (r : CsvRecord) (later : Bool → Reading) (t : Bool) → ((awaits_header : Bool) → AreWide (length kinds) (later awaits_header).rows)
     → AreWide (length kinds) (if t then (if head then later (not (is_header r)) else row_then false at (row_of o kinds r) (later false)) else refuses head at NotUtf8).rows
 wide_record o kinds true at r later true all = all (not (is_header r))
 wide_record o kinds false at r later true all = wide_then (length kinds) at (row_of o kinds r) (later false) (wide_row o kinds r) (all false)
 wide_record o kinds head at r later false all = tt
 
-wide_split : (o : Options) (kinds : List ColType) (head : Bool) (at : ℕ) (text : List ℕ) (found : Option (CsvRecord × List ℕ)) (later : Bool → ℕ → List ℕ → Reading)
+wide_split : (o : Dialect) (kinds : List ColType) (head : Bool) (at : ℕ) (text : List ℕ) (found : Option (CsvRecord × List ℕ)) (later : Bool → ℕ → List ℕ → Reading)
     → ((awaits_header : Bool) (place : ℕ) (rest : List ℕ) → AreWide (length kinds) (later awaits_header place rest).rows) → AreWide (length kinds) (split_then o kinds head at text found later).rows
 wide_split o kinds head at text None later all = tt
 wide_split o kinds head at text (Some split) later all =
     let size : ℕ = length text - length split.1 in
     wide_record o kinds head at split.0 (λ awaits_header. later awaits_header (at + size) split.1) (is_utf8 (take size text)) (λ awaits_header. all awaits_header (at + size) split.1)
 
-wide_reading : (n : ℕ) (o : Options) (kinds : List ColType) (head : Bool) (at : ℕ) (text : List ℕ) → AreWide (length kinds) (reading_up_to n o kinds head at text).rows
+wide_reading : (n : ℕ) (o : Dialect) (kinds : List ColType) (head : Bool) (at : ℕ) (text : List ℕ) → AreWide (length kinds) (reading_up_to n o kinds head at text).rows
 wide_reading n o kinds head at [] = by n
   where
     by : (n : ℕ) → AreWide (length kinds) (reading_up_to n o kinds head at []).rows
@@ -81,7 +81,7 @@ wide_reading (suc n) o kinds head at (b ∷ bs) =
     wide_split o kinds head at (b ∷ bs) (record_at o (b ∷ bs)) (λ awaits_header place rest. reading_up_to n o kinds awaits_header place rest)
     (λ awaits_header place rest. wide_reading n o kinds awaits_header place rest)
 
-pub reading-wide : (o : Options) (kinds : List ColType) (head : Bool) (at : ℕ) (text : List ℕ) → AreWide (length kinds) (reading o kinds head at text).rows
+pub reading-wide : (o : Dialect) (kinds : List ColType) (head : Bool) (at : ℕ) (text : List ℕ) → AreWide (length kinds) (reading o kinds head at text).rows
 reading-wide o kinds head at text = wide_reading (length text) o kinds head at text
 
 pub wide-take : (width n : ℕ) (rows : List (ℕ × List CsvCell)) → AreWide width rows → AreWide width (take n rows)

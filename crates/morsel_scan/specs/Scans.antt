@@ -1,7 +1,7 @@
 -- What a scan asks of files.
 use Rattle.std.specs.Prelude.{ℕ, ℤ, Bool, Option, List}
 use Rattle.morsel_meaning.specs.declared.value.Field.{Field}
-use Rattle.morsel_grammar.specs.Options.{Options}
+use Rattle.morsel_grammar.specs.Dialect.{Dialect}
 use Rattle.morsel_expr.specs.declared.node.PredNode.{PredNode}
 use Rattle.morsel_scan.specs.declared.spec.RowIndex.{RowIndex}
 
@@ -22,4 +22,4 @@ pub record Scan : Type 0 where
 -- a scan of CSV files
 pub record CsvScan : Type 0 where
   pub scan : Scan
-  pub options : Options  -- how the files are written
+  pub options : Dialect  -- how the files are written

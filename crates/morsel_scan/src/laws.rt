@@ -1,5 +1,5 @@
 //! Laws: what is made of parts of a scan's input is made of the whole.
-ghost use Rattle.morsel_grammar.specs.Options.{AreOptions};
+ghost use Rattle.morsel_grammar.specs.Dialect.{IsDialect};
 ghost use Rattle.morsel_scan.specs.Scans.{CsvScan};
 ghost use Rattle.morsel_scan.specs.ScanLaws.{GathersParts, PlacesParts, ScansParts, ScansSources, ReadsParts, ScansPieces};
 
@@ -30,11 +30,11 @@ pub fn files_are_scanned_one_after_the_other()
 /// A CSV text that is cut after whole records has the rows of its two parts.
 #[tactic(auto, using(crate::proofs::PieceLemmas::reads_parts))]
 pub fn a_text_has_the_rows_of_its_parts()
-    ensures { (s : CsvScan) → AreOptions s.options → ReadsParts s }
+    ensures { (s : CsvScan) → IsDialect s.options → ReadsParts s }
 {}
 
 /// What a scan makes of a text is made of its pieces, one after the other, also where records without rows stand between them.
 #[tactic(auto, using(crate::proofs::PieceLemmas::scans_pieces))]
 pub fn a_text_is_scanned_piece_by_piece()
-    ensures { (s : CsvScan) → AreOptions s.options → ScansPieces s }
+    ensures { (s : CsvScan) → IsDialect s.options → ScansPieces s }
 {}

@@ -8,7 +8,7 @@ use Rattle.morsel_meaning.specs.declared.value.ColType.{ColType}
 use Rattle.morsel_meaning.specs.declared.value.Value.{Value}
 use Rattle.morsel_meaning.specs.Values.{Row}
 use Rattle.morsel_frame.specs.Columns.{Values}
-use Rattle.morsel_grammar.specs.Options.{Options, AreOptions}
+use Rattle.morsel_grammar.specs.Dialect.{Dialect, IsDialect}
 use Rattle.morsel_grammar.specs.Grammar.{CsvField, CsvRecord, Fields, IsRecord}
 use Rattle.morsel_grammar.specs.Cells.{CsvCell, Good, cell_of}
 use Rattle.morsel_grammar.specs.Rows.{IsRow, is_empty, cells_of, row_of, row_or_misfit}
@@ -25,7 +25,7 @@ use Rattle.morsel_text.proofs.StepLemmas.{ReadSo, read_more, row_steps, row_read
 
 -- ---- one row more
 
-pub splits_more : (o : Options) (width : ℕ) (text rest behind : List ℕ) (lines : List (List RawField)) (fields : List RawField) → SplitsRows o width text lines rest
+pub splits_more : (o : Dialect) (width : ℕ) (text rest behind : List ℕ) (lines : List (List RawField)) (fields : List RawField) → SplitsRows o width text lines rest
     → record_at o rest ≡ Some (Fields (map shown fields), behind) → length behind < length rest → length fields ≡ width → is_empty (map shown fields) ≡ false
     → SplitsRows o width text (lines ++ fields ∷ []) behind
 splits_more o width text rest behind [] fields is found shorter wide filled = (
@@ -39,7 +39,7 @@ splits_more o width text rest behind [] fields is found shorter wide filled = (
 splits_more o width text rest behind (line ∷ lines) fields is found shorter wide filled =
     (is.0, is.1, is.2, is.3, is.4, splits_more o width is.0 rest behind lines fields is.5 found shorter wide filled)
 
-pub splits_len : (o : Options) (width : ℕ) (text rest : List ℕ) (lines : List (List RawField)) → SplitsRows o width text lines rest → length rest + length lines ≤ length text
+pub splits_len : (o : Dialect) (width : ℕ) (text rest : List ℕ) (lines : List (List RawField)) → SplitsRows o width text lines rest → length rest + length lines ≤ length text
 splits_len o width text rest [] is = omega (arith, ap length is)
 splits_len o width text rest (line ∷ lines) is = omega (arith, is.2, splits_len o width is.0 rest lines is.5)
 
@@ -66,7 +66,7 @@ no_texts zero = tt
 no_texts (suc width) = (tt, no_texts width)
 
 -- what follows a record, where the text is UTF-8
-pub text_behind : (o : Options) (text behind : List ℕ) (r : CsvRecord) → AreOptions o → text ≢ [] → record_at o text ≡ Some (r, behind) → IsUtf8 text
+pub text_behind : (o : Dialect) (text behind : List ℕ) (r : CsvRecord) → IsDialect o → text ≢ [] → record_at o text ≡ Some (r, behind) → IsUtf8 text
     → (is_utf8 (take (length text - length behind) text) ≡ true) × IsUtf8 behind × (length behind < length text)
 text_behind o text behind r fit some found utf8 =
     let P : Option (CsvRecord × List ℕ) → Type 0 = λ x. IsFound o text x in
@@ -136,7 +136,7 @@ columns_spread width rows =
 -- ---- the first row of columns that were made
 
 -- the values and cells of a row of fields, and the columns after it
-pub record FirstRow (o : Options) (used : List Bool) (columns : List Values) (fields : List RawField) (batch : List (List RawField)) (made : List Values) : Type 0 where
+pub record FirstRow (o : Dialect) (used : List Bool) (columns : List Values) (fields : List RawField) (batch : List (List RawField)) (made : List Values) : Type 0 where
   pub cells : List CsvCell
   pub row : Row
   pub later : List Values
@@ -149,7 +149,7 @@ pub record FirstRow (o : Options) (used : List Bool) (columns : List Values) (fi
 held_first : (v : Value) (vs : List Value) (cell : CsvCell) (cells : List CsvCell) → map Good (v ∷ vs) ≡ cell ∷ cells → (cell ≡ Good v) × (map Good vs ≡ cells)
 held_first v vs cell cells is = (cc, cc)
 
-cells_first : (o : Options) (kind : ColType) (kinds : List ColType) (f : CsvField) (fields : List CsvField) (cells : List CsvCell) → cells_of o kinds fields ≡ Some cells
+cells_first : (o : Dialect) (kind : ColType) (kinds : List ColType) (f : CsvField) (fields : List CsvField) (cells : List CsvCell) → cells_of o kinds fields ≡ Some cells
     → cells_of o (kind ∷ kinds) (f ∷ fields) ≡ Some (cell_of o kind f ∷ cells)
 cells_first o kind kinds f fields cells is = rw is refl
 
@@ -157,7 +157,7 @@ values_first : (used : List Bool) (cell : CsvCell) (v : Value) (cells : List Csv
     → used_values (true ∷ used) (cell ∷ cells) ≡ Some (v ∷ row)
 values_first used cell v cells row is later = rw is (rw later refl)
 
-used_first : (o : Options) (used : List Bool) (c : Values) (columns : List Values) (f : RawField) (fields : List RawField) (more : List RawField) (batch : List (List RawField))
+used_first : (o : Dialect) (used : List Bool) (c : Values) (columns : List Values) (f : RawField) (fields : List RawField) (more : List RawField) (batch : List (List RawField))
     (new : Values) (made : List Values) → IsColumnOf o c.kind (f ∷ more) new → FirstRow o used columns fields batch made
     → FirstRow o (true ∷ used) (c ∷ columns) (f ∷ fields) (more ∷ batch) (new ∷ made)
 used_first o used c columns f fields more batch new made is later = by new.values refl
@@ -179,7 +179,7 @@ used_first o used c columns f fields more batch new made is later = by new.value
               ∙ ap (λ (cs : List Values). let all : Values = record c { values = (c.values ++ v ∷ []) ++ vs } in all ∷ cs) later.same;
         }
 
-unused_first : (o : Options) (used : List Bool) (c : Values) (columns : List Values) (f : RawField) (fields : List RawField) (more : List RawField) (batch : List (List RawField))
+unused_first : (o : Dialect) (used : List Bool) (c : Values) (columns : List Values) (f : RawField) (fields : List RawField) (more : List RawField) (batch : List (List RawField))
     (new : Values) (made : List Values) → new.kind ≡ c.kind → new.values ≡ [] → FirstRow o used columns fields batch made
     → FirstRow o (false ∷ used) (c ∷ columns) (f ∷ fields) (more ∷ batch) (new ∷ made)
 unused_first o used c columns f fields more batch new made kind none later = record {
@@ -193,7 +193,7 @@ unused_first o used c columns f fields more batch new made kind none later = rec
   same = ap (λ (cs : List Values). let more : Values = record c { values = c.values ++ new.values } in more ∷ cs) later.same;
 }
 
-first_row : (o : Options) (used : List Bool) (columns : List Values) (fields : List RawField) (batch : List (List RawField)) (made : List Values)
+first_row : (o : Dialect) (used : List Bool) (columns : List Values) (fields : List RawField) (batch : List (List RawField)) (made : List Values)
     → length fields ≡ length columns → length batch ≡ length columns → AreMade o used (column_kinds columns) (with_first fields batch) made
     → FirstRow o used columns fields batch made
 first_row o [] [] [] [] [] same wide is = record {
@@ -225,7 +225,7 @@ no_values : (vs : List Value) → map Good vs ≡ [] → vs ≡ []
 no_values [] is = refl
 no_values (v ∷ vs) is = absurd (cc)
 
-nothing_appended : (o : Options) (used : List Bool) (columns : List Values) (width : ℕ) (made : List Values) → width ≡ length columns
+nothing_appended : (o : Dialect) (used : List Bool) (columns : List Values) (width : ℕ) (made : List Values) → width ≡ length columns
     → AreMade o used (column_kinds columns) (replicate width []) made → appended columns made ≡ columns
 nothing_appended o used [] width made same is = refl
 nothing_appended o used (c ∷ columns) width [] same is = refl
@@ -243,7 +243,7 @@ nothing_appended o (false ∷ used) (c ∷ columns) (suc width) (new ∷ made) s
 
 -- ---- the rows of a batch are read
 
-filled_row : (o : Options) (kinds : List ColType) (fields : List CsvField) (cells : List CsvCell) → is_empty fields ≡ false → cells_of o kinds fields ≡ Some cells
+filled_row : (o : Dialect) (kinds : List ColType) (fields : List CsvField) (cells : List CsvCell) → is_empty fields ≡ false → cells_of o kinds fields ≡ Some cells
     → row_of o kinds (Fields fields) ≡ IsRow cells
 filled_row o kinds fields cells filled is = rw filled (ap row_or_misfit is)
 
@@ -251,8 +251,8 @@ pub some_bytes : (text : List ℕ) (n : ℕ) → n < length text → text ≢ []
 some_bytes [] n less = absurd (omega arith)
 some_bytes (b ∷ bs) n less = λ is. cc
 
-pub rows_read : (lines : List (List RawField)) (n : ℕ) (o : Options) (ks : List ColType) (used : List Bool) (total : Read) (width height at : ℕ) (text rest : List ℕ) (columns made : List Values)
-    → AreOptions o → IsUtf8 text → width ≡ length columns → SplitsRows o width text lines rest → AreMade o used ks (columns_by width lines) made
+pub rows_read : (lines : List (List RawField)) (n : ℕ) (o : Dialect) (ks : List ColType) (used : List Bool) (total : Read) (width height at : ℕ) (text rest : List ℕ) (columns made : List Values)
+    → IsDialect o → IsUtf8 text → width ≡ length columns → SplitsRows o width text lines rest → AreMade o used ks (columns_by width lines) made
     → ReadSo total used ks height columns (left (length lines + n) o ks used false at text)
     → ReadSo total used ks (height + length lines) (appended columns made) (left n o ks used false (at + (length text - length rest)) rest)
 rows_read [] n o ks used total width height at text rest columns made fit utf8 wide is are so_far =

@@ -6,7 +6,7 @@ use Rattle.std.specs.List.{slice_range}
 use Rattle.morsel_meaning.specs.declared.value.ColType.{ColType}
 use Rattle.morsel_meaning.specs.declared.value.Value.{Value}
 use Rattle.morsel_frame.specs.Columns.{Values}
-use Rattle.morsel_grammar.specs.Options.{Options}
+use Rattle.morsel_grammar.specs.Dialect.{Dialect}
 use Rattle.morsel_grammar.specs.Grammar.{Fields}
 use Rattle.morsel_grammar.specs.Cells.{CsvCell, Good, Bad, cell_of}
 use Rattle.morsel_grammar.specs.Rows.{is_empty}
@@ -18,7 +18,7 @@ use Rattle.morsel_text.specs.declared.raw_field.RawField.{RawField}
 use Rattle.morsel_text.proofs.BatchLemmas.{splits_more, spread_more, length-spread}
 
 -- a record more is split off
-pub batch_more : (o : Options) (text rest behind : List ℕ) (old columns new : List (List RawField)) (rows : ℕ) (fields : List RawField) → SplitsBatch o text old (rest, rows) columns
+pub batch_more : (o : Dialect) (text rest behind : List ℕ) (old columns new : List (List RawField)) (rows : ℕ) (fields : List RawField) → SplitsBatch o text old (rest, rows) columns
     → record_at o rest ≡ Some (Fields (map shown fields), behind) → length behind < length rest → length fields ≡ length old → is_empty (map shown fields) ≡ false
     → new ≡ spread columns fields → SplitsBatch o text old (behind, rows + 1) new
 batch_more o text rest behind old columns new rows fields is found shorter wide filled spreads = (
@@ -29,7 +29,7 @@ batch_more o text rest behind old columns new rows fields is found shorter wide 
 )
 
 -- a column with a value more
-column_held : (o : Options) (kind : ColType) (before : List RawField) (f : RawField) (column new : Values) (v : Value) → IsColumnOf o kind before column → cell_of o kind (shown f) ≡ Good v
+column_held : (o : Dialect) (kind : ColType) (before : List RawField) (f : RawField) (column new : Values) (v : Value) → IsColumnOf o kind before column → cell_of o kind (shown f) ≡ Good v
     → (let found : Option Values = Some (record column { values = column.values ++ v ∷ [] }) in found ≡ Some new) → IsColumnOf o kind (before ++ f ∷ []) new
 column_held o kind before f column new v is cell put =
     let P : Values → Type 0 = λ c. IsColumnOf o kind (before ++ f ∷ []) c in
@@ -40,12 +40,12 @@ column_held o kind before f column new v is cell put =
           ∙ ap (λ (c : CsvCell). map (λ g. cell_of o kind (shown g)) before ++ c ∷ []) (sym cell) ∙ sym (map-append (λ g. cell_of o kind (shown g)) before (f ∷ [])),
     )
 
-column_put : (o : Options) (kind : ColType) (before : List RawField) (f : RawField) (column new : Values) (cell : CsvCell) → IsColumnOf o kind before column → cell_of o kind (shown f) ≡ cell
+column_put : (o : Dialect) (kind : ColType) (before : List RawField) (f : RawField) (column new : Values) (cell : CsvCell) → IsColumnOf o kind before column → cell_of o kind (shown f) ≡ cell
     → with_cell cell column ≡ Some new → IsColumnOf o kind (before ++ f ∷ []) new
 column_put o kind before f column new (Good v) is cell put = column_held o kind before f column new v is cell put
 column_put o kind before f column new Bad is cell put = absurd (cc)
 
-pub column_more : (o : Options) (kind : ColType) (fields : List RawField) (i : ℕ) (d : RawField) (column new : Values) → IsColumnOf o kind (take i fields) column → i < length fields
+pub column_more : (o : Dialect) (kind : ColType) (fields : List RawField) (i : ℕ) (d : RawField) (column new : Values) → IsColumnOf o kind (take i fields) column → i < length fields
     → with_cell (cell_of o column.kind (shown (get_or fields i d))) column ≡ Some new → IsColumnOf o kind (take (i + 1) fields) new
 column_more o kind fields i d column new is within put =
     subst (λ (fs : List RawField). IsColumnOf o kind fs new) (sym (take_more fields i d within))
@@ -53,7 +53,7 @@ column_more o kind fields i d column new is within put =
     (ap (λ (k : ColType). with_cell (cell_of o k (shown (get_or fields i d))) column) (sym is.0) ∙ put))
 
 -- a column more is made
-made_used : (o : Options) (used : List Bool) (kinds : List ColType) (batch : List (List RawField)) (made : List Values) (kind : ColType) (fields : List RawField) (new : Values)
+made_used : (o : Dialect) (used : List Bool) (kinds : List ColType) (batch : List (List RawField)) (made : List Values) (kind : ColType) (fields : List RawField) (new : Values)
     → AreMade o used kinds batch made → IsColumnOf o kind fields new → AreMade o (used ++ true ∷ []) (kinds ++ kind ∷ []) (batch ++ fields ∷ []) (made ++ new ∷ [])
 made_used o [] [] [] [] kind fields new are is = (is, tt)
 made_used o (true ∷ used) (k ∷ kinds) (fs ∷ batch) (m ∷ made) kind fields new are is = (are.0, made_used o used kinds batch made kind fields new are.1 is)
@@ -68,7 +68,7 @@ made_used o (false ∷ used) [] batch made kind fields new are is = absurd are
 made_used o (false ∷ used) (k ∷ kinds) [] made kind fields new are is = absurd are
 made_used o (false ∷ used) (k ∷ kinds) (fs ∷ batch) [] kind fields new are is = absurd are
 
-made_unused : (o : Options) (used : List Bool) (kinds : List ColType) (batch : List (List RawField)) (made : List Values) (kind : ColType) (fields : List RawField) (new : Values)
+made_unused : (o : Dialect) (used : List Bool) (kinds : List ColType) (batch : List (List RawField)) (made : List Values) (kind : ColType) (fields : List RawField) (new : Values)
     → AreMade o used kinds batch made → new.kind ≡ kind → new.values ≡ [] → AreMade o (used ++ false ∷ []) (kinds ++ kind ∷ []) (batch ++ fields ∷ []) (made ++ new ∷ [])
 made_unused o [] [] [] [] kind fields new are is none = (is, none, tt)
 made_unused o (true ∷ used) (k ∷ kinds) (fs ∷ batch) (m ∷ made) kind fields new are is none = (are.0, made_unused o used kinds batch made kind fields new are.1 is none)
@@ -96,7 +96,7 @@ kind_at (column ∷ columns) (suc i) c d within is = kind_at columns i c d (omeg
 front_more : {A : Type 0} (xs : List A) (i : ℕ) (d x : A) → i < length xs → get_or xs i d ≡ x → take (i + 1) xs ≡ take i xs ++ x ∷ []
 front_more xs i d x within is = take_more xs i d within ∙ ap (λ y. take i xs ++ y ∷ []) is
 
-pub used_more : (o : Options) (used : List Bool) (columns : List Values) (batch : List (List RawField)) (made : List Values) (i : ℕ) (c new : Values) (fields d : List RawField)
+pub used_more : (o : Dialect) (used : List Bool) (columns : List Values) (batch : List (List RawField)) (made : List Values) (i : ℕ) (c new : Values) (fields d : List RawField)
     → i < length used → i < length columns → i < length batch → get_or used i false ≡ true → get_or columns i c ≡ c → get_or batch i d ≡ fields
     → AreMade o (take i used) (take i (column_kinds columns)) (take i batch) made → IsColumnOf o c.kind fields new
     → AreMade o (take (i + 1) used) (take (i + 1) (column_kinds columns)) (take (i + 1) batch) (made ++ new ∷ [])
@@ -110,7 +110,7 @@ used_more o used columns batch made i c new fields d in_used in_columns in_batch
     (subst (λ (fs : List (List RawField)). AreMade o (take i used ++ true ∷ []) (take i all ++ c.kind ∷ []) fs (made ++ new ∷ [])) (sym f)
     (made_used o (take i used) (take i all) (take i batch) made c.kind fields new are is)))
 
-pub unused_more : (o : Options) (used : List Bool) (columns : List Values) (batch : List (List RawField)) (made : List Values) (i : ℕ) (c new : Values) (d : List RawField)
+pub unused_more : (o : Dialect) (used : List Bool) (columns : List Values) (batch : List (List RawField)) (made : List Values) (i : ℕ) (c new : Values) (d : List RawField)
     → i < length used → i < length columns → i < length batch → get_or used i false ≡ false → get_or columns i c ≡ c
     → AreMade o (take i used) (take i (column_kinds columns)) (take i batch) made → new.kind ≡ c.kind → new.values ≡ []
     → AreMade o (take (i + 1) used) (take (i + 1) (column_kinds columns)) (take (i + 1) batch) (made ++ new ∷ [])
@@ -124,7 +124,7 @@ unused_more o used columns batch made i c new d in_used in_columns in_batch is_u
     (subst (λ (fs : List (List RawField)). AreMade o (take i used ++ false ∷ []) (take i all ++ c.kind ∷ []) fs (made ++ new ∷ [])) (sym f)
     (made_unused o (take i used) (take i all) (take i batch) made c.kind (get_or batch i d) new are is none)))
 
-pub all_made : (o : Options) (used : List Bool) (columns : List Values) (batch : List (List RawField)) (made : List Values) (i : ℕ)
+pub all_made : (o : Dialect) (used : List Bool) (columns : List Values) (batch : List (List RawField)) (made : List Values) (i : ℕ)
     → length used ≤ i → length columns ≤ i → length batch ≤ i
     → AreMade o (take i used) (take i (column_kinds columns)) (take i batch) made → AreMade o used (column_kinds columns) batch made
 all_made o used columns batch made i in_used in_columns in_batch are =
@@ -137,7 +137,7 @@ texts_at [] i fields d texts within is = absurd (omega arith)
 texts_at (fs ∷ batch) zero fields d texts within is = subst (λ (x : List RawField). AreTexts (map shown x)) is texts.0
 texts_at (fs ∷ batch) (suc i) fields d texts within is = texts_at batch i fields d texts.1 (omega arith) is
 
-pub made_kinds : (o : Options) (used : List Bool) (kinds : List ColType) (batch : List (List RawField)) (made : List Values) → AreMade o used kinds batch made → column_kinds made ≡ kinds
+pub made_kinds : (o : Dialect) (used : List Bool) (kinds : List ColType) (batch : List (List RawField)) (made : List Values) → AreMade o used kinds batch made → column_kinds made ≡ kinds
 made_kinds o [] [] [] [] are = refl
 made_kinds o (true ∷ used) (k ∷ kinds) (fs ∷ batch) (m ∷ made) are = ap (λ x. x ∷ column_kinds made) are.0.0 ∙ ap (λ (x : List ColType). k ∷ x) (made_kinds o used kinds batch made are.1)
 made_kinds o (false ∷ used) (k ∷ kinds) (fs ∷ batch) (m ∷ made) are = ap (λ x. x ∷ column_kinds made) are.0 ∙ ap (λ (x : List ColType). k ∷ x) (made_kinds o used kinds batch made are.2)
@@ -151,7 +151,7 @@ made_kinds o (false ∷ used) [] batch made are = absurd are
 made_kinds o (false ∷ used) (k ∷ kinds) [] made are = absurd are
 made_kinds o (false ∷ used) (k ∷ kinds) (fs ∷ batch) [] are = absurd are
 
-pub made_length : (o : Options) (used : List Bool) (columns : List Values) (batch : List (List RawField)) (made : List Values) → AreMade o used (column_kinds columns) batch made
+pub made_length : (o : Dialect) (used : List Bool) (columns : List Values) (batch : List (List RawField)) (made : List Values) → AreMade o used (column_kinds columns) batch made
     → length made ≡ length columns
 made_length o used columns batch made are = sym (length-kinds made) ∙ ap length (made_kinds o used (column_kinds columns) batch made are) ∙ length-kinds columns
 

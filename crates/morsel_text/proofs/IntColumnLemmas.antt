@@ -6,7 +6,7 @@ use Rattle.morsel_meaning.specs.declared.value.ColType.TheVariants as types
 use Rattle.morsel_meaning.specs.declared.value.Value.{Value}
 use Rattle.morsel_meaning.specs.declared.value.Value.TheVariants as values
 use Rattle.morsel_frame.specs.Columns.{Values, masked}
-use Rattle.morsel_grammar.specs.Options.{Options}
+use Rattle.morsel_grammar.specs.Dialect.{Dialect}
 use Rattle.morsel_grammar.specs.Cells.{CsvCell, Good, cell_of}
 use Rattle.morsel_text.specs.RawFields.{shown}
 use Rattle.morsel_text.specs.Batches.{IsColumnOf}
@@ -26,7 +26,7 @@ length_of (n ∷ numbers) = ap suc (length_of numbers)
 abbrev pub ints : List Bool → List ℤ → Values
 ints valid numbers = record { kind = types.Int; values = masked valid (map values.Int numbers) }
 
-pub number_more : (o : Options) (fields : List RawField) (i : ℕ) (d : RawField) (valid : List Bool) (numbers : List ℤ) (b : Bool) (n : ℤ)
+pub number_more : (o : Dialect) (fields : List RawField) (i : ℕ) (d : RawField) (valid : List Bool) (numbers : List ℤ) (b : Bool) (n : ℤ)
     → IsColumnOf o types.Int (take i fields) (ints valid numbers) → length valid ≡ length numbers → i < length fields
     → cell_of o types.Int (shown (get_or fields i d)) ≡ Good (if b then values.Int n else values.Null)
     → IsColumnOf o types.Int (take (i + 1) fields) (ints (valid ++ b ∷ []) (numbers ++ n ∷ []))
@@ -41,7 +41,7 @@ number_more o fields i d valid numbers b n is same within cell = (
       ∙ ap (map (λ g. cell_of o types.Int (shown g))) (sym (take_more fields i d within)),
 )
 
-pub number_next : (o : Options) (fields : List RawField) (i : ℕ) (d : RawField) (valid new : List Bool) (numbers more : List ℤ) (b : Bool) (n : ℤ)
+pub number_next : (o : Dialect) (fields : List RawField) (i : ℕ) (d : RawField) (valid new : List Bool) (numbers more : List ℤ) (b : Bool) (n : ℤ)
     → IsColumnOf o types.Int (take i fields) (ints valid numbers) → length valid ≡ length numbers → i < length fields
     → cell_of o types.Int (shown (get_or fields i d)) ≡ Good (if b then values.Int n else values.Null) → new ≡ valid ++ b ∷ [] → more ≡ numbers ++ n ∷ []
     → IsColumnOf o types.Int (take (i + 1) fields) (ints new more) × (length new ≡ length more)

@@ -4,7 +4,7 @@ use Rattle.std.proofs.lemmas.Simd.{run_in_chunk_le, run_in_chunk_fails, run_in_c
 use Rattle.std.proofs.lemmas.Bool.{cases_lt}
 use Rattle.std.specs.List.{prefix_len}
 use lib.Lanes.{chunk}
-use Rattle.morsel_grammar.specs.Options.{Options}
+use Rattle.morsel_grammar.specs.Dialect.{Dialect}
 use Rattle.morsel_grammar.specs.Split.{stops, plain_at}
 use Rattle.morsel_text.specs.RawFields.{PassedTo, IsRun}
 use Rattle.morsel_text.proofs.SplitLemmas.{plain_stop}
@@ -43,14 +43,14 @@ second_nearer a b text at r s room is_r is_s nearer = record {
 }
 
 -- the run from a place goes on from what was passed before
-pub passed_more : (o : Options) (text : List ℕ) (at len a b : ℕ) → a ≡ o.separator → b ≡ o.eol → PassedTo o text at → IsRun a b text at len → PassedTo o text (at + len)
+pub passed_more : (o : Dialect) (text : List ℕ) (at len a b : ℕ) → a ≡ o.separator → b ≡ o.eol → PassedTo o text at → IsRun a b text at len → PassedTo o text (at + len)
 passed_more o text at len a b is_a is_b passed run = λ k below. by k below (cases_lt k at)
   where
     by : (k : ℕ) → k < at + len → (k < at) ⊎ (at ≤ k) → stops o (get_or text k 0) ≡ false
     by k below (inl before) = passed k before
     by k below (inr behind) = rw (sym is_a, sym is_b) (run.passed k behind below)
 
-pub run_ends : (o : Options) (text : List ℕ) (at len a b : ℕ) → a ≡ o.separator → b ≡ o.eol → PassedTo o text at → IsRun a b text at len → len < 16 → at + len < length text
+pub run_ends : (o : Dialect) (text : List ℕ) (at len a b : ℕ) → a ≡ o.separator → b ≡ o.eol → PassedTo o text at → IsRun a b text at len → len < 16 → at + len < length text
     → plain_at o text ≡ (take (at + len) text, drop (at + len) text)
 run_ends o text at len a b is_a is_b passed run less within =
     plain_stop o text (at + len) within (passed_more o text at len a b is_a is_b passed run) (rw (sym is_a, sym is_b) (run.stopped less))

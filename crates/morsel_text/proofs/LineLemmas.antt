@@ -9,7 +9,7 @@ use Rattle.std.specs.Int.{bit_at, trailing_zeros, w64}
 use Rattle.std.specs.Int.Count.{trailing_of_zero}
 use Rattle.std.specs.Prelude.{Option, Some, if◌then◌else◌}
 use lib.Lanes.{mask_l}
-use Rattle.morsel_grammar.specs.Options.{Options, AreOptions}
+use Rattle.morsel_grammar.specs.Dialect.{Dialect, IsDialect}
 use Rattle.morsel_grammar.specs.Grammar.{CsvField}
 use Rattle.morsel_grammar.specs.Split.{is_quote, stops, plain_at, plain_field, field_at, last_field, ended, with_field, fields_then, fields_up_to}
 use Rattle.morsel_text.specs.RawFields.{PassedTo, with_front}
@@ -59,7 +59,7 @@ marks_behind test text n bits s marked within = λ k below.
     ∙ ap (λ (x : ℕ). let r : ℕ = if test x then 1 else 0 in r) (sym (get_or-drop s text k 0))
 
 -- a line without quotes ends at the first mark of an eol, where the first mark of a quote comes after it
-pub line_found : (o : Options) (text : List ℕ) (eols quotes : ℕ) → 64 ≤ length text → Marks (λ b. b == o.eol) text 64 eols → Marks (is_quote o.quote) text 64 quotes
+pub line_found : (o : Dialect) (text : List ℕ) (eols quotes : ℕ) → 64 ≤ length text → Marks (λ b. b == o.eol) text 64 eols → Marks (is_quote o.quote) text 64 quotes
     → eols < 2 ^ 64 → quotes < 2 ^ 64 → trailing_zeros w64 eols < trailing_zeros w64 quotes → IsPlainLine o text (trailing_zeros w64 eols)
 line_found o text eols quotes room ends quoted fit_ends fit_quotes before =
     let most : trailing_zeros w64 quotes ≤ 64 = trailing_le 64 quotes in
@@ -71,7 +71,7 @@ line_found o text eols quotes room ends quoted fit_ends fit_quotes before =
     }
 
 -- what follows a byte of a line is a line
-pub line_behind : (o : Options) (text : List ℕ) (len s : ℕ) → IsPlainLine o text len → s ≤ len → IsPlainLine o (drop s text) (len - s)
+pub line_behind : (o : Dialect) (text : List ℕ) (len s : ℕ) → IsPlainLine o text len → s ≤ len → IsPlainLine o (drop s text) (len - s)
 line_behind o text len s line within = record {
   within = omega (arith, length-drop s text, line.within);
   inside = λ k below. ap (λ (x : ℕ). x == o.eol) (get_or-drop s text k 0) ∙ line.inside (s + k) (omega arith);
@@ -79,7 +79,7 @@ line_behind o text len s line within = record {
   unquoted = λ k below. ap (is_quote o.quote) (get_or-drop s text k 0) ∙ line.unquoted (s + k) (omega arith);
 }
 
-unquoted_field : (o : Options) (text : List ℕ) → is_quote o.quote (get_or text 0 0) ≡ false → field_at o text ≡ plain_field (plain_at o text)
+unquoted_field : (o : Dialect) (text : List ℕ) → is_quote o.quote (get_or text 0 0) ≡ false → field_at o text ≡ plain_field (plain_at o text)
 unquoted_field o [] other = refl
 unquoted_field o (b ∷ bs) other = rw other
 
@@ -87,23 +87,23 @@ unquoted_field o (b ∷ bs) other = rw other
 abbrev pub plain : List ℕ → CsvField
 plain bytes = record { quoted = false; bytes = bytes }
 
-run_field : (o : Options) (text : List ℕ) (n : ℕ) → n < length text → is_quote o.quote (get_or text 0 0) ≡ false → PassedTo o text n → stops o (get_or text n 0) ≡ true
+run_field : (o : Dialect) (text : List ℕ) (n : ℕ) → n < length text → is_quote o.quote (get_or text 0 0) ≡ false → PassedTo o text n → stops o (get_or text n 0) ≡ true
     → (let found : CsvField × List ℕ = (plain (take n text), drop n text) in field_at o text ≡ Some found)
 run_field o text n within other passed ends = unquoted_field o text other ∙ ap plain_field (plain_stop o text n within passed ends)
 
-separator_first : (o : Options) (f : CsvField) (b : ℕ) (bs : List ℕ) (more : List ℕ → Option (List CsvField × List ℕ)) → (b == o.separator) ≡ true
+separator_first : (o : Dialect) (f : CsvField) (b : ℕ) (bs : List ℕ) (more : List ℕ → Option (List CsvField × List ℕ)) → (b == o.separator) ≡ true
     → fields_then o (Some (f, b ∷ bs)) more ≡ with_field f (more bs)
 separator_first o f b bs more is = rw is
 
-eol_first : (o : Options) (f : CsvField) (b : ℕ) (bs : List ℕ) (more : List ℕ → Option (List CsvField × List ℕ)) → (b == o.separator) ≡ false → (b == o.eol) ≡ true
+eol_first : (o : Dialect) (f : CsvField) (b : ℕ) (bs : List ℕ) (more : List ℕ → Option (List CsvField × List ℕ)) → (b == o.separator) ≡ false → (b == o.eol) ≡ true
     → fields_then o (Some (f, b ∷ bs)) more ≡ ended o f bs
 eol_first o f b bs more other is = rw (other, is)
 
-split_at : (o : Options) (f : CsvField) (text : List ℕ) (n : ℕ) (more : List ℕ → Option (List CsvField × List ℕ)) → n < length text
+split_at : (o : Dialect) (f : CsvField) (text : List ℕ) (n : ℕ) (more : List ℕ → Option (List CsvField × List ℕ)) → n < length text
     → fields_then o (Some (f, drop n text)) more ≡ fields_then o (Some (f, get_or text n 0 ∷ drop (n + 1) text)) more
 split_at o f text n more within = ap (λ (rest : List ℕ). let found : CsvField × List ℕ = (f, rest) in fields_then o (Some found) more) (drop_more text n 0 within)
 
-separated_lowest : (o : Options) (front : List CsvField) (rest : List ℕ) (n i left bits : ℕ) → i < n → IsPlainLine o rest left → Marks (λ b. b == o.separator) rest left bits → bits < 2 ^ 64
+separated_lowest : (o : Dialect) (front : List CsvField) (rest : List ℕ) (n i left bits : ℕ) → i < n → IsPlainLine o rest left → Marks (λ b. b == o.separator) rest left bits → bits < 2 ^ 64
     → trailing_zeros w64 bits < left → left < 64
     → with_front front (fields_up_to (n - i) o rest)
     ≡ with_front (front ++ plain (take (trailing_zeros w64 bits) rest) ∷ []) (fields_up_to (n - (i + 1)) o (drop (trailing_zeros w64 bits + 1) rest))
@@ -121,14 +121,14 @@ separated_lowest o front rest n i left bits room line marked fits before near =
     ∙ with_front-field front (plain (take at rest)) (more (drop (at + 1) rest))
 
 -- the field before the lowest mark of a line
-pub separated : (o : Options) (front : List CsvField) (rest : List ℕ) (n i left bits at : ℕ) → i < n → IsPlainLine o rest left → Marks (λ b. b == o.separator) rest left bits
+pub separated : (o : Dialect) (front : List CsvField) (rest : List ℕ) (n i left bits at : ℕ) → i < n → IsPlainLine o rest left → Marks (λ b. b == o.separator) rest left bits
     → bits < 2 ^ 64 → at ≡ trailing_zeros w64 bits → at < left → left < 64
     → with_front front (fields_up_to (n - i) o rest) ≡ with_front (front ++ plain (take at rest) ∷ []) (fields_up_to (n - (i + 1)) o (drop (at + 1) rest))
 separated o front rest n i left bits at room line marked fits lowest before near =
     rw lowest (separated_lowest o front rest n i left bits room line marked fits (omega arith) near)
 
 -- the last field of a line
-pub line_ended : (o : Options) (front : List CsvField) (rest : List ℕ) (n i left bits : ℕ) → AreOptions o → i < n → IsPlainLine o rest left → Marks (λ b. b == o.separator) rest left bits
+pub line_ended : (o : Dialect) (front : List CsvField) (rest : List ℕ) (n i left bits : ℕ) → IsDialect o → i < n → IsPlainLine o rest left → Marks (λ b. b == o.separator) rest left bits
     → bits < 2 ^ 64 → left ≤ trailing_zeros w64 bits
     → (let found : List CsvField × List ℕ = (front ++ last_field o (plain (take left rest)) ∷ [], drop (left + 1) rest) in with_front front (fields_up_to (n - i) o rest) ≡ Some found)
 line_ended o front rest n i left bits fit room line marked fits before =

@@ -4,7 +4,7 @@ use Rattle.std.specs.Prelude.{Option, Some, None}
 use Rattle.std.specs.Str.{is_utf8}
 use Rattle.morsel_meaning.specs.declared.value.ColType.{ColType}
 use Rattle.morsel_meaning.specs.declared.value.Value.TheVariants as values
-use Rattle.morsel_grammar.specs.Options.{Options}
+use Rattle.morsel_grammar.specs.Dialect.{Dialect}
 use Rattle.morsel_grammar.specs.Grammar.{CsvField, CsvRecord, Fields}
 use Rattle.morsel_grammar.specs.Cells.{CsvCell, Good, cell_of}
 use Rattle.morsel_grammar.specs.Rows.{RowOf, IsRow, is_empty, cells_of, row_or_misfit, row_of_nothing, row_of}
@@ -19,34 +19,34 @@ nothing_row [] one = absurd (omega arith)
 nothing_row (k ∷ []) one = (Good values.Null ∷ [], refl)
 nothing_row (k ∷ l ∷ ks) one = absurd (omega arith)
 
-some_cells : (o : Options) (ks : List ColType) (fields : List CsvField) → length fields ≡ length ks → (cells : List CsvCell) × (cells_of o ks fields ≡ Some cells)
+some_cells : (o : Dialect) (ks : List ColType) (fields : List CsvField) → length fields ≡ length ks → (cells : List CsvCell) × (cells_of o ks fields ≡ Some cells)
 some_cells o [] [] same = ([], refl)
 some_cells o [] (f ∷ fields) same = absurd (omega arith)
 some_cells o (k ∷ ks) [] same = absurd (omega arith)
 some_cells o (k ∷ ks) (f ∷ fields) same = let later = some_cells o ks fields (omega arith) in (cell_of o k f ∷ later.0, rw later.1 refl)
 
-no_cells : (o : Options) (ks : List ColType) (fields : List CsvField) → (length fields ≡ length ks → ⊥) → cells_of o ks fields ≡ None
+no_cells : (o : Dialect) (ks : List ColType) (fields : List CsvField) → (length fields ≡ length ks → ⊥) → cells_of o ks fields ≡ None
 no_cells o [] [] other = absurd (other refl)
 no_cells o [] (f ∷ fields) other = refl
 no_cells o (k ∷ ks) [] other = refl
 no_cells o (k ∷ ks) (f ∷ fields) other = rw (no_cells o ks fields (λ same. other (ap suc same))) refl
 
-row_of-empty : (o : Options) (ks : List ColType) (fields : List CsvField) → is_empty fields ≡ true → row_of o ks (Fields fields) ≡ row_of_nothing ks
+row_of-empty : (o : Dialect) (ks : List ColType) (fields : List CsvField) → is_empty fields ≡ true → row_of o ks (Fields fields) ≡ row_of_nothing ks
 row_of-empty o ks fields is = rw is
 
-row_of-filled : (o : Options) (ks : List ColType) (fields : List CsvField) → is_empty fields ≡ false → row_of o ks (Fields fields) ≡ row_or_misfit (cells_of o ks fields)
+row_of-filled : (o : Dialect) (ks : List ColType) (fields : List CsvField) → is_empty fields ≡ false → row_of o ks (Fields fields) ≡ row_or_misfit (cells_of o ks fields)
 row_of-filled o ks fields is = rw is
 
-pub kind_null : (o : Options) (ks : List ColType) (fields : List CsvField) → is_empty fields ≡ true → length ks ≡ 1 → IsKind (row_of o ks (Fields fields)) kinds.Row
+pub kind_null : (o : Dialect) (ks : List ColType) (fields : List CsvField) → is_empty fields ≡ true → length ks ≡ 1 → IsKind (row_of o ks (Fields fields)) kinds.Row
 kind_null o ks fields is one = let row = nothing_row ks one in (row.0, row_of-empty o ks fields is ∙ row.1)
 
-pub kind_row : (o : Options) (ks : List ColType) (fields : List CsvField) → is_empty fields ≡ false → length fields ≡ length ks → IsKind (row_of o ks (Fields fields)) kinds.Row
+pub kind_row : (o : Dialect) (ks : List ColType) (fields : List CsvField) → is_empty fields ≡ false → length fields ≡ length ks → IsKind (row_of o ks (Fields fields)) kinds.Row
 kind_row o ks fields is same = let all = some_cells o ks fields same in (all.0, row_of-filled o ks fields is ∙ ap row_or_misfit all.1)
 
-pub kind_misfit : (o : Options) (ks : List ColType) (fields : List CsvField) → is_empty fields ≡ false → (length fields ≡ length ks → ⊥) → IsKind (row_of o ks (Fields fields)) kinds.Misfit
+pub kind_misfit : (o : Dialect) (ks : List ColType) (fields : List CsvField) → is_empty fields ≡ false → (length fields ≡ length ks → ⊥) → IsKind (row_of o ks (Fields fields)) kinds.Misfit
 kind_misfit o ks fields is other = row_of-filled o ks fields is ∙ ap row_or_misfit (no_cells o ks fields other)
 
-pub skip_row : (n : ℕ) (o : Options) (ks : List ColType) (head : Bool) (at : ℕ) (text rest : List ℕ) (r : CsvRecord) (found : RowOf) → 0 < length text → record_at o text ≡ Some (r, rest)
+pub skip_row : (n : ℕ) (o : Dialect) (ks : List ColType) (head : Bool) (at : ℕ) (text rest : List ℕ) (r : CsvRecord) (found : RowOf) → 0 < length text → record_at o text ≡ Some (r, rest)
     → is_utf8 (take (length text - length rest) text) ≡ true → head ≡ false → row_of o ks r ≡ found
     → reading_up_to (suc n) o ks head at text ≡ row_then false at found (reading_up_to n o ks false (at + (length text - length rest)) rest)
 skip_row n o ks head at text rest r found some is utf8 behind kind =
@@ -65,7 +65,7 @@ pub place_over : (total : Option ℕ) (row : ℕ) (rows : List (ℕ × List CsvC
 place_over total row rows none so_far = sym (ap (λ rows. row_place rows row) none) ∙ so_far
 
 -- the step of reading that passing one record is
-pub next_fuel : (o : Options) (ks : List ColType) (head : Bool) (at n k row : ℕ) (rest : List ℕ) (total : Option ℕ) → k ≡ suc n
+pub next_fuel : (o : Dialect) (ks : List ColType) (head : Bool) (at n k row : ℕ) (rest : List ℕ) (total : Option ℕ) → k ≡ suc n
     → row_place (reading_up_to k o ks head at rest).rows row ≡ total → row_place (reading_up_to (suc n) o ks head at rest).rows row ≡ total
 next_fuel o ks head at n k row rest total one_more so_far = sym (ap (λ m. row_place (reading_up_to m o ks head at rest).rows row) one_more) ∙ so_far
 

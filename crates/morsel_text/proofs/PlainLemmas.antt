@@ -12,7 +12,7 @@ use Rattle.morsel_meaning.specs.declared.value.Field.{Field}
 use Rattle.morsel_meaning.specs.Values.{Row, IsOfType, FitsRow, kinds_of}
 use Rattle.morsel_frame.specs.Columns.{Values}
 use Rattle.morsel_frame.specs.Frames.{rows_of, Fit}
-use Rattle.morsel_grammar.specs.Options.{Options}
+use Rattle.morsel_grammar.specs.Dialect.{Dialect}
 use Rattle.morsel_grammar.specs.Grammar.{CsvField, CsvRecord, Fields}
 use Rattle.morsel_grammar.specs.Cells.{CsvCell, Good, Bad, int_value, bool_value, int_of, bool_of, value_written, cell_or_bad, cell_of}
 use Rattle.morsel_grammar.specs.Rows.{NoRow, IsRow, is_empty, cells_of, row_or_misfit, row_of_nothing, row_of}
@@ -27,7 +27,7 @@ use Rattle.morsel_text.specs.declared.plain.rows.PlainRow.{PlainRow}
 use Rattle.morsel_text.proofs.StepLemmas.{ReadSo, read_more, read_start, read_refused}
 
 -- the record of fields, however they are lent
-pub plain_record : (o : Options) (text rest : List ℕ) (fields slice : List CsvField) → slice ≡ fields → record_at o text ≡ Some (Fields fields, rest)
+pub plain_record : (o : Dialect) (text rest : List ℕ) (fields slice : List CsvField) → slice ≡ fields → record_at o text ≡ Some (Fields fields, rest)
     → record_at o text ≡ Some (Fields slice, rest)
 plain_record o text rest fields slice same is =
     is ∙ ap (λ (fs : List CsvField). let p : CsvRecord × List ℕ = (Fields fs, rest) in Some p) (sym same)
@@ -55,7 +55,7 @@ null_or : (kind : ColType) (cell : CsvCell) (t : Bool) (v : Value) → (cell ≡
 null_or kind cell true v typed is = let same : values.Null ≡ v = cc in subst (IsOfType kind) same tt
 null_or kind cell false v typed is = typed is
 
-cell_typed : (o : Options) (kind : ColType) (f : CsvField) (v : Value) → cell_of o kind f ≡ Good v → IsOfType kind v
+cell_typed : (o : Dialect) (kind : ColType) (f : CsvField) (v : Value) → cell_of o kind f ≡ Good v → IsOfType kind v
 cell_typed o kind f v is = null_or kind (cell_or_bad o.ignore_errors (value_written kind f.bytes)) _ v (found_typed kind f.bytes o.ignore_errors (value_written kind f.bytes) v refl) is
 
 -- each cell is bad, or has a value of its type
@@ -66,13 +66,13 @@ AreOfTypes (kind ∷ kinds) [] = ⊥
 AreOfTypes (kind ∷ kinds) (c ∷ cells) = ((v : Value) → c ≡ Good v → IsOfType kind v) × AreOfTypes kinds cells
 
 -- as many fields as types have a cell each
-pub cells_of-with : (o : Options) (kinds : List ColType) (fields : List CsvField) → length fields ≡ length kinds → cells_of o kinds fields ≡ Some (cells_with o kinds fields)
+pub cells_of-with : (o : Dialect) (kinds : List ColType) (fields : List CsvField) → length fields ≡ length kinds → cells_of o kinds fields ≡ Some (cells_with o kinds fields)
 cells_of-with o [] [] same = refl
 cells_of-with o [] (f ∷ fields) same = absurd (omega arith)
 cells_of-with o (kind ∷ kinds) [] same = absurd (omega arith)
 cells_of-with o (kind ∷ kinds) (f ∷ fields) same = rw (cells_of-with o kinds fields (omega arith)) refl
 
-cells_more : (o : Options) (kind : ColType) (kinds : List ColType) (f : CsvField) (fields : List CsvField) (cells : List CsvCell) (found : Option (List CsvCell)) → cells_of o kinds fields ≡ found
+cells_more : (o : Dialect) (kind : ColType) (kinds : List ColType) (f : CsvField) (fields : List CsvField) (cells : List CsvCell) (found : Option (List CsvCell)) → cells_of o kinds fields ≡ found
     → ((rest : List CsvCell) → cells_of o kinds fields ≡ Some rest → AreOfTypes kinds rest) → cells_of o (kind ∷ kinds) (f ∷ fields) ≡ Some cells → AreOfTypes (kind ∷ kinds) cells
 cells_more o kind kinds f fields cells None found typed is = let none : cells_of o (kind ∷ kinds) (f ∷ fields) ≡ None = rw found refl in cc
 cells_more o kind kinds f fields cells (Some rest) found typed is =
@@ -80,7 +80,7 @@ cells_more o kind kinds f fields cells (Some rest) found typed is =
     let same : cell_of o kind f ∷ rest ≡ cells = cc in
     subst (AreOfTypes (kind ∷ kinds)) same (cell_typed o kind f, typed rest found)
 
-cells_typed : (o : Options) (kinds : List ColType) (fields : List CsvField) (cells : List CsvCell) → cells_of o kinds fields ≡ Some cells → AreOfTypes kinds cells
+cells_typed : (o : Dialect) (kinds : List ColType) (fields : List CsvField) (cells : List CsvCell) → cells_of o kinds fields ≡ Some cells → AreOfTypes kinds cells
 cells_typed o [] [] cells is = let same : [] ≡ cells = cc in subst (AreOfTypes []) same tt
 cells_typed o [] (f ∷ fields) cells is = cc
 cells_typed o (kind ∷ kinds) [] cells is = cc
@@ -93,11 +93,11 @@ nothing_typed (kind ∷ []) cells is =
     subst (AreOfTypes (kind ∷ [])) same ((λ v held. let null : values.Null ≡ v = cc in subst (IsOfType kind) null tt), tt)
 nothing_typed (kind ∷ next ∷ kinds) cells is = cc
 
-filled_typed : (o : Options) (kinds : List ColType) (fields : List CsvField) (cells : List CsvCell) (found : Option (List CsvCell)) → cells_of o kinds fields ≡ found → row_or_misfit found ≡ IsRow cells → AreOfTypes kinds cells
+filled_typed : (o : Dialect) (kinds : List ColType) (fields : List CsvField) (cells : List CsvCell) (found : Option (List CsvCell)) → cells_of o kinds fields ≡ found → row_or_misfit found ≡ IsRow cells → AreOfTypes kinds cells
 filled_typed o kinds fields cells None found is = cc
 filled_typed o kinds fields cells (Some all) found is = let same : all ≡ cells = cc in cells_typed o kinds fields cells (found ∙ ap Some same)
 
-row_typed : (o : Options) (kinds : List ColType) (fields : List CsvField) (cells : List CsvCell) → row_of o kinds (Fields fields) ≡ IsRow cells → AreOfTypes kinds cells
+row_typed : (o : Dialect) (kinds : List ColType) (fields : List CsvField) (cells : List CsvCell) → row_of o kinds (Fields fields) ≡ IsRow cells → AreOfTypes kinds cells
 row_typed o kinds fields cells is = by_bytes (is_empty fields) refl
   where
     by_bytes : (t : Bool) → is_empty fields ≡ t → AreOfTypes kinds cells
@@ -123,16 +123,16 @@ used_typed (true ∷ used) (kind ∷ kinds) (Bad ∷ cells) row typed is = cc
 used_typed (true ∷ used) (kind ∷ kinds) (Good v ∷ cells) row typed is =
     held_more used kind kinds v cells row (used_values used cells) (typed.0 v refl) refl (λ rest found. used_typed used kinds cells rest typed.1 found) is
 
-pub row_fits : (o : Options) (kinds : List ColType) (used : List Bool) (fields : List CsvField) (cells : List CsvCell) (row : Row)
+pub row_fits : (o : Dialect) (kinds : List ColType) (used : List Bool) (fields : List CsvField) (cells : List CsvCell) (row : Row)
     → row_of o kinds (Fields fields) ≡ IsRow cells → used_values used cells ≡ Some row → FitsRow (chosen used kinds) row
 row_fits o kinds used fields cells row is values = used_typed used kinds cells row (row_typed o kinds fields cells is) values
 
 -- a record with bytes and a field for each column
-pub row_of-filled : (o : Options) (kinds : List ColType) (fields : List CsvField) → is_empty fields ≡ false → length fields ≡ length kinds
+pub row_of-filled : (o : Dialect) (kinds : List ColType) (fields : List CsvField) → is_empty fields ≡ false → length fields ≡ length kinds
     → row_of o kinds (Fields fields) ≡ IsRow (cells_with o kinds fields)
 row_of-filled o kinds fields filled same = rw (filled, cells_of-with o kinds fields same) refl
 
-cells_from : (o : Options) (kinds : List ColType) (fields : List CsvField) (i : ℕ) (k : ColType) (f : CsvField) → i < length kinds → i < length fields
+cells_from : (o : Dialect) (kinds : List ColType) (fields : List CsvField) (i : ℕ) (k : ColType) (f : CsvField) → i < length kinds → i < length fields
     → drop i (cells_with o kinds fields) ≡ cell_of o (get_or kinds i k) (get_or fields i f) ∷ drop (suc i) (cells_with o kinds fields)
 cells_from o [] fields i k f in_kinds in_fields = absurd (omega arith)
 cells_from o (kind ∷ kinds) [] i k f in_kinds in_fields = absurd (omega arith)
@@ -140,7 +140,7 @@ cells_from o (kind ∷ kinds) (g ∷ fields) zero k f in_kinds in_fields = refl
 cells_from o (kind ∷ kinds) (g ∷ fields) (suc i) k f in_kinds in_fields = cells_from o kinds fields i k f (omega arith) (omega arith)
 
 -- the cell at a place, and those after it
-pub cells_at : (o : Options) (kinds : List ColType) (fields : List CsvField) (i : ℕ) (k : ColType) (f : CsvField) → i < length kinds → i < length fields
+pub cells_at : (o : Dialect) (kinds : List ColType) (fields : List CsvField) (i : ℕ) (k : ColType) (f : CsvField) → i < length kinds → i < length fields
     → drop i (cells_with o kinds fields) ≡ cell_of o (get_or kinds i k) (get_or fields i f) ∷ drop (i + 1) (cells_with o kinds fields)
 cells_at o kinds fields i k f in_kinds in_fields =
     cells_from o kinds fields i k f in_kinds in_fields ∙ ap (λ n. cell_of o (get_or kinds i k) (get_or fields i f) ∷ drop n (cells_with o kinds fields)) (sym (add-one i))
@@ -151,7 +151,7 @@ kind_at (f ∷ schema) zero field is = let same : f ≡ field = cc in ap (λ (x 
 kind_at (f ∷ schema) (suc i) field is = kind_at schema i field is
 
 -- the cell of a field that is looked at under a column
-pub cells_here : (o : Options) (schema : List Field) (fields : List CsvField) (i : ℕ) (field : Field) (f : CsvField) → i < length schema → i < length fields
+pub cells_here : (o : Dialect) (schema : List Field) (fields : List CsvField) (i : ℕ) (field : Field) (f : CsvField) → i < length schema → i < length fields
     → slice_get schema i ≡ Some field → f ≡ get_or fields i f
     → drop i (cells_with o (kinds_of schema) fields) ≡ cell_of o field.kind f ∷ drop (i + 1) (cells_with o (kinds_of schema) fields)
 cells_here o schema fields i field f in_schema in_fields is_field is_f =
@@ -161,7 +161,7 @@ cells_here o schema fields i field f in_schema in_fields is_field is_f =
     ∙ ap (λ x. cell_of o field.kind x ∷ drop (i + 1) (cells_with o (kinds_of schema) fields)) (sym is_f)
 
 -- or of one that is not
-pub cells_passed : (o : Options) (schema : List Field) (fields : List CsvField) (i : ℕ) → i < length schema → i < length fields
+pub cells_passed : (o : Dialect) (schema : List Field) (fields : List CsvField) (i : ℕ) → i < length schema → i < length fields
     → (c : CsvCell) × (drop i (cells_with o (kinds_of schema) fields) ≡ c ∷ drop (i + 1) (cells_with o (kinds_of schema) fields))
 cells_passed o schema fields i in_schema in_fields =
     let width = length-map schema (λ (x : Field). x.kind) in
@@ -192,7 +192,7 @@ null_unused (true ∷ []) one is = cc
 null_unused (false ∷ []) one is = refl
 null_unused (u ∷ v ∷ used) one is = absurd (omega arith)
 
-pub gives_nothing : (o : Options) (kinds : List ColType) (used : List Bool) (fields : List CsvField) (row : PlainRow) → is_empty fields ≡ true → GivesRow (row_of_nothing kinds) used row
+pub gives_nothing : (o : Dialect) (kinds : List ColType) (used : List Bool) (fields : List CsvField) (row : PlainRow) → is_empty fields ≡ true → GivesRow (row_of_nothing kinds) used row
     → GivesRow (row_of o kinds (Fields fields)) used row
 gives_nothing o kinds used fields row empty gives = rw empty gives
 
@@ -297,7 +297,7 @@ plain_more total width kinds height rows at columns new before later row so_far 
     read_more total before later (replicate width true) kinds height rows at columns new row so_far (subst P same (gains_all columns row rows new gains)) is
 
 -- a step of reading, from the step of one record
-pub plain_step : (total : Read) (width : ℕ) (kinds ks : List ColType) (o : Options) (used : List Bool) (n k height rows at next : ℕ) (head awaits_header : Bool) (rest after : List ℕ)
+pub plain_step : (total : Read) (width : ℕ) (kinds ks : List ColType) (o : Dialect) (used : List Bool) (n k height rows at next : ℕ) (head awaits_header : Bool) (rest after : List ℕ)
     (columns new : List Values) (row : Option Row) → k ≡ suc n → PlainSo total width kinds height columns (left k o ks used head at rest) → GainsValues columns row rows new
     → ((m : ℕ) → left (suc m) o ks used head at rest ≡ row_first at row (left m o ks used awaits_header next after))
     → PlainSo total width kinds (height + rows) new (left n o ks used awaits_header next after)
@@ -305,7 +305,7 @@ plain_step total width kinds ks o used n k height rows at next head awaits_heade
     plain_more total width kinds height rows at columns new (left k o ks used head at rest) (left n o ks used awaits_header next after) row so_far gains
     (ap (λ m. left m o ks used head at rest) one_more ∙ step n)
 
-pub plain_refused : (file : ℕ) (total : Read) (width : ℕ) (kinds ks : List ColType) (o : Options) (used : List Bool) (n k height at : ℕ) (head : Bool) (rest : List ℕ)
+pub plain_refused : (file : ℕ) (total : Read) (width : ℕ) (kinds ks : List ColType) (o : Dialect) (used : List Bool) (n k height at : ℕ) (head : Bool) (rest : List ℕ)
     (columns : List Values) (fault : Fault) → k ≡ suc n → PlainSo total width kinds height columns (left k o ks used head at rest)
     → ((m : ℕ) → IsRefused file (left (suc m) o ks used head at rest).refusal fault) → IsRefused file total.refusal fault
 plain_refused file total width kinds ks o used n k height at head rest columns fault one_more so_far step =
@@ -319,12 +319,12 @@ plain_start total columns high =
     read_start total (replicate (length columns) true) columns (subst (AreHigh 0) (sym (chosen-trues columns)) high) (length-replicate (length columns) true)
 
 -- after the last
-pub left_nil : (n : ℕ) (o : Options) (ks : List ColType) (used : List Bool) (head : Bool) (at : ℕ) (text : List ℕ) → length text ≡ 0 → left n o ks used head at text ≡ read_of used (ends head)
+pub left_nil : (n : ℕ) (o : Dialect) (ks : List ColType) (used : List Bool) (head : Bool) (at : ℕ) (text : List ℕ) → length text ≡ 0 → left n o ks used head at text ≡ read_of used (ends head)
 left_nil zero o ks used head at [] none = refl
 left_nil (suc n) o ks used head at [] none = refl
 left_nil n o ks used head at (b ∷ bs) none = absurd (omega arith)
 
-pub left_zero : (n : ℕ) (o : Options) (ks : List ColType) (used : List Bool) (head : Bool) (at : ℕ) (text : List ℕ) → n ≡ 0 → left n o ks used head at text ≡ read_of used (ends head)
+pub left_zero : (n : ℕ) (o : Dialect) (ks : List ColType) (used : List Bool) (head : Bool) (at : ℕ) (text : List ℕ) → n ≡ 0 → left n o ks used head at text ≡ read_of used (ends head)
 left_zero zero o ks used head at [] none = refl
 left_zero zero o ks used head at (b ∷ bs) none = refl
 left_zero (suc n) o ks used head at text none = absurd (omega arith)

@@ -3,7 +3,7 @@ use Rattle.std.proofs.Common.{◌≡◌, ℕ, zero, suc, ◌+◌, ◌<◌, ◌�
 use Rattle.std.proofs.lemmas.List.{drop_more, take_more, take_more_set, drop-set-lt, append_assoc, get_or-map, get_or_default, length-map}
 use Rattle.std.specs.Prelude.{Option, Some, None, IsUtf8}
 use Rattle.morsel_frame.specs.Columns.{Values}
-use Rattle.morsel_grammar.specs.Options.{Options}
+use Rattle.morsel_grammar.specs.Dialect.{Dialect}
 use Rattle.morsel_grammar.specs.Grammar.{CsvField, Fields}
 use Rattle.morsel_meaning.specs.declared.value.ColType.TheVariants as types
 use Rattle.morsel_meaning.specs.declared.value.Value.{Value}
@@ -28,11 +28,11 @@ fronted-in_front front column None = refl
 fronted-in_front front column (Some columns) = rw append_assoc
 
 -- the first i fields are in their columns, and the columns after them are as they were
-abbrev pub fields_from : Options → List Bool → List Values → List CsvField → ℕ → Option (List Values)
+abbrev pub fields_from : Dialect → List Bool → List Values → List CsvField → ℕ → Option (List Values)
 fields_from o used columns fields i = fronted (take i columns) (with_fields o (drop i used) (drop i columns) (drop i fields))
 
 -- the fields from i on, where there is one more
-at_field : (o : Options) (used : List Bool) (columns : List Values) (fields : List CsvField) (i : ℕ) (u : Bool) (column : Values) (f : CsvField)
+at_field : (o : Dialect) (used : List Bool) (columns : List Values) (fields : List CsvField) (i : ℕ) (u : Bool) (column : Values) (f : CsvField)
     → i < length used → i < length columns → i < length fields → get_or used i false ≡ u → get_or columns i column ≡ column → get_or fields i f ≡ f
     → fields_from o used columns fields i ≡ fronted (take i columns) (with_fields o (u ∷ drop (i + 1) used) (column ∷ drop (i + 1) columns) (f ∷ drop (i + 1) fields))
 at_field o used columns fields i u column f in_used in_columns in_fields is_u is_column is_f =
@@ -41,7 +41,7 @@ at_field o used columns fields i u column f in_used in_columns in_fields is_u is
     ∙ ap (λ rest. fronted (take i columns) (with_fields o (u ∷ drop (i + 1) used) (column ∷ drop (i + 1) columns) rest)) (drop_more fields i f in_fields ∙ ap (λ x. x ∷ drop (i + 1) fields) is_f)
 
 -- a used field whose cell is put
-pub fields_from-put : (o : Options) (used : List Bool) (columns after : List Values) (fields : List CsvField) (i : ℕ) (column new : Values) (f : CsvField)
+pub fields_from-put : (o : Dialect) (used : List Bool) (columns after : List Values) (fields : List CsvField) (i : ℕ) (column new : Values) (f : CsvField)
     → i < length used → i < length columns → i < length fields → get_or used i false ≡ true → get_or columns i column ≡ column → get_or fields i f ≡ f
     → with_cell (cell_of o column.kind f) column ≡ Some new → after ≡ set columns i new
     → fields_from o used after fields (i + 1) ≡ fields_from o used columns fields i
@@ -55,7 +55,7 @@ fields_from-put o used columns after fields i column new f in_used in_columns in
     ∙ sym (at_field o used columns fields i true column f in_used in_columns in_fields is_u is_column is_f)
 
 -- a used field whose cell is bad
-pub fields_from-bad : (o : Options) (used : List Bool) (columns : List Values) (fields : List CsvField) (i : ℕ) (column : Values) (f : CsvField)
+pub fields_from-bad : (o : Dialect) (used : List Bool) (columns : List Values) (fields : List CsvField) (i : ℕ) (column : Values) (f : CsvField)
     → i < length used → i < length columns → i < length fields → get_or used i false ≡ true → get_or columns i column ≡ column → get_or fields i f ≡ f
     → with_cell (cell_of o column.kind f) column ≡ None → fields_from o used columns fields i ≡ None
 fields_from-bad o used columns fields i column f in_used in_columns in_fields is_u is_column is_f bad =
@@ -63,7 +63,7 @@ fields_from-bad o used columns fields i column f in_used in_columns in_fields is
     ∙ ap (λ c. fronted (take i columns) (in_front c (with_fields o (drop (i + 1) used) (drop (i + 1) columns) (drop (i + 1) fields)))) bad
 
 -- a field that is not used
-pub fields_from-skip : (o : Options) (used : List Bool) (columns : List Values) (fields : List CsvField) (i : ℕ) (column : Values) (f : CsvField)
+pub fields_from-skip : (o : Dialect) (used : List Bool) (columns : List Values) (fields : List CsvField) (i : ℕ) (column : Values) (f : CsvField)
     → i < length used → i < length columns → i < length fields → get_or used i false ≡ false → get_or columns i column ≡ column → get_or fields i f ≡ f
     → fields_from o used columns fields (i + 1) ≡ fields_from o used columns fields i
 fields_from-skip o used columns fields i column f in_used in_columns in_fields is_u is_column is_f =
@@ -98,7 +98,7 @@ put_unused column used columns None = refl
 put_unused column used columns (Some row) = refl
 
 -- fields put one by one are their cells' row put at once
-pub with_fields-row : (o : Options) (used : List Bool) (columns : List Values) (fields : List CsvField) → length used ≡ length columns → length fields ≡ length columns
+pub with_fields-row : (o : Dialect) (used : List Bool) (columns : List Values) (fields : List CsvField) → length used ≡ length columns → length fields ≡ length columns
     → (cells : List CsvCell) × (cells_of o (column_kinds columns) fields ≡ Some cells) × (with_fields o used columns fields ≡ gains used columns (used_values used cells))
     × (length cells ≡ length columns)
 with_fields-row o [] [] [] same_used same_fields = ([], refl, refl, refl)
@@ -149,21 +149,21 @@ not_gained : (used : List Bool) (columns : List Values) (found : Option Row) →
 not_gained used columns None is = refl
 not_gained used columns (Some row) is = absurd (cc)
 
-pub row_put : (o : Options) (used : List Bool) (columns new : List Values) (fields : List CsvField) → length used ≡ length columns → length fields ≡ length columns
+pub row_put : (o : Dialect) (used : List Bool) (columns new : List Values) (fields : List CsvField) → length used ≡ length columns → length fields ≡ length columns
     → with_fields o used columns fields ≡ Some new → PushesRow (row_or_misfit (cells_of o (column_kinds columns) fields)) used columns rows.Row new
 row_put o used columns new fields same_used same_fields put =
     let all = with_fields-row o used columns fields same_used same_fields in
     let row = gained used columns new (used_values used all.0) (sym all.2 ∙ put) in
     (all.0, row.0, ap row_or_misfit all.1, row.1, row_width used columns all.0 row.0 same_used all.3 row.1, row.2)
 
-pub row_bad : (o : Options) (used : List Bool) (columns new : List Values) (fields : List CsvField) → length used ≡ length columns → length fields ≡ length columns
+pub row_bad : (o : Dialect) (used : List Bool) (columns new : List Values) (fields : List CsvField) → length used ≡ length columns → length fields ≡ length columns
     → with_fields o used columns fields ≡ None → PushesRow (row_or_misfit (cells_of o (column_kinds columns) fields)) used columns rows.Bad new
 row_bad o used columns new fields same_used same_fields bad =
     let all = with_fields-row o used columns fields same_used same_fields in
     (all.0, ap row_or_misfit all.1, not_gained used columns (used_values used all.0) (sym all.2 ∙ bad))
 
 -- where there are more or fewer fields than columns
-pub cells_of-misfit : (o : Options) (columns : List Values) (fields : List CsvField) → (length fields ≡ length columns → ⊥) → cells_of o (column_kinds columns) fields ≡ None
+pub cells_of-misfit : (o : Dialect) (columns : List Values) (fields : List CsvField) → (length fields ≡ length columns → ⊥) → cells_of o (column_kinds columns) fields ≡ None
 cells_of-misfit o [] [] other = absurd (other refl)
 cells_of-misfit o [] (f ∷ fields) other = refl
 cells_of-misfit o (column ∷ columns) [] other = refl
@@ -208,7 +208,7 @@ field_shown fields i d within = get_or-map shown fields i d (shown (get_or field
 shown_within : (fields : List RawField) (i : ℕ) → i < length fields → i < length (map shown fields)
 shown_within fields i within = rw length-map within
 
-pub raw_put : (o : Options) (used : List Bool) (columns : List Values) (fields : List RawField) (i : ℕ) (column new : Values) (d : RawField)
+pub raw_put : (o : Dialect) (used : List Bool) (columns : List Values) (fields : List RawField) (i : ℕ) (column new : Values) (d : RawField)
     → i < length used → i < length columns → i < length fields → get_or used i false ≡ true → column ≡ get_or columns i column
     → with_cell (cell_of o column.kind (shown (get_or fields i d))) column ≡ Some new
     → fields_from o used (set columns i new) (map shown fields) (i + 1) ≡ fields_from o used columns (map shown fields) i
@@ -216,7 +216,7 @@ raw_put o used columns fields i column new d in_used in_columns in_fields is_u i
     fields_from-put o used columns (set columns i new) (map shown fields) i column new (shown (get_or fields i d)) in_used in_columns
     (shown_within fields i in_fields) is_u (sym is_column) (field_shown fields i d in_fields) put refl
 
-pub raw_bad : (o : Options) (used : List Bool) (columns : List Values) (fields : List RawField) (i : ℕ) (column : Values) (d : RawField)
+pub raw_bad : (o : Dialect) (used : List Bool) (columns : List Values) (fields : List RawField) (i : ℕ) (column : Values) (d : RawField)
     → i < length used → i < length columns → i < length fields → get_or used i false ≡ true → column ≡ get_or columns i column
     → with_cell (cell_of o column.kind (shown (get_or fields i d))) column ≡ None → fields_from o used columns (map shown fields) i ≡ None
 raw_bad o used columns fields i column d in_used in_columns in_fields is_u is_column bad =
@@ -226,7 +226,7 @@ raw_bad o used columns fields i column d in_used in_columns in_fields is_u is_co
 blank : Values
 blank = record { kind = types.Int; values = [] }
 
-pub raw_skip : (o : Options) (used : List Bool) (columns : List Values) (fields : List RawField) (i : ℕ) (d : RawField)
+pub raw_skip : (o : Dialect) (used : List Bool) (columns : List Values) (fields : List RawField) (i : ℕ) (d : RawField)
     → i < length used → i < length columns → i < length fields → get_or used i false ≡ false
     → fields_from o used columns (map shown fields) (i + 1) ≡ fields_from o used columns (map shown fields) i
 raw_skip o used columns fields i d in_used in_columns in_fields is_u =
@@ -238,12 +238,12 @@ raw_text fields i d texts within =
     let P : CsvField → Type 0 = λ f. IsUtf8 f.bytes in
     subst P (field_shown fields i d within) (text_at (map shown fields) i (shown (get_or fields i d)) texts (shown_within fields i within))
 
-row_of-filled : (o : Options) (columns : List Values) (fields : List CsvField) → is_empty fields ≡ false
+row_of-filled : (o : Dialect) (columns : List Values) (fields : List CsvField) → is_empty fields ≡ false
     → row_of o (column_kinds columns) (Fields fields) ≡ row_or_misfit (cells_of o (column_kinds columns) fields)
 row_of-filled o columns fields filled = rw filled
 
 -- what a record with bytes makes of the columns, by its cells
-pub filled_row : (o : Options) (used : List Bool) (columns new : List Values) (fields : List CsvField) (pushed : RowPushed) → is_empty fields ≡ false
+pub filled_row : (o : Dialect) (used : List Bool) (columns new : List Values) (fields : List CsvField) (pushed : RowPushed) → is_empty fields ≡ false
     → PushesRow (row_or_misfit (cells_of o (column_kinds columns) fields)) used columns pushed new
     → PushesRow (row_of o (column_kinds columns) (Fields fields)) used columns pushed new
 filled_row o used columns new fields pushed filled is =

@@ -4,24 +4,24 @@ use Rattle.std.proofs.lemmas.Bool.{eq-eqb}
 use Rattle.std.proofs.lemmas.Bool.Decides.{Decides-eqb}
 use Rattle.std.proofs.lemmas.List.{map_push}
 use Rattle.std.specs.Prelude.{Option, Some, None}
-use Rattle.morsel_grammar.specs.Options.{Options}
+use Rattle.morsel_grammar.specs.Dialect.{Dialect}
 use Rattle.morsel_grammar.specs.Grammar.{CsvField, CsvRecord, Comment}
 use Rattle.morsel_grammar.specs.Split.{stops, plain_at, with_byte, quoted_at, field_at, without_return, line_at, behind_front, with_field, fields_then, fields_up_to, comment_body, record_then_fields, record_at, begins}
 use Rattle.morsel_text.specs.RawFields.{PassedTo, shown, next_of, with_front}
 use Rattle.morsel_text.specs.declared.raw_field.RawField.{RawField}
 use Rattle.morsel_text.specs.declared.parts.Next.{Next}
 
-plain_first : (o : Options) (b : ℕ) (bs : List ℕ) → stops o b ≡ false → plain_at o (b ∷ bs) ≡ (b ∷ (plain_at o bs).0, (plain_at o bs).1)
+plain_first : (o : Dialect) (b : ℕ) (bs : List ℕ) → stops o b ≡ false → plain_at o (b ∷ bs) ≡ (b ∷ (plain_at o bs).0, (plain_at o bs).1)
 plain_first o b bs goes = rw goes
 
-plain_none : (o : Options) (b : ℕ) (bs : List ℕ) → stops o b ≡ true → plain_at o (b ∷ bs) ≡ ([], b ∷ bs)
+plain_none : (o : Dialect) (b : ℕ) (bs : List ℕ) → stops o b ≡ true → plain_at o (b ∷ bs) ≡ ([], b ∷ bs)
 plain_none o b bs ends = rw ends
 
-passed_behind : (o : Options) (b : ℕ) (bs : List ℕ) (n : ℕ) → PassedTo o (b ∷ bs) (suc n) → PassedTo o bs n
+passed_behind : (o : Dialect) (b : ℕ) (bs : List ℕ) (n : ℕ) → PassedTo o (b ∷ bs) (suc n) → PassedTo o bs n
 passed_behind o b bs n passed = λ k below. passed (suc k) (omega arith)
 
 -- an unquoted field ends at the first separator or eol
-pub plain_stop : (o : Options) (text : List ℕ) (n : ℕ) → n < length text → PassedTo o text n → stops o (get_or text n 0) ≡ true → plain_at o text ≡ (take n text, drop n text)
+pub plain_stop : (o : Dialect) (text : List ℕ) (n : ℕ) → n < length text → PassedTo o text n → stops o (get_or text n 0) ≡ true → plain_at o text ≡ (take n text, drop n text)
 plain_stop o [] n within passed ends = absurd (omega arith)
 plain_stop o (b ∷ bs) zero within passed ends = plain_none o b bs ends
 plain_stop o (b ∷ bs) (suc n) within passed ends =
@@ -29,7 +29,7 @@ plain_stop o (b ∷ bs) (suc n) within passed ends =
     ∙ ap (λ (found : List ℕ × List ℕ). let r : List ℕ × List ℕ = (b ∷ found.0, found.1) in r) (plain_stop o bs n (omega arith) (passed_behind o b bs n passed) ends)
 
 -- or at the end of the text
-pub plain_all : (o : Options) (text : List ℕ) → PassedTo o text (length text) → plain_at o text ≡ (take (length text) text, drop (length text) text)
+pub plain_all : (o : Dialect) (text : List ℕ) → PassedTo o text (length text) → plain_at o text ≡ (take (length text) text, drop (length text) text)
 plain_all o [] passed = refl
 plain_all o (b ∷ bs) passed =
     plain_first o b bs (passed 0 (omega arith))
@@ -129,7 +129,7 @@ pub with_front-field : (front : List CsvField) (f : CsvField) (found : Option (L
 with_front-field front f None = refl
 with_front-field front f (Some found) = rw append_assoc
 
-pub fields_next : (o : Options) (front : List CsvField) (n i : ℕ) (rest : List ℕ) (f : CsvField) (after : List ℕ) (r : Next) → i < n
+pub fields_next : (o : Dialect) (front : List CsvField) (n i : ℕ) (rest : List ℕ) (f : CsvField) (after : List ℕ) (r : Next) → i < n
     → Some (f, after) ≡ field_at o rest
     → ((g : CsvField) (more : List ℕ → Option (List CsvField × List ℕ)) → fields_then o (Some (g, after)) more ≡ next_of o g more r)
     → with_front front (fields_up_to (n - i) o rest) ≡ with_front front (next_of o f (λ r. fields_up_to (n - (i + 1)) o r) r)
@@ -143,7 +143,7 @@ pub shown-push : (fields items : List RawField) (x : RawField) (f : CsvField) �
     → map shown items ≡ map shown fields ++ f ∷ []
 shown-push fields items x f pushed is = ap (map shown) pushed ∙ map_push shown fields x ∙ ap (λ g. map shown fields ++ g ∷ []) is
 
-pub comment_found : (o : Options) (text prefix body rest : List ℕ) (eol : ℕ) → Some prefix ≡ o.comment → Some body ≡ behind_front prefix text → eol ≡ o.eol
+pub comment_found : (o : Dialect) (text prefix body rest : List ℕ) (eol : ℕ) → Some prefix ≡ o.comment → Some body ≡ behind_front prefix text → eol ≡ o.eol
     → rest ≡ (line_at eol body).1 → (x : List ℕ) × (record_at o text ≡ Some (Comment x, rest))
 comment_found o text prefix body rest eol asked begins eol_is rest_is =
     let is_comment : comment_body o.comment text ≡ Some body = ap (λ p. comment_body p text) (sym asked) ∙ sym begins in (

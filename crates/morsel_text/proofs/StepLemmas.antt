@@ -10,7 +10,7 @@ use Rattle.morsel_meaning.specs.declared.value.Field.{Field}
 use Rattle.morsel_meaning.specs.Values.{Row, kinds_of}
 use Rattle.morsel_frame.specs.Columns.{Values}
 use Rattle.morsel_frame.specs.Frames.{with_column, rows_of, Fit}
-use Rattle.morsel_grammar.specs.Options.{Options}
+use Rattle.morsel_grammar.specs.Dialect.{Dialect}
 use Rattle.morsel_grammar.specs.Grammar.{CsvRecord, Fields}
 use Rattle.morsel_grammar.specs.Cells.{CsvCell}
 use Rattle.morsel_grammar.specs.Rows.{RowOf, IsRow, row_of, is_header}
@@ -28,19 +28,19 @@ pub row_read : (used : List Bool) (at : ℕ) (found : RowOf) (cells : List CsvCe
 row_read used at found cells row is values = λ later. rw (is, values)
 
 -- the first record of what is left
-pub left_some : (n : ℕ) (o : Options) (ks : List ColType) (head : Bool) (at : ℕ) (text : List ℕ) → 0 < length text
+pub left_some : (n : ℕ) (o : Dialect) (ks : List ColType) (head : Bool) (at : ℕ) (text : List ℕ) → 0 < length text
     → reading_up_to (suc n) o ks head at text ≡ split_then o ks head at text (record_at o text) (λ awaits_header next rest. reading_up_to n o ks awaits_header next rest)
 left_some n o ks head at [] some = absurd (omega arith)
 left_some n o ks head at (b ∷ bs) some = refl
 
-pub left_record : (n : ℕ) (o : Options) (ks : List ColType) (head : Bool) (at : ℕ) (text rest : List ℕ) (r : CsvRecord) → 0 < length text → record_at o text ≡ Some (r, rest)
+pub left_record : (n : ℕ) (o : Dialect) (ks : List ColType) (head : Bool) (at : ℕ) (text rest : List ℕ) (r : CsvRecord) → 0 < length text → record_at o text ≡ Some (r, rest)
     → reading_up_to (suc n) o ks head at text
     ≡ record_then o ks head at (take (length text - length rest) text) r (λ awaits_header. reading_up_to n o ks awaits_header (at + (length text - length rest)) rest)
 left_record n o ks head at text rest r some is =
     left_some n o ks head at text some ∙ ap (λ found. split_then o ks head at text found (λ awaits_header next rest. reading_up_to n o ks awaits_header next rest)) is
 
 -- a header, or what comes before it
-pub head_reading : (n : ℕ) (o : Options) (ks : List ColType) (at : ℕ) (text rest : List ℕ) (r : CsvRecord) → 0 < length text → record_at o text ≡ Some (r, rest)
+pub head_reading : (n : ℕ) (o : Dialect) (ks : List ColType) (at : ℕ) (text rest : List ℕ) (r : CsvRecord) → 0 < length text → record_at o text ≡ Some (r, rest)
     → is_utf8 (take (length text - length rest) text) ≡ true
     → reading_up_to (suc n) o ks true at text ≡ reading_up_to n o ks (not (is_header r)) (at + (length text - length rest)) rest
 head_reading n o ks at text rest r some is utf8 =
@@ -48,24 +48,24 @@ head_reading n o ks at text rest r some is utf8 =
     ∙ ap (λ t. if t then reading_up_to n o ks (not (is_header r)) (at + (length text - length rest)) rest else refuses true at NotUtf8) utf8
 
 -- a record after the header
-pub row_reading : (n : ℕ) (o : Options) (ks : List ColType) (at : ℕ) (text rest : List ℕ) (r : CsvRecord) → 0 < length text → record_at o text ≡ Some (r, rest)
+pub row_reading : (n : ℕ) (o : Dialect) (ks : List ColType) (at : ℕ) (text rest : List ℕ) (r : CsvRecord) → 0 < length text → record_at o text ≡ Some (r, rest)
     → is_utf8 (take (length text - length rest) text) ≡ true
     → reading_up_to (suc n) o ks false at text ≡ row_then false at (row_of o ks r) (reading_up_to n o ks false (at + (length text - length rest)) rest)
 row_reading n o ks at text rest r some is utf8 =
     left_record n o ks false at text rest r some is
     ∙ ap (λ t. if t then row_then false at (row_of o ks r) (reading_up_to n o ks false (at + (length text - length rest)) rest) else refuses false at NotUtf8) utf8
 
-pub row_step : (n : ℕ) (o : Options) (ks : List ColType) (used : List Bool) (at : ℕ) (text rest : List ℕ) (r : CsvRecord) → 0 < length text
+pub row_step : (n : ℕ) (o : Dialect) (ks : List ColType) (used : List Bool) (at : ℕ) (text rest : List ℕ) (r : CsvRecord) → 0 < length text
     → record_at o text ≡ Some (r, rest) → is_utf8 (take (length text - length rest) text) ≡ true
     → left (suc n) o ks used false at text ≡ read_of used (row_then false at (row_of o ks r) (reading_up_to n o ks false (at + (length text - length rest)) rest))
 row_step n o ks used at text rest r some is utf8 = ap (read_of used) (row_reading n o ks at text rest r some is utf8)
 
-pub shown_record : (o : Options) (text rest : List ℕ) (raws slice : List RawField) → slice ≡ raws → record_at o text ≡ Some (Fields (map shown raws), rest)
+pub shown_record : (o : Dialect) (text rest : List ℕ) (raws slice : List RawField) → slice ≡ raws → record_at o text ≡ Some (Fields (map shown raws), rest)
     → record_at o text ≡ Some (Fields (map shown slice), rest)
 shown_record o text rest raws slice same is =
     is ∙ ap (λ (fs : List RawField). let p : CsvRecord × List ℕ = (Fields (map shown fs), rest) in Some p) (sym same)
 
-pub row_steps : (n : ℕ) (o : Options) (ks : List ColType) (used : List Bool) (head : Bool) (at : ℕ) (text rest : List ℕ) (r : CsvRecord) (row : Option Row) → 0 < length text
+pub row_steps : (n : ℕ) (o : Dialect) (ks : List ColType) (used : List Bool) (head : Bool) (at : ℕ) (text rest : List ℕ) (r : CsvRecord) (row : Option Row) → 0 < length text
     → record_at o text ≡ Some (r, rest) → is_utf8 (take (length text - length rest) text) ≡ true → head ≡ false
     → ((later : Reading) → read_of used (row_then false at (row_of o ks r) later) ≡ row_first at row (read_of used later))
     → left (suc n) o ks used head at text ≡ row_first at row (left n o ks used false (at + (length text - length rest)) rest)
@@ -73,7 +73,7 @@ row_steps n o ks used head at text rest r row some is utf8 behind gives =
     ap (λ h. left (suc n) o ks used h at text) behind ∙ row_step n o ks used at text rest r some is utf8
     ∙ gives (reading_up_to n o ks false (at + (length text - length rest)) rest)
 
-pub row_refused : (n : ℕ) (o : Options) (ks : List ColType) (used : List Bool) (head : Bool) (at file : ℕ) (text rest : List ℕ) (r : CsvRecord) (fault : Fault) → 0 < length text
+pub row_refused : (n : ℕ) (o : Dialect) (ks : List ColType) (used : List Bool) (head : Bool) (at file : ℕ) (text rest : List ℕ) (r : CsvRecord) (fault : Fault) → 0 < length text
     → record_at o text ≡ Some (r, rest) → is_utf8 (take (length text - length rest) text) ≡ true → head ≡ false
     → ((later : Reading) → IsRefused file (read_of used (row_then false at (row_of o ks r) later)).refusal fault)
     → IsRefused file (left (suc n) o ks used head at text).refusal fault
@@ -226,7 +226,7 @@ fit-chosen height (true ∷ used) (f ∷ fields) (column ∷ columns) same high 
 fit-chosen height (false ∷ used) (f ∷ fields) (column ∷ columns) same high = fit-chosen height used fields columns (cc) high
 
 -- a step of reading, from the step of one record
-pub step_more : (total : Read) (used : List Bool) (ks : List ColType) (o : Options) (n k height rows at next : ℕ) (head awaits_header : Bool) (rest after : List ℕ) (columns new : List Values)
+pub step_more : (total : Read) (used : List Bool) (ks : List ColType) (o : Dialect) (n k height rows at next : ℕ) (head awaits_header : Bool) (rest after : List ℕ) (columns new : List Values)
     (row : Option Row) → k ≡ suc n → ReadSo total used ks height columns (left k o ks used head at rest) → GainsRow used columns row rows new
     → ((m : ℕ) → left (suc m) o (column_kinds columns) used head at rest ≡ row_first at row (left m o (column_kinds columns) used awaits_header next after))
     → ReadSo total used ks (height + rows) new (left n o ks used awaits_header next after)
@@ -236,7 +236,7 @@ step_more total used ks o n k height rows at next head awaits_header rest after 
     ∙ ap (λ types. left (suc n) o types used head at rest) (sym so_far.kinds)
     ∙ step n ∙ ap (λ types. row_first at row (left n o types used awaits_header next after)) so_far.kinds)
 
-pub step_refused : (file : ℕ) (total : Read) (used : List Bool) (ks : List ColType) (o : Options) (n k height at : ℕ) (head : Bool) (rest : List ℕ) (columns : List Values) (fault : Fault)
+pub step_refused : (file : ℕ) (total : Read) (used : List Bool) (ks : List ColType) (o : Dialect) (n k height at : ℕ) (head : Bool) (rest : List ℕ) (columns : List Values) (fault : Fault)
     → k ≡ suc n → ReadSo total used ks height columns (left k o ks used head at rest)
     → ((m : ℕ) → IsRefused file (left (suc m) o (column_kinds columns) used head at rest).refusal fault)
     → IsRefused file total.refusal fault

@@ -4,7 +4,7 @@ use Rattle.std.proofs.lemmas.Bool.{eqb-true, and_parts}
 use Rattle.std.proofs.lemmas.List.{take_at, drop_at, append-nil, get_or_at}
 use Rattle.std.proofs.lemmas.Str.{IsUtf8-append, IsUtf8-take, IsUtf8-drop, IsCharBoundary-before_ascii, IsCharBoundary-after_ascii, IsUtf8-from_ascii}
 use Rattle.std.specs.Prelude.{Option, Some, None, IsUtf8}
-use Rattle.morsel_grammar.specs.Options.{Options, AreOptions, IsQuoteFor}
+use Rattle.morsel_grammar.specs.Dialect.{Dialect, IsDialect, IsQuoteFor}
 use Rattle.morsel_grammar.specs.Grammar.{CsvField, CsvRecord, Comment, Fields}
 use Rattle.morsel_grammar.specs.Split.{is_quote, stops, plain_at, with_byte, quoted_at, in_quotes, field_at, plain_field, without_return, last_field, ended, returned, with_field, fields_then, fields_up_to, comment_body, fields_record, line_at, record_then_fields, record_at, begins}
 use Rattle.morsel_text.specs.Pushes.{AreTexts}
@@ -123,7 +123,7 @@ pub record FieldFront (text rest : List ℕ) (f : CsvField) : Type 0 where
   pub is : text ≡ raw ++ rest
   pub text_of : IsUtf8 raw → IsUtf8 f.bytes
 
-plain_split : (o : Options) (text : List ℕ) → text ≡ (plain_at o text).0 ++ (plain_at o text).1
+plain_split : (o : Dialect) (text : List ℕ) → text ≡ (plain_at o text).0 ++ (plain_at o text).1
 plain_split o [] = refl
 plain_split o (b ∷ bs) = by (stops o b) refl (plain_split o bs)
   where
@@ -131,7 +131,7 @@ plain_split o (b ∷ bs) = by (stops o b) refl (plain_split o bs)
     by true is later = rw is
     by false other later = rw other (ap (λ (x : List ℕ). b ∷ x) later)
 
-plain_front : (o : Options) (text rest : List ℕ) (f : CsvField) → plain_field (plain_at o text) ≡ Some (f, rest) → FieldFront text rest f
+plain_front : (o : Dialect) (text rest : List ℕ) (f : CsvField) → plain_field (plain_at o text) ≡ Some (f, rest) → FieldFront text rest f
 plain_front o text rest f found =
     let plain : CsvField = record { quoted = false; bytes = (plain_at o text).0 } in
     let same : (let p : CsvField × List ℕ = (plain, (plain_at o text).1) in p ≡ (f, rest)) = some_same _ _ found in
@@ -153,11 +153,11 @@ quoted_front q bs rest f (Some x) ascii is held =
       text_of = λ utf8. subst (λ (g : CsvField). IsUtf8 g.bytes) (ap (λ p. p.0) same) (inner.text [] (utf8_behind [] inner.raw q ascii utf8));
     }
 
-quote_ascii : (o : Options) (quote : Option ℕ) (b : ℕ) → IsQuoteFor o.separator o.eol quote → is_quote quote b ≡ true → b < 128
+quote_ascii : (o : Dialect) (quote : Option ℕ) (b : ℕ) → IsQuoteFor o.separator o.eol quote → is_quote quote b ≡ true → b < 128
 quote_ascii o None b fit is = absurd (cc)
 quote_ascii o (Some q) b fit is = rw (eqb-true b q is) fit.0
 
-pub field_front : (o : Options) (text rest : List ℕ) (f : CsvField) → AreOptions o → field_at o text ≡ Some (f, rest) → FieldFront text rest f
+pub field_front : (o : Dialect) (text rest : List ℕ) (f : CsvField) → IsDialect o → field_at o text ≡ Some (f, rest) → FieldFront text rest f
 field_front o [] rest f fit found = plain_front o [] rest f found
 field_front o (b ∷ bs) rest f fit found = by (is_quote o.quote b) refl
   where
@@ -188,7 +188,7 @@ without_return-text bs utf8 = by (return_split bs)
     by (inl same) = subst IsUtf8 (sym same) utf8
     by (inr cut) = utf8_before (without_return bs) [] 13 (lit< tt) (subst IsUtf8 cut utf8)
 
-last_field-text : (o : Options) (f : CsvField) → IsUtf8 f.bytes → IsUtf8 (last_field o f).bytes
+last_field-text : (o : Dialect) (f : CsvField) → IsUtf8 f.bytes → IsUtf8 (last_field o f).bytes
 last_field-text o f utf8 = by (not f.quoted && o.eol == 10) refl
   where
     by : (t : Bool) → (not f.quoted && o.eol == 10) ≡ t → IsUtf8 (last_field o f).bytes
@@ -196,7 +196,7 @@ last_field-text o f utf8 = by (not f.quoted && o.eol == 10) refl
     by false other = rw other utf8
 
 -- the record ends after its last field and so many bytes
-ended_front : (o : Options) (text end behind rest : List ℕ) (f : CsvField) (fields : List CsvField) (field : FieldFront text (end ++ behind) f)
+ended_front : (o : Dialect) (text end behind rest : List ℕ) (f : CsvField) (fields : List CsvField) (field : FieldFront text (end ++ behind) f)
     → ((raw : List ℕ) → IsUtf8 (raw ++ end) → IsUtf8 raw) → ended o f behind ≡ Some (fields, rest) → Front text rest fields
 ended_front o text end behind rest f fields field cut found =
     let last : List CsvField = last_field o f ∷ [] in
@@ -228,7 +228,7 @@ more_front text after rest b f later fields ascii field is front = record {
 cut_none : (raw : List ℕ) → IsUtf8 (raw ++ []) → IsUtf8 raw
 cut_none raw utf8 = subst IsUtf8 (append-nil raw) utf8
 
-returned_front : (o : Options) (text behind rest : List ℕ) (f : CsvField) (fields : List CsvField) → FieldFront text (13 ∷ behind) f
+returned_front : (o : Dialect) (text behind rest : List ℕ) (f : CsvField) (fields : List CsvField) → FieldFront text (13 ∷ behind) f
     → returned o f behind ≡ Some (fields, rest) → Front text rest fields
 returned_front o text [] rest f fields field found = ended_front o text (13 ∷ []) [] rest f fields field (λ raw utf8. utf8_before raw [] 13 (lit< tt) utf8) found
 returned_front o text (b ∷ behind) rest f fields field found = by (b == o.eol) refl
@@ -239,8 +239,8 @@ returned_front o text (b ∷ behind) rest f fields field found = by (b == o.eol)
     by false other = absurd (let none : returned o f (b ∷ behind) ≡ None = rw other in cc)
 
 -- what follows a field
-after_field : (o : Options) (text behind rest : List ℕ) (b : ℕ) (f : CsvField) (fields : List CsvField) (more : List ℕ → Option (List CsvField × List ℕ)) (t u v : Bool)
-    → AreOptions o → (b == o.separator) ≡ t → (b == o.eol) ≡ u → (b == 13 && o.eol == 10) ≡ v
+after_field : (o : Dialect) (text behind rest : List ℕ) (b : ℕ) (f : CsvField) (fields : List CsvField) (more : List ℕ → Option (List CsvField × List ℕ)) (t u v : Bool)
+    → IsDialect o → (b == o.separator) ≡ t → (b == o.eol) ≡ u → (b == 13 && o.eol == 10) ≡ v
     → ((later : List CsvField) → more behind ≡ Some (later, rest) → Front behind rest later)
     → FieldFront text (b ∷ behind) f → fields_then o (Some (f, b ∷ behind)) more ≡ Some (fields, rest) → Front text rest fields
 after_field o text behind rest b f fields more true u v fit is_separator is_eol is_return later field found =
@@ -257,21 +257,21 @@ after_field o text behind rest b f fields more false false true fit is_separator
 after_field o text behind rest b f fields more false false false fit is_separator is_eol is_return later field found =
     absurd (let none : fields_then o (Some (f, b ∷ behind)) more ≡ None = rw (is_separator, is_eol, is_return) in cc)
 
-found_field : (o : Options) (text after rest : List ℕ) (f : CsvField) (fields : List CsvField) (more : List ℕ → Option (List CsvField × List ℕ))
-    → AreOptions o → ((behind : List ℕ) (later : List CsvField) → more behind ≡ Some (later, rest) → Front behind rest later)
+found_field : (o : Dialect) (text after rest : List ℕ) (f : CsvField) (fields : List CsvField) (more : List ℕ → Option (List CsvField × List ℕ))
+    → IsDialect o → ((behind : List ℕ) (later : List CsvField) → more behind ≡ Some (later, rest) → Front behind rest later)
     → FieldFront text after f → fields_then o (Some (f, after)) more ≡ Some (fields, rest) → Front text rest fields
 found_field o text [] rest f fields more fit later field found = ended_front o text [] [] rest f fields field (λ raw utf8. cut_none raw utf8) found
 found_field o text (b ∷ behind) rest f fields more fit later field found =
     after_field o text behind rest b f fields more (b == o.separator) (b == o.eol) (b == 13 && o.eol == 10) fit refl refl refl
     (λ fs is. later behind fs is) field found
 
-some_field : (o : Options) (text rest : List ℕ) (fields : List CsvField) (more : List ℕ → Option (List CsvField × List ℕ)) (found : Option (CsvField × List ℕ))
-    → AreOptions o → ((behind : List ℕ) (later : List CsvField) → more behind ≡ Some (later, rest) → Front behind rest later)
+some_field : (o : Dialect) (text rest : List ℕ) (fields : List CsvField) (more : List ℕ → Option (List CsvField × List ℕ)) (found : Option (CsvField × List ℕ))
+    → IsDialect o → ((behind : List ℕ) (later : List CsvField) → more behind ≡ Some (later, rest) → Front behind rest later)
     → field_at o text ≡ found → fields_then o found more ≡ Some (fields, rest) → Front text rest fields
 some_field o text rest fields more None fit later is found = absurd (cc)
 some_field o text rest fields more (Some x) fit later is found = found_field o text x.1 rest x.0 fields more fit later (field_front o text x.1 x.0 fit is) found
 
-fields_front : (n : ℕ) (o : Options) (text rest : List ℕ) (fields : List CsvField) → AreOptions o → fields_up_to n o text ≡ Some (fields, rest) → Front text rest fields
+fields_front : (n : ℕ) (o : Dialect) (text rest : List ℕ) (fields : List CsvField) → IsDialect o → fields_up_to n o text ≡ Some (fields, rest) → Front text rest fields
 fields_front zero o text rest fields fit found = absurd (cc)
 fields_front (suc n) o text rest fields fit found =
     some_field o text rest fields (λ r. fields_up_to n o r) (field_at o text) fit (λ behind later is. fields_front n o behind rest later fit is) refl found
@@ -288,7 +288,7 @@ fields_of-some (Some x) fields rest is =
     fields_same : (a b : List CsvField) → Fields a ≡ Fields b → a ≡ b
     fields_same a b e = cc
 
-record_front : (o : Options) (text rest : List ℕ) (fields : List CsvField) (body : Option (List ℕ)) → AreOptions o
+record_front : (o : Dialect) (text rest : List ℕ) (fields : List CsvField) (body : Option (List ℕ)) → IsDialect o
     → record_then_fields o text body ≡ Some (Fields fields, rest) → Front text rest fields
 record_front o text rest fields None fit found = fields_front (length text + 1) o text rest fields fit (fields_of-some (fields_up_to (length text + 1) o text) fields rest found)
 record_front o text rest fields (Some body) fit found =
@@ -305,7 +305,7 @@ take_front raw rest text is =
     ap (λ n. take n text) size ∙ ap (take (length raw)) is ∙ take_at raw rest (length raw) refl
 
 -- the fields of a record that is text are texts
-pub record_texts : (o : Options) (text rest : List ℕ) (fields : List CsvField) → AreOptions o → record_at o text ≡ Some (Fields fields, rest)
+pub record_texts : (o : Dialect) (text rest : List ℕ) (fields : List CsvField) → IsDialect o → record_at o text ≡ Some (Fields fields, rest)
     → IsUtf8 (take (length text - length rest) text) → AreTexts fields
 record_texts o text rest fields fit found utf8 =
     let front = record_front o text rest fields (comment_body o.comment text) fit found in

@@ -1,11 +1,11 @@
 -- A line without quotes, and where the bits of a number tell of its bytes.
 use Rattle.std.specs.Prelude.{◌≡◌, ℕ, ◌<◌, ◌≤◌, ◌==◌, get_or, Bool, true, false, if◌then◌else◌, List, length}
 use Rattle.std.specs.Int.{bit_at}
-use Rattle.morsel_grammar.specs.Options.{Options}
+use Rattle.morsel_grammar.specs.Dialect.{Dialect}
 use Rattle.morsel_grammar.specs.Split.{is_quote}
 
 -- so many bytes come before the first eol byte, and none up to it is a quote
-pub record IsPlainLine (o : Options) (text : List ℕ) (len : ℕ) : Type 0 where
+pub record IsPlainLine (o : Dialect) (text : List ℕ) (len : ℕ) : Type 0 where
   pub within : len < length text
   pub inside : (k : ℕ) → k < len → (get_or text k 0 == o.eol) ≡ false
   pub ended : (get_or text len 0 == o.eol) ≡ true

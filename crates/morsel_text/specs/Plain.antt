@@ -8,7 +8,7 @@ use Rattle.morsel_meaning.specs.declared.fault.Fault.{Fault}
 use Rattle.morsel_meaning.specs.Values.{Row}
 use Rattle.morsel_frame.specs.Columns.{Values}
 use Rattle.morsel_frame.specs.Frames.{rows_of}
-use Rattle.morsel_grammar.specs.Options.{Options}
+use Rattle.morsel_grammar.specs.Dialect.{Dialect}
 use Rattle.morsel_grammar.specs.Grammar.{CsvField, Comment, Fields}
 use Rattle.morsel_grammar.specs.Cells.{CsvCell, Good, Bad, cell_of}
 use Rattle.morsel_grammar.specs.Rows.{RowOf, NoRow, IsRow, Misfit}
@@ -35,7 +35,7 @@ AreFound found (splits.Comment rest) = ⊥
 AreFound found splits.Broken = found ≡ None
 
 -- the record that a text begins with, and what follows it
-abbrev pub SplitsPlainly : Options → List ℕ → PlainSplit → Type 0
+abbrev pub SplitsPlainly : Dialect → List ℕ → PlainSplit → Type 0
 SplitsPlainly o text (splits.Fields fields rest) = record_at o text ≡ Some (Fields fields.items, rest.now)
 SplitsPlainly o text (splits.Comment rest) = (body : List ℕ) × (record_at o text ≡ Some (Comment body, rest.now))
 SplitsPlainly o text splits.Broken = record_at o text ≡ None
@@ -52,7 +52,7 @@ cell_in None = Bad
 cell_in (Some v) = Good v
 
 -- the cells of fields under as many types
-abbrev pub cells_with : Options → List ColType → List CsvField → List CsvCell
+abbrev pub cells_with : Dialect → List ColType → List CsvField → List CsvCell
 cells_with o [] fields = []
 cells_with o (kind ∷ kinds) [] = []
 cells_with o (kind ∷ kinds) (f ∷ fields) = cell_of o kind f ∷ cells_with o kinds fields
@@ -81,7 +81,7 @@ GainsValues old None rows new = (rows ≡ 0) × (new ≡ old)
 GainsValues old (Some row) rows new = (rows ≡ 1) × (length row ≡ length old) × (new ≡ with_values old row)
 
 -- the record at a place was read
-abbrev pub StepsPlainly : Options → List ColType → List Bool → ℕ → Bool → ℕ → List ℕ → List Values → Result Step Fault → List Values → Type 0
+abbrev pub StepsPlainly : Dialect → List ColType → List Bool → ℕ → Bool → ℕ → List ℕ → List Values → Result Step Fault → List Values → Type 0
 StepsPlainly o kinds used file head at text old (Ok step) new = (row : Option Row) × GainsValues old row step.rows new
     × ((n : ℕ) → left (suc n) o kinds used head at text
     ≡ row_first at row (left n o kinds used step.head (at + (length text - length step.rest.now)) step.rest.now))

@@ -3,7 +3,7 @@ use Rattle.std.specs.Prelude.{◌≡◌, Bool, true, false, Option, Some, None, 
 use Rattle.morsel_meaning.specs.declared.value.ColType.{ColType}
 use Rattle.morsel_meaning.specs.Values.{Row}
 use Rattle.morsel_frame.specs.Columns.{Values}
-use Rattle.morsel_grammar.specs.Options.{Options}
+use Rattle.morsel_grammar.specs.Dialect.{Dialect}
 use Rattle.morsel_grammar.specs.Grammar.{CsvField}
 use Rattle.morsel_grammar.specs.Cells.{CsvCell, Good, Bad, cell_of}
 use Rattle.morsel_grammar.specs.Rows.{RowOf, NoRow, IsRow, Misfit}
@@ -30,7 +30,7 @@ in_front (Some column) None = None
 in_front (Some column) (Some columns) = Some (column ∷ columns)
 
 -- the columns with a row of fields last in those that are used, where none of their cells is bad
-abbrev pub with_fields : Options → List Bool → List Values → List CsvField → Option (List Values)
+abbrev pub with_fields : Dialect → List Bool → List Values → List CsvField → Option (List Values)
 with_fields o used [] fields = Some []
 with_fields o [] (column ∷ columns) fields = Some (column ∷ columns)
 with_fields o (u ∷ used) (column ∷ columns) [] = Some (column ∷ columns)

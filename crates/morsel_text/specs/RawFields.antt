@@ -7,12 +7,12 @@ use Rattle.morsel_text.specs.declared.parts.Next.{Next}
 use Rattle.morsel_text.specs.declared.parts.Next.TheVariants as nexts
 use Rattle.morsel_text.specs.declared.split.Split.{Split}
 use Rattle.morsel_text.specs.declared.split.Split.TheVariants as splits
-use Rattle.morsel_grammar.specs.Options.{Options}
+use Rattle.morsel_grammar.specs.Dialect.{Dialect}
 use Rattle.morsel_grammar.specs.Grammar.{CsvField, Comment, Fields}
 use Rattle.morsel_grammar.specs.Split.{stops, quoted_at, with_field, ended, fields_up_to, record_at}
 
 -- no byte before this place ends an unquoted field
-abbrev pub PassedTo : Options → List ℕ → ℕ → Type 0
+abbrev pub PassedTo : Dialect → List ℕ → ℕ → Type 0
 PassedTo o text n = (k : ℕ) → k < n → stops o (get_or text k 0) ≡ false
 
 -- so many of the 16 bytes from a place are neither of two, and then comes one of the two, where there are fewer than 16
@@ -43,7 +43,7 @@ rest_of None = None
 rest_of (Some found) = Some found.1
 
 -- the fields of a record whose field `f` is followed by this
-abbrev pub next_of : Options → CsvField → (List ℕ → Option (List CsvField × List ℕ)) → Next → Option (List CsvField × List ℕ)
+abbrev pub next_of : Dialect → CsvField → (List ℕ → Option (List CsvField × List ℕ)) → Next → Option (List CsvField × List ℕ)
 next_of o f more (nexts.Field rest) = with_field f (more rest.now)
 next_of o f more (nexts.End rest) = ended o f rest.now
 next_of o f more nexts.Broken = None
@@ -60,17 +60,17 @@ with_front front None = None
 with_front front (Some found) = Some (front ++ found.0, found.1)
 
 -- the text begins with these fields, and this follows them
-abbrev pub AreRawFields : Options → List ℕ → List RawField → List ℕ → Type 0
+abbrev pub AreRawFields : Dialect → List ℕ → List RawField → List ℕ → Type 0
 AreRawFields o text fields rest = fields_up_to (length text + 1) o text ≡ Some (map shown fields, rest)
 
 -- the fields that a text begins with, and what follows them
-abbrev pub FieldsAre : Options → List ℕ → List RawField → Split → Type 0
+abbrev pub FieldsAre : Dialect → List ℕ → List RawField → Split → Type 0
 FieldsAre o text fields (splits.Fields rest) = AreRawFields o text fields rest.now
 FieldsAre o text fields (splits.Comment rest) = ⊥
 FieldsAre o text fields splits.Broken = fields_up_to (length text + 1) o text ≡ None
 
 -- the record that a text begins with, and what follows it
-abbrev pub SplitsInto : Options → List ℕ → List RawField → Split → Type 0
+abbrev pub SplitsInto : Dialect → List ℕ → List RawField → Split → Type 0
 SplitsInto o text fields (splits.Fields rest) = record_at o text ≡ Some (Fields (map shown fields), rest.now)
 SplitsInto o text fields (splits.Comment rest) = (body : List ℕ) × (record_at o text ≡ Some (Comment body, rest.now))
 SplitsInto o text fields splits.Broken = record_at o text ≡ None

@@ -1,7 +1,7 @@
 -- The places of rows' records, and what passing one record finds.
 use Rattle.std.specs.Prelude.{◌≡◌, ℕ, suc, ◌+◌, ◌-◌, Bool, false, List, [], length}
 use Rattle.morsel_meaning.specs.declared.value.ColType.{ColType}
-use Rattle.morsel_grammar.specs.Options.{Options}
+use Rattle.morsel_grammar.specs.Dialect.{Dialect}
 use Rattle.morsel_grammar.specs.Cells.{CsvCell}
 use Rattle.morsel_grammar.specs.Rows.{RowOf, NoRow, IsRow, Misfit}
 use Rattle.morsel_grammar.specs.Reading.{with_cells, reading_up_to}
@@ -17,7 +17,7 @@ IsKind found kinds.NoRow = found ≡ NoRow
 IsKind found kinds.Misfit = found ≡ Misfit
 
 -- the record that a text begins with was passed
-abbrev pub SkipsTo : Options → List ColType → Bool → ℕ → List ℕ → Skip → Type 0
+abbrev pub SkipsTo : Dialect → List ColType → Bool → ℕ → List ℕ → Skip → Type 0
 SkipsTo o ks head at text (skips.Row rest) = (cells : List CsvCell) × ((n : ℕ) →
     reading_up_to (suc n) o ks head at text ≡ with_cells at cells (reading_up_to n o ks false (at + (length text - length rest.now)) rest.now))
 SkipsTo o ks head at text (skips.Other rest awaits_header) = (n : ℕ) →

@@ -6,7 +6,7 @@ use Rattle.morsel_meaning.specs.declared.value.Field.{Field}
 use Rattle.morsel_meaning.specs.Values.{Row}
 use Rattle.morsel_frame.specs.Columns.{Values}
 use Rattle.morsel_frame.specs.Frames.{rows_of, Fit}
-use Rattle.morsel_grammar.specs.Options.{Options}
+use Rattle.morsel_grammar.specs.Dialect.{Dialect}
 use Rattle.morsel_grammar.specs.Rows.{RowOf}
 use Rattle.morsel_grammar.specs.Reading.{Reading, Read, reading_up_to, row_then, read_of, chosen}
 use Rattle.morsel_grammar.specs.Results.{IsRefused}
@@ -15,7 +15,7 @@ use Rattle.morsel_text.specs.declared.reader.Step.{Step}
 use Rattle.morsel_text.specs.declared.read.ColumnsRead.{ColumnsRead}
 
 -- what at most `n` records more give
-abbrev pub left : ℕ → Options → List ColType → List Bool → Bool → ℕ → List ℕ → Read
+abbrev pub left : ℕ → Dialect → List ColType → List Bool → Bool → ℕ → List ℕ → Read
 left n o kinds used head at text = read_of used (reading_up_to n o kinds head at text)
 
 -- a row, where there is one, in front of those that are read later
@@ -29,7 +29,7 @@ GainsRow used old None rows new = (rows ≡ 0) × (new ≡ old)
 GainsRow used old (Some row) rows new = (rows ≡ 1) × (length row ≡ length (chosen used old)) × (new ≡ with_row used old row)
 
 -- the record at a place was read
-abbrev pub StepsTo : Options → List Bool → ℕ → Bool → ℕ → List ℕ → List Values → Result Step Fault → List Values → Type 0
+abbrev pub StepsTo : Dialect → List Bool → ℕ → Bool → ℕ → List ℕ → List Values → Result Step Fault → List Values → Type 0
 StepsTo o used file head at text old (Ok step) new = (row : Option Row) × GainsRow used old row step.rows new
     × ((n : ℕ) → left (suc n) o (column_kinds old) used head at text
     ≡ row_first at row (left n o (column_kinds old) used step.head (at + (length text - length step.rest.now)) step.rest.now))

@@ -2,7 +2,7 @@
 ghost use Rattle.std.specs.Prelude.{◌≡◌, ◌+◌, ◌<◌, ◌≤◌, ◌^◌, List, length, map, IfOk, IsOkUnless};
 ghost use Rattle.morsel_meaning.specs.declared.value.ColType.{ColType};
 ghost use Rattle.morsel_meaning.specs.Values.{kinds_of};
-ghost use Rattle.morsel_grammar.specs.Options.{Options};
+ghost use Rattle.morsel_grammar.specs.Dialect.{Dialect};
 ghost use Rattle.morsel_grammar.specs.Grammar.{Fields};
 ghost use Rattle.morsel_grammar.specs.Rows.{row_of};
 ghost use Rattle.morsel_grammar.specs.Reading.{reading, row_place};
@@ -40,7 +40,7 @@ pub enum Skip<'a> {
 
 /// What a record of fields is to the rows of so many columns.
 fn row_kind(fields: &[RawField<'_>], width: usize) -> RowKind
-    ensures { (o : Options) (ks : List ColType) → length ks ≡ width →
+    ensures { (o : Dialect) (ks : List ColType) → length ks ≡ width →
         IsKind (row_of o ks (Fields (map shown fields.now))) result }
 {
     if is_empty(fields) {

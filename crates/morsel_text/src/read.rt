@@ -1,7 +1,7 @@
 //! Reading whole records into a frame.
 ghost use Rattle.std.specs.Prelude.{◌≡◌, ◌+◌, ◌<◌, ◌≤◌, ◌^◌, length, map, IfOk, IsTrue, IsUtf8};
 ghost use Rattle.morsel_meaning.specs.Values.{kinds_of};
-ghost use Rattle.morsel_grammar.specs.Options.{AreOptions};
+ghost use Rattle.morsel_grammar.specs.Dialect.{IsDialect};
 ghost use Rattle.morsel_grammar.specs.Grammar.{Fields};
 ghost use Rattle.morsel_grammar.specs.Rows.{row_of};
 ghost use Rattle.morsel_grammar.specs.Reading.{reading, read_of, chosen};
@@ -58,7 +58,7 @@ fn read_record<'a>(
 ) -> Result<Step<'a>, Fault>
     requires some { 0 < length text.now }
     requires used { length reader.now.used.now ≡ length columns.old.items }
-    requires fit { AreOptions reader.now.options.now }
+    requires fit { IsDialect reader.now.options.now }
     ensures steps { StepsTo reader.now.options.now reader.now.used.now reader.now.file head at text.now
         columns.old.items result columns.new.items }
     ensures shorter { IfOk result (λ step. length step.rest.now < length text.now) }
@@ -112,7 +112,7 @@ fn read_turn<'a>(
 ) -> Result<Step<'a>, Fault>
     requires some { 0 < length text.now }
     requires used { length reader.now.used.now ≡ length columns.old.items }
-    requires fit { AreOptions reader.now.options.now }
+    requires fit { IsDialect reader.now.options.now }
     requires utf8 { IsTrue is_utf8 → IsUtf8 text.now }
     ensures turns { TurnsTo reader.now.options.now reader.now.used.now reader.now.file head at text.now
         columns.old.items result columns.new.items }
@@ -151,7 +151,7 @@ fn read_all(
 ) -> Result<(usize, bool), Fault>
     requires places { at + length bytes.now < 2 ^ 64 }
     requires used { length reader.now.used.now ≡ length columns.old.items }
-    requires fit { AreOptions reader.now.options.now }
+    requires fit { IsDialect reader.now.options.now }
     requires empty { AreHigh 0 (chosen reader.now.used.now columns.old.items) }
     ensures { ReadsAll reader.now.file reader.now.used.now
         (read_of reader.now.used.now
@@ -207,7 +207,7 @@ fn read_columns(
 ) -> Result<ColumnsRead, Fault>
     requires places { at + length bytes.now < 2 ^ 64 }
     requires used { length reader.now.used.now ≡ length reader.now.schema.now }
-    requires fit { AreOptions reader.now.options.now }
+    requires fit { IsDialect reader.now.options.now }
     ensures { ReadsColumns reader.now.file reader.now.schema.now reader.now.used.now
         (read_of reader.now.used.now
         (reading reader.now.options.now (kinds_of reader.now.schema.now) head at bytes.now)) result }
@@ -231,7 +231,7 @@ fn read_frame(
 ) -> Result<(Frame, bool), Fault>
     requires places { at + length bytes.now < 2 ^ 64 }
     requires used { length reader.now.used.now ≡ length reader.now.schema.now }
-    requires fit { AreOptions reader.now.options.now }
+    requires fit { IsDialect reader.now.options.now }
     ensures { ReadsRecords reader.now.file reader.now.schema.now reader.now.used.now
         (read_of reader.now.used.now
         (reading reader.now.options.now (kinds_of reader.now.schema.now) head at bytes.now)) result }

@@ -4,7 +4,7 @@
 //! which would make the loops over records and cells pass more on.
 ghost use Rattle.std.specs.Prelude.{◌≡◌, ◌==◌, ◌+◌, not, ◌≤◌, length, take, drop, IfSome, IfOk, IsOkUnless, option_copied, OnOk};
 ghost use Rattle.std.specs.List.{prefix_len};
-ghost use Rattle.morsel_grammar.specs.Options.{AreOptions};
+ghost use Rattle.morsel_grammar.specs.Dialect.{IsDialect};
 ghost use Rattle.morsel_grammar.specs.Split.{plain_at, quoted_at, in_quotes, field_at, line_at};
 ghost use Rattle.morsel_text.specs.RawFields.{IsRun, PassedTo, content_of, shown_found, rest_of, FieldsAre, SplitsInto, split_len};
 
@@ -223,7 +223,7 @@ pub fn split_record<'a>(
 ) -> Result<Split<'a>, AllocError>
     ensures value { IfOk result (λ split. SplitsInto options.now text.now fields.new.items split) }
     ensures within { IfOk result (λ split. split_len split ≤ length text.now) }
-    ensures fit { AreOptions options.now }
+    ensures fit { IsDialect options.now }
 {
     if let Some(prefix) = options.comment() {
         if let Some(body) = behind_front(text, prefix.as_str().as_bytes()) {

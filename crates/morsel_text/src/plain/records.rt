@@ -1,6 +1,6 @@
 //! The record that a text begins with, found byte by byte.
 ghost use Rattle.std.specs.Prelude.{◌≡◌, ◌≤◌, ◌+◌, length, take, drop, IfOk, IfSome, IsOkUnless};
-ghost use Rattle.morsel_grammar.specs.Options.{AreOptions};
+ghost use Rattle.morsel_grammar.specs.Dialect.{IsDialect};
 ghost use Rattle.morsel_grammar.specs.Rows.{is_empty};
 ghost use Rattle.morsel_grammar.specs.Split.{plain_at, quoted_at, in_quotes, field_at, last_field, fields_up_to, line_at};
 ghost use Rattle.morsel_text.specs.Plain.{found_plainly, AreFound, SplitsPlainly, plain_split_len};
@@ -60,7 +60,7 @@ pub fn split<'a>(
 ) -> Result<PlainSplit<'a>, Fault>
     ensures value { IfOk result (λ split. SplitsPlainly options.now text.now split) }
     ensures within { IfOk result (λ split. plain_split_len split ≤ length text.now) }
-    ensures fit { AreOptions options.now }
+    ensures fit { IsDialect options.now }
     ensures out_of_memory { IsOkUnless result Fault.OutOfMemory }
 {
     if let Some(prefix) = options.comment() {

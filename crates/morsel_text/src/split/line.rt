@@ -1,6 +1,6 @@
 //! A record without quotes that ends within 64 bytes, split by one look at them.
 ghost use Rattle.std.specs.Prelude.{◌≡◌, ◌==◌, ◌<◌, ◌≤◌, ◌+◌, IfSome, length, drop};
-ghost use Rattle.morsel_grammar.specs.Options.{AreOptions};
+ghost use Rattle.morsel_grammar.specs.Dialect.{IsDialect};
 ghost use Rattle.morsel_grammar.specs.Split.{is_quote};
 ghost use Rattle.morsel_text.specs.RawFields.{AreRawFields};
 ghost use Rattle.morsel_text.specs.Lines.{IsPlainLine, Marks};
@@ -21,7 +21,7 @@ pub fn split_short<'a>(
     options: &CsvOptions,
     fields: &mut Vec<RawField<'a>>,
 ) -> Option<&'a [u8]>
-    requires { AreOptions options.now }
+    requires { IsDialect options.now }
     ensures value { IfSome result (λ rest. AreRawFields options.now text.now fields.new.items rest.now) }
     ensures within { IfSome result (λ rest. length rest.now ≤ length text.now) }
 {
@@ -68,7 +68,7 @@ fn split_line<'a>(
     options: &CsvOptions,
     fields: &mut Vec<RawField<'a>>,
 ) -> Option<&'a [u8]>
-    requires fit { AreOptions options.now }
+    requires fit { IsDialect options.now }
     requires short { len < LANES }
     requires line { IsPlainLine options.now text.now len }
     requires marked { Marks (λ b. b == options.now.separator) text.now LANES separators }

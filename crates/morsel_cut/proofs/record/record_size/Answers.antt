@@ -1,6 +1,6 @@
 use Rattle.std.proofs.Common.{◌∙◌, List, ℕ, sym, ap, arith}
 use Rattle.std.specs.Prelude.{Option, Some, None}
-use Rattle.morsel_grammar.specs.Options.{Options}
+use Rattle.morsel_grammar.specs.Dialect.{Dialect}
 use Rattle.morsel_cut.specs.Places.{options_with}
 use Rattle.morsel_cut.specs.FirstEnds.{record_size}
 use Rattle.morsel_cut.proofs.SizeLemmas.{bare_size, record_size-le, record_size-some}
@@ -17,7 +17,7 @@ returns-in-None-clause-value c =
     c.plain_size.ensures
     ∙ sym (bare_size c.of-signs.result c.args.text.now)
     ∙ ap (λ (p : Option (List ℕ)). record_size (options_with c.of-signs.result p) c.args.text.now) c.in-None.ensures.value
-    ∙ ap (λ (o : Options). record_size o c.args.text.now) c.of-signs.ensures
+    ∙ ap (λ (o : Dialect). record_size o c.args.text.now) c.of-signs.ensures
 
 pub returns-in-None-clause-within : goal.returns-in-None-clause-within
 returns-in-None-clause-within c =

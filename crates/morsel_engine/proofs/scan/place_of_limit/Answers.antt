@@ -3,7 +3,7 @@ use Rattle.std.specs.Prelude.{true}
 use Rattle.std.specs.List.{slice_get}
 use Rattle.std.proofs.lemmas.Result.{IfOk-weaker}
 use Rattle.morsel_meaning.specs.Values.{kinds_of}
-use Rattle.morsel_grammar.specs.Options.{standard}
+use Rattle.morsel_grammar.specs.Dialect.{standard}
 use Rattle.morsel_grammar.specs.Reading.{reading, places_of}
 use Rattle.morsel_engine.proofs.LimitLemmas.{short-none, row_place-slice_get}
 use Rattle.morsel_engine.proofs.scan.place_of_limit.Goals as goal

@@ -1,5 +1,5 @@
 use Rattle.std.proofs.Common.{◌↔◌, drop}
-use Rattle.morsel_grammar.specs.Options.{AreAscii, IsWithout}
+use Rattle.morsel_grammar.specs.Dialect.{AreAscii, IsWithout}
 use Rattle.morsel_grammar.proofs.options.are_comment_bytes.Given as goal
 
 -- what is left decides

@@ -2,7 +2,7 @@ use Rattle.std.proofs.Common.{◌≡◌, ◌∙◌, ℕ, Bool, sym, ap, subst, l
 use Rattle.std.proofs.lemmas.Result.{err_from_is_err_and}
 use Rattle.morsel_meaning.specs.declared.value.ColType.{ColType}
 use Rattle.morsel_meaning.specs.declared.fault.Fault.{Fault}
-use Rattle.morsel_grammar.specs.Options.{Options}
+use Rattle.morsel_grammar.specs.Dialect.{Dialect}
 use Rattle.morsel_meaning.specs.Values.{Row, kinds_of}
 use Rattle.morsel_frame.specs.Columns.{Values}
 use Rattle.morsel_frame.specs.Frames.{rows_of, Fit}
@@ -43,7 +43,7 @@ returns c =
     )
 
 -- a fault under the types of the columns is one under those of the schema
-same_refused : (file : ℕ) (o : Options) (used : List Bool) (head : Bool) (at : ℕ) (bytes : List ℕ) (fault : Fault) (ks kinds : List ColType) → ks ≡ kinds
+same_refused : (file : ℕ) (o : Dialect) (used : List Bool) (head : Bool) (at : ℕ) (bytes : List ℕ) (fault : Fault) (ks kinds : List ColType) → ks ≡ kinds
     → IsRefused file (read_of used (reading o ks head at bytes)).refusal fault → IsRefused file (read_of used (reading o kinds head at bytes)).refusal fault
 same_refused file o used head at bytes fault ks kinds same refused =
     subst (λ (types : List ColType). IsRefused file (read_of used (reading o types head at bytes)).refusal fault) same refused
