@@ -10,7 +10,7 @@ use Rattle.morsel_scan.specs.ScanColumns.{output_fields}
 use Rattle.morsel_scan.specs.ScanFlaws.{scan_flaw}
 use Rattle.morsel_query.specs.declared.scan_plan.ScanPlan.{ScanPlan}
 use Rattle.morsel_query.specs.declared.plans.QueryPlan.{QueryPlan}
-use Rattle.morsel_query.specs.Queries.{FileFormat, CsvFiles, QueryParts, scan_of}
+use Rattle.morsel_query.specs.Queries.{FileFormat, CsvFiles, QueryParts, scan_asked}
 
 -- the plan of a scan
 abbrev pub planned_scan : Scan → ScanPlan
@@ -18,7 +18,7 @@ planned_scan scan = record { output = output_fields scan }
 
 -- the plan of a query: later parts stand on the columns that those before give
 abbrev pub planned : QueryParts → QueryPlan
-planned query = record { left = planned_scan (scan_of query.left) }
+planned query = record { left = planned_scan (scan_asked query.left) }
 
 -- the columns of a query's rows
 abbrev pub output_of : QueryPlan → List Field
@@ -35,4 +35,4 @@ side_fault (CsvFiles fields options) scan = first_fault (scan_flaw scan) (slice_
 
 -- why a query has no plan: the first fault that is due
 abbrev pub query_fault : QueryParts → Option Fault
-query_fault query = side_fault query.left.format (scan_of query.left)
+query_fault query = side_fault query.left.format (scan_asked query.left)

@@ -53,8 +53,8 @@ abbrev pub scan_over : List Field → FileOptions → Option PredNode → Scan
 scan_over fields asked filter = record { fields = fields; asked = asked; filter = filter }
 
 -- what is asked of the rows of files with the columns that their format has
-abbrev pub scan_of : FileScan → Scan
-scan_of files = scan_over (fields_of_format files.format) files.asked files.filter
+abbrev pub scan_asked : FileScan → Scan
+scan_asked files = scan_over (fields_of_format files.format) files.asked files.filter
 
 -- the fields that a choice of columns keeps; all where it names none
 abbrev pub kept_fields : List (List ℕ) → List Field → List Field

@@ -1,7 +1,7 @@
 //! The plan of a query: where its names meet the columns of its files, once.
 ghost use Rattle.std.specs.Prelude.{◌≡◌, IfOk};
 ghost use Rattle.morsel_frame.specs.Refusals.{Refuses};
-ghost use Rattle.morsel_query.specs.Queries.{file_format, file_scan, scan_of};
+ghost use Rattle.morsel_query.specs.Queries.{file_format, file_scan, scan_asked};
 ghost use Rattle.morsel_query.specs.Plans.{planned, planned_scan, side_fault, slice_fault, query_fault};
 
 use crate::Query;
@@ -39,8 +39,8 @@ pub fn check(alloc: Global, query: &Query) -> Result<(), Fault>
 
 /// The plan of one side.
 fn plan_side(alloc: Global, scan: &ScanSpec) -> Result<ScanPlan, Fault>
-    ensures ok { IfOk result (λ plan. plan ≡ planned_scan (scan_of (file_scan scan.now))) }
-    ensures refused { Refuses (side_fault (file_format scan.now.format) (scan_of (file_scan scan.now))) result }
+    ensures ok { IfOk result (λ plan. plan ≡ planned_scan (scan_asked (file_scan scan.now))) }
+    ensures refused { Refuses (side_fault (file_format scan.now.format) (scan_asked (file_scan scan.now))) result }
 {
     let ScanFormat::Csv { schema, .. } = &scan.format;
     let plan = plan_scan(alloc, schema, &scan.file_options, &scan.filter)?;

@@ -1,0 +1,116 @@
+-- Which query a JSON tree is: a table, with a line for each key, its kind and its default. A line whose default is `None` is of a key
+-- that has to be there. No object has other keys than those of its lines.
+use Rattle.std.specs.Prelude.{◌≡◌, ℕ, true, false, codes, if◌then◌else◌, Option, Some, None, option_map, option_and_then, List, [], ◌∷◌}
+use Rattle.std.specs.Str.{bytes_eq}
+use Rattle.serde_json.specs.Data.{Data}
+use Rattle.serde_json.specs.Find.{as_str, as_bool}
+use Rattle.morsel_meaning.specs.declared.value.ColType.{ColType}
+use Rattle.morsel_meaning.specs.declared.value.ColType.TheVariants as types
+use Rattle.morsel_meaning.specs.declared.value.Field.{Field}
+use Rattle.morsel_scan.specs.declared.spec.RowIndex.{RowIndex}
+use Rattle.morsel_query.specs.RunOptions.{RunOptions, standard_options}
+use Rattle.morsel_query_text.specs.Trees.{has_only, at_key, IsAtKey, some_of, text_or_null, number, narrow_number, signed_number, list_of, pair_of}
+use Rattle.morsel_query_text.specs.Predicates.{predicate}
+use Rattle.morsel_query_text.specs.Written.{WrittenCsv, WrittenFormat, WrittenCsvFiles, WrittenScan, WrittenSink, WrittenNdJson, WrittenQuery, standard_csv}
+
+-- ---- kinds
+
+-- the type that a word names
+abbrev pub type_named : List ℕ → Option ColType
+type_named word =
+    if bytes_eq word (codes "int") then Some types.Int
+    else (if bytes_eq word (codes "bool") then Some types.Bool else (if bytes_eq word (codes "text") then Some types.Text else None))
+
+-- `[name, type]`
+abbrev pub field : Data → Option Field
+field tree = option_map (λ (pair : List ℕ × ColType). record { name = pair.0; kind = pair.1 }) (pair_of as_str (λ word. option_and_then type_named (as_str word)) tree)
+
+-- `[name, offset]`
+abbrev pub row_index : Data → Option RowIndex
+row_index tree = option_map (λ (pair : List ℕ × ℕ). record { name = pair.0; offset = pair.1 }) (pair_of as_str narrow_number tree)
+
+-- ---- objects
+
+-- the keys of `csv`
+abbrev pub csv_keys : List (List ℕ)
+csv_keys = codes "separator" ∷ codes "quote" ∷ codes "eol" ∷ codes "comment" ∷ codes "has_header" ∷ codes "null" ∷ codes "ignore_errors" ∷ []
+
+-- `csv` of a scan: how CSV texts are written
+pub record CsvOf (tree : Data) (csv : WrittenCsv) : Type 0 where
+  pub keys : has_only csv_keys tree ≡ true
+  pub separator : at_key (codes "separator") as_str (Some standard_csv.separator) tree ≡ Some csv.separator
+  pub quote : at_key (codes "quote") text_or_null (Some standard_csv.quote) tree ≡ Some csv.quote
+  pub eol : at_key (codes "eol") as_str (Some standard_csv.eol) tree ≡ Some csv.eol
+  pub comment : at_key (codes "comment") text_or_null (Some standard_csv.comment) tree ≡ Some csv.comment
+  pub has_header : at_key (codes "has_header") as_bool (Some standard_csv.has_header) tree ≡ Some csv.has_header
+  pub null_text : at_key (codes "null") as_str (Some standard_csv.null_text) tree ≡ Some csv.null_text
+  pub ignore_errors : at_key (codes "ignore_errors") as_bool (Some standard_csv.ignore_errors) tree ≡ Some csv.ignore_errors
+
+-- the keys of a scan of CSV files
+abbrev pub csv_scan_keys : List (List ℕ)
+csv_scan_keys = codes "format" ∷ codes "files" ∷ codes "schema" ∷ codes "csv" ∷ codes "columns" ∷ codes "slice" ∷ codes "row_index" ∷ codes "path" ∷ codes "filter" ∷ []
+
+-- `format` of a scan of CSV files, and the keys of such a scan alone
+pub record CsvFilesOf (tree : Data) (fields : List Field) (written : WrittenCsv) : Type 0 where
+  pub keys : has_only csv_scan_keys tree ≡ true
+  pub format : at_key (codes "format") as_str None tree ≡ Some (codes "csv")
+  pub schema : at_key (codes "schema") (list_of field) None tree ≡ Some fields
+  pub csv : IsAtKey (codes "csv") CsvOf (Some standard_csv) tree written
+
+-- `format` of a scan, and the keys of that format alone
+abbrev pub FormatOf : Data → WrittenFormat → Type 0
+FormatOf tree (WrittenCsvFiles fields csv) = CsvFilesOf tree fields csv
+
+-- `left`: a scan
+pub record ScanOf (tree : Data) (scan : WrittenScan) : Type 0 where
+  pub format : FormatOf tree scan.format
+  pub files : at_key (codes "files") (list_of as_str) None tree ≡ Some scan.files
+  pub columns : at_key (codes "columns") (list_of as_str) (Some []) tree ≡ Some scan.columns
+  pub slice : at_key (codes "slice") (some_of (pair_of signed_number number)) (Some None) tree ≡ Some scan.slice
+  pub row_index : at_key (codes "row_index") (some_of row_index) (Some None) tree ≡ Some scan.row_index
+  pub path : at_key (codes "path") (some_of as_str) (Some None) tree ≡ Some scan.path
+  pub allow_missing_columns : at_key (codes "allow_missing_columns") as_bool (Some false) tree ≡ Some scan.allow_missing_columns  -- no key of CSV files
+  pub filter : at_key (codes "filter") (some_of predicate) (Some None) tree ≡ Some scan.filter
+
+-- the keys of an NDJSON sink
+abbrev pub ndjson_keys : List (List ℕ)
+ndjson_keys = codes "format" ∷ []
+
+-- `format` of an NDJSON sink, which has no other key
+pub record NdJsonOf (tree : Data) : Type 0 where
+  pub keys : has_only ndjson_keys tree ≡ true
+  pub format : at_key (codes "format") as_str None tree ≡ Some (codes "ndjson")
+
+-- `sink`
+abbrev pub SinkOf : Data → WrittenSink → Type 0
+SinkOf tree WrittenNdJson = NdJsonOf tree
+
+-- the keys of `options`
+abbrev pub option_keys : List (List ℕ)
+option_keys = codes "workers" ∷ codes "morsel_rows" ∷ codes "chunk_bytes" ∷ codes "distributor_buffer" ∷ codes "linearizer_buffer" ∷ codes "min_values_per_task" ∷ codes "random_state" ∷ []
+
+-- `options`
+pub record OptionsOf (tree : Data) (options : RunOptions) : Type 0 where
+  pub keys : has_only option_keys tree ≡ true
+  pub workers : at_key (codes "workers") number (Some standard_options.workers) tree ≡ Some options.workers
+  pub morsel_rows : at_key (codes "morsel_rows") number (Some standard_options.morsel_rows) tree ≡ Some options.morsel_rows
+  pub chunk_bytes : at_key (codes "chunk_bytes") number (Some standard_options.chunk_bytes) tree ≡ Some options.chunk_bytes
+  pub distributor_buffer : at_key (codes "distributor_buffer") number (Some standard_options.distributor_buffer) tree ≡ Some options.distributor_buffer
+  pub linearizer_buffer : at_key (codes "linearizer_buffer") number (Some standard_options.linearizer_buffer) tree ≡ Some options.linearizer_buffer
+  pub min_values_per_task : at_key (codes "min_values_per_task") number (Some standard_options.min_values_per_task) tree ≡ Some options.min_values_per_task
+  pub random_state : at_key (codes "random_state") number (Some standard_options.random_state) tree ≡ Some options.random_state
+
+-- the keys of a query
+abbrev pub query_keys : List (List ℕ)
+query_keys = codes "left" ∷ codes "sink" ∷ codes "options" ∷ []
+
+-- a query
+pub record QueryOf (tree : Data) (query : WrittenQuery) : Type 0 where
+  pub keys : has_only query_keys tree ≡ true
+  pub left : IsAtKey (codes "left") ScanOf None tree query.left
+  pub sink : IsAtKey (codes "sink") SinkOf None tree query.sink
+  pub options : IsAtKey (codes "options") OptionsOf (Some standard_options) tree query.options
+
+-- a tree is at most one query
+abbrev pub IsOneQuery : Type 0
+IsOneQuery = (tree : Data) (a b : WrittenQuery) → QueryOf tree a → QueryOf tree b → a ≡ b

@@ -1,0 +1,91 @@
+-- A query as its text has it, before its flaws are looked for; and how a query is written.
+use Rattle.std.specs.Prelude.{ℕ, ℤ, Bool, Option, option_map, List, [], ◌∷◌}
+use Rattle.serde_json.specs.Data.{Data}
+use Rattle.morsel_meaning.specs.declared.value.Field.{Field}
+use Rattle.morsel_grammar.specs.Dialect.{Dialect, standard}
+use Rattle.morsel_scan.specs.declared.spec.RowIndex.{RowIndex}
+use Rattle.morsel_query.specs.RunOptions.{RunOptions}
+use Rattle.morsel_query.specs.Queries.{FileFormat, CsvFiles, FileScan, QueryParts}
+use Rattle.morsel_query.specs.declared.sink.SinkFormat.{SinkFormat}
+use Rattle.morsel_query.specs.declared.sink.SinkFormat.TheVariants.{NdJson}
+use Rattle.morsel_query_text.specs.Predicates.{pred_tree}
+
+-- how CSV texts are written, each byte as a text
+pub record WrittenCsv : Type 0 where
+  pub separator : List ℕ
+  pub quote : Option (List ℕ)
+  pub eol : List ℕ
+  pub comment : Option (List ℕ)
+  pub has_header : Bool
+  pub null_text : List ℕ
+  pub ignore_errors : Bool
+
+-- the format of files, and what a query has for that format alone
+pub data WrittenFormat : Type 0 where
+  WrittenCsvFiles : List Field → WrittenCsv → WrittenFormat
+
+-- a scan
+pub record WrittenScan : Type 0 where
+  pub format : WrittenFormat
+  pub files : List (List ℕ)
+  pub columns : List (List ℕ)
+  pub slice : Option (ℤ × ℕ)
+  pub row_index : Option RowIndex
+  pub path : Option (List ℕ)
+  pub allow_missing_columns : Bool
+  pub filter : Option Data  -- the tree of its predicate
+
+-- the format of a sink, and what a query has for that format alone
+pub data WrittenSink : Type 0 where
+  WrittenNdJson : WrittenSink
+
+-- a query, without the name of its sink
+pub record WrittenQuery : Type 0 where
+  pub left : WrittenScan
+  pub sink : WrittenSink
+  pub options : RunOptions
+
+-- how the options of CSV texts are written
+abbrev pub csv_written : Dialect → WrittenCsv
+csv_written options = record {
+  separator = options.separator ∷ [];
+  quote = option_map (λ (byte : ℕ). byte ∷ []) options.quote;
+  eol = options.eol ∷ [];
+  comment = options.comment;
+  has_header = options.has_header;
+  null_text = options.null_text;
+  ignore_errors = options.ignore_errors;
+}
+
+-- what stands where a query says nothing of how CSV texts are written
+abbrev pub standard_csv : WrittenCsv
+standard_csv = csv_written standard
+
+-- how a format is written
+abbrev pub format_written : FileFormat → WrittenFormat
+format_written (CsvFiles fields options) = WrittenCsvFiles fields (csv_written options)
+
+-- how a scan is written
+abbrev pub scan_written : FileScan → WrittenScan
+scan_written scan = record {
+  format = format_written scan.format;
+  files = scan.sources;
+  columns = scan.asked.columns;
+  slice = scan.asked.slice;
+  row_index = scan.asked.row_index;
+  path = scan.asked.path;
+  allow_missing_columns = scan.asked.allow_missing_columns;
+  filter = option_map pred_tree scan.filter;
+}
+
+-- how the format of a sink is written
+abbrev pub sink_written : SinkFormat → WrittenSink
+sink_written NdJson = WrittenNdJson
+
+-- how a query is written, with the options by which it is run
+abbrev pub query_written : QueryParts → RunOptions → WrittenQuery
+query_written query options = record {
+  left = scan_written query.left;
+  sink = sink_written query.sink.format;
+  options = options;
+}

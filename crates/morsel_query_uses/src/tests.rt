@@ -1,0 +1,3 @@
+//! Queries made by hand and read of texts.
+mod options;
+mod texts;
