@@ -146,11 +146,7 @@ separator_no_eol o b fit is = other_byte b o.eol (λ same. fit.apart (sym (same_
 separator_no_return : (o : Dialect) (b : ℕ) → IsDialect o → (b == o.separator) ≡ true → (b == 13) ≡ false
 separator_no_return o b fit is = other_byte b 13 (λ same. fit.separator_no_return (sym (same_byte b o.separator is) ∙ same))
 
-<<<<<<< HEAD
 pub quote_no_eol : (o : Dialect) (b : ℕ) → IsDialect o → is_quote o.quote b ≡ true → (b == o.eol) ≡ false
-=======
-quote_no_eol : (o : Dialect) (b : ℕ) → IsDialect o → is_quote o.quote b ≡ true → (b == o.eol) ≡ false
->>>>>>> 01b2d622e4c485d4a14be02b117c7f24bc3c2ba6
 quote_no_eol o b fit is = not_so (b == o.eol) (λ same. true_not_false (is_quote o.quote b) is (is_quote-stop o b fit (either_second (b == o.separator) (b == o.eol) same)))
 
 quote_no_return : (o : Dialect) (b : ℕ) → IsDialect o → is_quote o.quote b ≡ true → (b == 13) ≡ false

@@ -27,17 +27,10 @@ one_more step test s front b before len last s' before_is len_is s'_is last_is =
     by true = len_is
     by false = before_is
 
-<<<<<<< HEAD
 pub passes_on : (o : Dialect) (s : CutState) (text : List ℕ) (at : ℕ) (passed : StateRun) (state : MachineState) (next : StateRun) → at < length text → Passes o s (take at text) passed
     → cut_state state ≡ cut_step o (cut_state passed.state) (get_or text at 0) → next.state ≡ state
     → next.end ≡ (if is_after_eol (cut_place state.place) then at + 1 else passed.end)
     → next.begin ≡ (if begins_record (cut_place state.place) then at + 1 else passed.begin)
-=======
-pub passes_on : (o : Dialect) (s : CutState) (text : List ℕ) (at : ℕ) (passed : Passed) (standing : Standing) (next : Passed) → at < length text → Passes o s (take at text) passed
-    → cut_state standing ≡ cut_step o (cut_state passed.standing) (get_or text at 0) → next.standing ≡ standing
-    → next.end ≡ (if is_after_eol (cut_place standing.place) then at + 1 else passed.end)
-    → next.begin ≡ (if begins_record (cut_place standing.place) then at + 1 else passed.begin)
->>>>>>> 01b2d622e4c485d4a14be02b117c7f24bc3c2ba6
     → Passes o s (take (at + 1) text) next
 passes_on o s text at passed state next within first state_is same end_is begin_is =
     let front = take at text in
@@ -50,17 +43,10 @@ passes_on o s text at passed state next within first state_is same end_is begin_
       begin_is = one_more (cut_step o) (λ (x : CutState). begins_record x.place) s front b passed.begin (at + 1) next.begin (cut_state state) first.begin_is size stepped begin_is;
     })
 
-<<<<<<< HEAD
 pub passed_end-le : (o : Dialect) (s : CutState) (bytes : List ℕ) (passed : StateRun) → Passes o s bytes passed → passed.end ≤ length bytes
 passed_end-le o s bytes passed passes = omega (arith, passes.end_is, last_place-within (cut_step o) (λ (x : CutState). is_after_eol x.place) s bytes)
 
 pub passed_begin-le : (o : Dialect) (s : CutState) (bytes : List ℕ) (passed : StateRun) → Passes o s bytes passed → passed.begin ≤ length bytes
-=======
-pub passed_end-le : (o : Dialect) (s : CutState) (bytes : List ℕ) (passed : Passed) → Passes o s bytes passed → passed.end ≤ length bytes
-passed_end-le o s bytes passed passes = omega (arith, passes.end_is, last_place-within (cut_step o) (λ (x : CutState). is_after_eol x.place) s bytes)
-
-pub passed_begin-le : (o : Dialect) (s : CutState) (bytes : List ℕ) (passed : Passed) → Passes o s bytes passed → passed.begin ≤ length bytes
->>>>>>> 01b2d622e4c485d4a14be02b117c7f24bc3c2ba6
 passed_begin-le o s bytes passed passes = omega (arith, passes.begin_is, last_place-within (cut_step o) (λ (x : CutState). begins_record x.place) s bytes)
 
 -- without comments a state is its place
@@ -83,11 +69,7 @@ pub quiet_after : (o : Dialect) (place : CutPlace) (bytes : List ℕ) → o.comm
 quiet_after o place [] none = refl
 quiet_after o place (b ∷ bs) none = ap (λ (s : CutState). state_after (cut_step o) s bs) (quiet_step o place b none) ∙ quiet_after o (place_step o place b) bs none
 
-<<<<<<< HEAD
 pub quiet_last : (o : Dialect) (test : CutPlace → Bool) (place : CutPlace) (bytes : List ℕ) → o.comment ≡ None
-=======
-quiet_last : (o : Dialect) (test : CutPlace → Bool) (place : CutPlace) (bytes : List ℕ) → o.comment ≡ None
->>>>>>> 01b2d622e4c485d4a14be02b117c7f24bc3c2ba6
     → last_place (cut_step o) (λ (s : CutState). test s.place) (lone place) bytes ≡ last_place (place_step o) test place bytes
 quiet_last o test place [] none = refl
 quiet_last o test place (b ∷ bs) none =

@@ -17,11 +17,7 @@ last_cut-within o text = last_place-within (cut_step o) (λ (s : CutState). is_a
 abbrev pub chunk_end : Dialect → List ℕ → List ℕ → ℕ
 chunk_end o came chunk = last_end o (cut_after o (first_state o AtOpening) came) chunk
 
-<<<<<<< HEAD
 pub last_cut-append : (o : Dialect) (came chunk : List ℕ) → last_cut o (came ++ chunk) ≡ joined_place (last_cut o came) (length came) (chunk_end o came chunk)
-=======
-last_cut-append : (o : Dialect) (came chunk : List ℕ) → last_cut o (came ++ chunk) ≡ joined_place (last_cut o came) (length came) (chunk_end o came chunk)
->>>>>>> 01b2d622e4c485d4a14be02b117c7f24bc3c2ba6
 last_cut-append o came chunk = last_end-append o (first_state o AtOpening) came chunk
 
 place_grows : (before n later : ℕ) → before ≤ n → before ≤ joined_place before n later
@@ -97,11 +93,7 @@ drop_taken zero bytes = refl
 drop_taken (suc n) [] = refl
 drop_taken (suc n) (b ∷ bytes) = drop_taken n bytes
 
-<<<<<<< HEAD
 pub cut_none : (o : Dialect) (came chunk : List ℕ) → chunk_end o came chunk ≡ 0 → last_cut o (came ++ chunk) ≡ last_cut o came
-=======
-cut_none : (o : Dialect) (came chunk : List ℕ) → chunk_end o came chunk ≡ 0 → last_cut o (came ++ chunk) ≡ last_cut o came
->>>>>>> 01b2d622e4c485d4a14be02b117c7f24bc3c2ba6
 cut_none o came chunk none = last_cut-append o came chunk ∙ ap (joined_place (last_cut o came) (length came)) none
 
 piece_none : (o : Dialect) (came chunk : List ℕ) → chunk_end o came chunk ≡ 0 → chunk_piece o came chunk ≡ []
@@ -112,11 +104,7 @@ joined_some : (before n later : ℕ) → later ≢ 0 → joined_place before n l
 joined_some before n zero some = absurd (some refl)
 joined_some before n (suc later) some = refl
 
-<<<<<<< HEAD
 pub cut_some : (o : Dialect) (came chunk : List ℕ) → chunk_end o came chunk ≢ 0 → last_cut o (came ++ chunk) ≡ length came + chunk_end o came chunk
-=======
-cut_some : (o : Dialect) (came chunk : List ℕ) → chunk_end o came chunk ≢ 0 → last_cut o (came ++ chunk) ≡ length came + chunk_end o came chunk
->>>>>>> 01b2d622e4c485d4a14be02b117c7f24bc3c2ba6
 cut_some o came chunk some = last_cut-append o came chunk ∙ joined_some (last_cut o came) (length came) (chunk_end o came chunk) some
 
 pub take-append-add : (front back : List ℕ) (n : ℕ) → take (length front + n) (front ++ back) ≡ front ++ take n back

@@ -118,11 +118,7 @@ shown o came [] fit none = inl (refl, ap (last_cut o) (append-nil came) ∙ none
 shown o came (chunk ∷ chunks) fit none = shown_first o came chunk chunks (last_cut o (came ++ chunk)) fit none refl (λ is. shown o (came ++ chunk) chunks fit is)
 
 -- the first piece after its mark
-<<<<<<< HEAD
 pub front_size : (o : Dialect) (text : List ℕ) → length (take (last_cut o text) text) ≡ last_cut o text
-=======
-front_size : (o : Dialect) (text : List ℕ) → length (take (last_cut o text) text) ≡ last_cut o text
->>>>>>> 01b2d622e4c485d4a14be02b117c7f24bc3c2ba6
 front_size o text = length-take-le (last_cut o text) text (last_cut-within o text)
 
 front_end : (o : Dialect) (text : List ℕ) → IsDialect o → last_cut o text ≢ 0 → last_cut o (take (last_cut o text) text) ≡ last_cut o text
@@ -187,11 +183,7 @@ pub marks_first : (o : Dialect) → IsDialect o → MarksFirst o
 marks_first o fit = λ chunks. has_mark o chunks fit (shown o [] chunks fit refl)
 
 -- the record that is under way begins at the last cut, or where there is none after the mark
-<<<<<<< HEAD
 pub begin_at_cut : (o : Dialect) (text : List ℕ) → IsDialect o → last_cut o text ≢ 0 → last_begin o (first_state o AtOpening) text ≡ last_cut o text
-=======
-begin_at_cut : (o : Dialect) (text : List ℕ) → IsDialect o → last_cut o text ≢ 0 → last_begin o (first_state o AtOpening) text ≡ last_cut o text
->>>>>>> 01b2d622e4c485d4a14be02b117c7f24bc3c2ba6
 begin_at_cut o text fit some =
     let opening : CutState = first_state o AtOpening in
     let begins : CutState → Bool = λ s. begins_record s.place in
@@ -207,11 +199,7 @@ begin_at_cut o text fit some =
     ∙ last_place-all (cut_step o) begins opening front (some_front o text some) (ap begins after)
     ∙ front_size o text
 
-<<<<<<< HEAD
 pub begin_at_mark : (o : Dialect) (text : List ℕ) → IsDialect o → last_cut o text ≡ 0 → last_begin o (first_state o AtOpening) text ≡ mark_len text
-=======
-begin_at_mark : (o : Dialect) (text : List ℕ) → IsDialect o → last_cut o text ≡ 0 → last_begin o (first_state o AtOpening) text ≡ mark_len text
->>>>>>> 01b2d622e4c485d4a14be02b117c7f24bc3c2ba6
 begin_at_mark o text fit none =
     let all : IsPassed o AtOpening text = passed_opening o text fit in
     let left : last_end o (start o) (drop all.mark text) ≡ 0 = all.no_end none in

@@ -6,11 +6,7 @@ use Rattle.std.proofs.Common.{length-append}
 use Rattle.std.proofs.lemmas.List.Sums.{sum_by-cons}
 use Rattle.std.specs.Prelude.{Some, ◌⊎◌, if◌then◌else◌}
 use Rattle.morsel_grammar.specs.Dialect.{Dialect, IsDialect}
-<<<<<<< HEAD
 use Rattle.morsel_grammar.specs.Grammar.{CsvRecord, IsRecord, Records}
-=======
-use Rattle.morsel_grammar.specs.Grammar.{CsvRecord, Comment, Fields, IsRecord, Records}
->>>>>>> 01b2d622e4c485d4a14be02b117c7f24bc3c2ba6
 use Rattle.morsel_grammar.specs.Split.{record_at}
 use Rattle.morsel_grammar.specs.Rows.{is_header, behind_header}
 use Rattle.morsel_grammar.specs.GrammarRows.{awaits_header_after}
@@ -19,19 +15,11 @@ use Rattle.morsel_cut.specs.FirstEnds.{record_size}
 use Rattle.morsel_cut.specs.RowCounts.{is_row, row_count, up_to_header, EndsHead}
 use Rattle.morsel_cut.proofs.SizeLemmas.{HasFirst, has_first, record_size-le, record_size-some}
 
-<<<<<<< HEAD
 pub nothing_left : (o : Dialect) (bytes : List ℕ) (at : ℕ) (records : List CsvRecord) → length bytes ≤ at → Records o (drop at bytes) records → records ≡ []
 nothing_left o bytes at [] over are = refl
 nothing_left o bytes at (r ∷ records) over are = absurd (are.0 (drop_all at bytes over))
 
 pub something_left : (o : Dialect) (bytes : List ℕ) (at : ℕ) → at < length bytes → Records o (drop at bytes) [] → ⊥
-=======
-nothing_left : (o : Dialect) (bytes : List ℕ) (at : ℕ) (records : List CsvRecord) → length bytes ≤ at → Records o (drop at bytes) records → records ≡ []
-nothing_left o bytes at [] over are = refl
-nothing_left o bytes at (r ∷ records) over are = absurd (are.0 (drop_all at bytes over))
-
-something_left : (o : Dialect) (bytes : List ℕ) (at : ℕ) → at < length bytes → Records o (drop at bytes) [] → ⊥
->>>>>>> 01b2d622e4c485d4a14be02b117c7f24bc3c2ba6
 something_left o bytes at within none =
     let size : length (drop at bytes) ≡ 0 = ap length none in
     omega (arith, size, length-drop at bytes)
@@ -119,13 +107,6 @@ record_joins o text r records n more fit some first are =
       are,
     )
 
-<<<<<<< HEAD
-=======
-header_row : (r : CsvRecord) → is_row 0 r ≡ is_header r
-header_row (Comment body) = refl
-header_row (Fields fields) = refl
-
->>>>>>> 01b2d622e4c485d4a14be02b117c7f24bc3c2ba6
 pub passed_none : (o : Dialect) (bytes : List ℕ) (records : List CsvRecord) → Records o bytes records → HasPassedTo o bytes 0 records
 passed_none o bytes records are = record {
   front = [];
@@ -169,11 +150,7 @@ passes_by o bytes at records front (r ∷ left) fit within are up_to behind awai
     }
 
 pub passes_record : (o : Dialect) (bytes rest : List ℕ) (at size : ℕ) (test : Bool) (records : List CsvRecord) → IsDialect o → at < length bytes → rest ≡ drop at bytes
-<<<<<<< HEAD
     → HasPassedTo o bytes at records → size ≡ record_size o rest → ((r : CsvRecord) (after : List ℕ) → record_at o rest ≡ Some (r, after) → test ≡ is_header r) → test ≡ false
-=======
-    → HasPassedTo o bytes at records → size ≡ record_size o rest → ((r : CsvRecord) (after : List ℕ) → record_at o rest ≡ Some (r, after) → test ≡ is_row 0 r) → test ≡ false
->>>>>>> 01b2d622e4c485d4a14be02b117c7f24bc3c2ba6
     → HasPassedTo o bytes (at + size) records
 passes_record o bytes rest at size test records fit within rest_is has size_is test_is failed =
     subst (λ (n : ℕ). HasPassedTo o bytes (at + n) records) (ap (record_size o) (sym rest_is) ∙ sym size_is)
@@ -207,11 +184,7 @@ found_by o bytes at records front (r ∷ left) fit within are up_to behind await
     }
 
 pub finds_header : (o : Dialect) (bytes rest : List ℕ) (at size : ℕ) (test : Bool) (records : List CsvRecord) → IsDialect o → at < length bytes → rest ≡ drop at bytes
-<<<<<<< HEAD
     → HasPassedTo o bytes at records → size ≡ record_size o rest → ((r : CsvRecord) (after : List ℕ) → record_at o rest ≡ Some (r, after) → test ≡ is_header r) → test ≡ true
-=======
-    → HasPassedTo o bytes at records → size ≡ record_size o rest → ((r : CsvRecord) (after : List ℕ) → record_at o rest ≡ Some (r, after) → test ≡ is_row 0 r) → test ≡ true
->>>>>>> 01b2d622e4c485d4a14be02b117c7f24bc3c2ba6
     → EndsHead o bytes records (record { len = at + size; awaits_header = false })
 finds_header o bytes rest at size test records fit within rest_is has size_is test_is held =
     subst (λ (n : ℕ). EndsHead o bytes records (record { len = at + n; awaits_header = false })) (ap (record_size o) (sym rest_is) ∙ sym size_is)

@@ -137,11 +137,7 @@ quotes_run o from bytes is unquoted =
     })
 
 -- two runs are one
-<<<<<<< HEAD
 pub run_then : (o : Dialect) (place : CutPlace) (front back : List ℕ) (run next both : PlaceRun) → RunsTo o place front run → RunsTo o (cut_place run.place) back next
-=======
-pub run_then : (o : Dialect) (place : CutPlace) (front back : List ℕ) (run next both : Run) → RunsTo o place front run → RunsTo o (cut_place run.place) back next
->>>>>>> 01b2d622e4c485d4a14be02b117c7f24bc3c2ba6
     → both.place ≡ next.place → both.end ≡ joined_place run.end (length front) next.end → both.begin ≡ joined_place run.begin (length front) next.begin
     → RunsTo o place (front ++ back) both
 run_then o place front back run next both first second place_is end_is begin_is = record {
@@ -157,11 +153,7 @@ run_then o place front back run next both first second place_is end_is begin_is 
 }
 
 -- a run of the front of what is left of a text
-<<<<<<< HEAD
 pub run_on : (o : Dialect) (place : CutPlace) (text : List ℕ) (at len : ℕ) (run next both : PlaceRun) → at ≤ length text → RunsTo o place (take at text) run
-=======
-pub run_on : (o : Dialect) (place : CutPlace) (text : List ℕ) (at len : ℕ) (run next both : Run) → at ≤ length text → RunsTo o place (take at text) run
->>>>>>> 01b2d622e4c485d4a14be02b117c7f24bc3c2ba6
     → RunsTo o (cut_place run.place) (take len (take (length text - at) (drop at text))) next
     → both.place ≡ next.place → both.end ≡ joined_place run.end at next.end → both.begin ≡ joined_place run.begin at next.begin
     → RunsTo o place (take (at + len) text) both
@@ -173,15 +165,8 @@ run_on o place text at len run next both within first second place_is end_is beg
     place_is (end_is ∙ ap (λ (n : ℕ). joined_place run.end n next.end) size) (begin_is ∙ ap (λ (n : ℕ). joined_place run.begin n next.begin) size))
 
 -- no end is behind the bytes
-<<<<<<< HEAD
 pub run_end-le : (o : Dialect) (place : CutPlace) (bytes : List ℕ) (run : PlaceRun) → RunsTo o place bytes run → run.end ≤ length bytes
 run_end-le o place bytes run runs = omega (arith, runs.end_is, last_place-within (place_step o) is_after_eol place bytes)
 
 pub run_begin-le : (o : Dialect) (place : CutPlace) (bytes : List ℕ) (run : PlaceRun) → RunsTo o place bytes run → run.begin ≤ length bytes
-=======
-pub run_end-le : (o : Dialect) (place : CutPlace) (bytes : List ℕ) (run : Run) → RunsTo o place bytes run → run.end ≤ length bytes
-run_end-le o place bytes run runs = omega (arith, runs.end_is, last_place-within (place_step o) is_after_eol place bytes)
-
-pub run_begin-le : (o : Dialect) (place : CutPlace) (bytes : List ℕ) (run : Run) → RunsTo o place bytes run → run.begin ≤ length bytes
->>>>>>> 01b2d622e4c485d4a14be02b117c7f24bc3c2ba6
 run_begin-le o place bytes run runs = omega (arith, runs.begin_is, last_place-within (place_step o) begins_record place bytes)

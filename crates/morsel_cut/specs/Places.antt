@@ -23,13 +23,8 @@ cut_place places.InComment = InComment
 cut_place places.BrokenQuote = BrokenQuote
 
 -- options with these bytes, and without comments
-<<<<<<< HEAD
 abbrev pub delimiter_options : Delimiters → Dialect
 delimiter_options delimiters = options_of delimiters.separator delimiters.quote delimiters.eol None true [] false
-=======
-abbrev pub sign_options : Signs → Dialect
-sign_options signs = options_of signs.separator signs.quote signs.eol None true [] false
->>>>>>> 01b2d622e4c485d4a14be02b117c7f24bc3c2ba6
 
 -- up to the next quote, each byte is one of a field without quotes, or ends one
 abbrev pub IsOutside : CutPlace → Type 0
@@ -40,13 +35,8 @@ IsOutside InPlain = Unit {0}
 IsOutside place = ⊥
 
 -- options with these bytes and this comment prefix
-<<<<<<< HEAD
 abbrev pub options_with : Delimiters → Option (List ℕ) → Dialect
 options_with delimiters prefix = options_of delimiters.separator delimiters.quote delimiters.eol prefix true [] false
-=======
-abbrev pub options_with : Signs → Option (List ℕ) → Dialect
-options_with signs prefix = options_of signs.separator signs.quote signs.eol prefix true [] false
->>>>>>> 01b2d622e4c485d4a14be02b117c7f24bc3c2ba6
 
 -- the state of the machine
 abbrev pub cut_state : MachineState → CutState

@@ -12,22 +12,13 @@ up_to_last byte [] = 0
 up_to_last byte (b ∷ bs) = place_or_later (b == byte) (up_to_last byte bs)
 
 -- what these bytes do from this place, without a comment prefix
-<<<<<<< HEAD
 pub record RunsTo (o : Dialect) (place : CutPlace) (bytes : List ℕ) (run : PlaceRun) : Type 0 where
-=======
-pub record RunsTo (o : Dialect) (place : CutPlace) (bytes : List ℕ) (run : Run) : Type 0 where
->>>>>>> 01b2d622e4c485d4a14be02b117c7f24bc3c2ba6
   pub place_is : cut_place run.place ≡ state_after (place_step o) place bytes
   pub end_is : run.end ≡ last_place (place_step o) is_after_eol place bytes
   pub begin_is : run.begin ≡ last_place (place_step o) begins_record place bytes
 
 -- what these bytes do from this state
-<<<<<<< HEAD
 pub record Passes (o : Dialect) (state : CutState) (bytes : List ℕ) (passed : StateRun) : Type 0 where
   pub state_is : cut_state passed.state ≡ cut_after o state bytes
-=======
-pub record Passes (o : Dialect) (state : CutState) (bytes : List ℕ) (passed : Passed) : Type 0 where
-  pub state_is : cut_state passed.standing ≡ cut_after o state bytes
->>>>>>> 01b2d622e4c485d4a14be02b117c7f24bc3c2ba6
   pub end_is : passed.end ≡ last_end o state bytes
   pub begin_is : passed.begin ≡ last_begin o state bytes

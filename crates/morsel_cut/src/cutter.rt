@@ -42,11 +42,7 @@ impl Model for Cutter {
       begun = c.begun;
     } };
 
-<<<<<<< HEAD
     ghost invariant = { λ c. IsDialect (options_with c.delimiters c.prefix) × (c.prefix ≡ None → c.state.matched ≡ None) };
-=======
-    ghost invariant = { λ c. IsDialect (options_with c.signs c.prefix) × (c.prefix ≡ None → c.standing.matched ≡ None) };
->>>>>>> 01b2d622e4c485d4a14be02b117c7f24bc3c2ba6
 }
 
 impl Cutter {
@@ -134,13 +130,8 @@ impl Cutter {
 }
 
 /// What a piece does.
-<<<<<<< HEAD
 fn pass(from: MachineState, piece: &[u8], delimiters: Delimiters, prefix: &Option<Name>) -> StateRun
     requires fit { IsDialect (options_with delimiters prefix.now) }
-=======
-fn pass(from: Standing, piece: &[u8], signs: Signs, prefix: &Option<Name>) -> Passed
-    requires fit { IsDialect (options_with signs prefix.now) }
->>>>>>> 01b2d622e4c485d4a14be02b117c7f24bc3c2ba6
     requires matched { prefix.now ≡ None → from.matched ≡ None }
     ensures passes { Passes (options_with delimiters prefix.now) (cut_state from) piece.now result }
     ensures matched { prefix.now ≡ None → result.state.matched ≡ None }

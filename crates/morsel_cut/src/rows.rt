@@ -1,11 +1,5 @@
-<<<<<<< HEAD
 //! How many rows whole records are: 64 bytes at a time, and one by one where these do not tell.
 ghost use Rattle.std.specs.Prelude.{◌≡◌, ◌<◌, ◌≤◌, List, length, if◌then◌else◌};
-=======
-//! How many rows whole records are: lines without quotes 64 bytes at a time, and other records one by one.
-ghost use Rattle.std.specs.Prelude.{◌≡◌, ◌==◌, ◌⊎◌, ◌<◌, ◌≤◌, ℕ, true, false, List, None, length, take, slice_index, if◌then◌else◌};
-ghost use Rattle.morsel_grammar.specs.Dialect.{IsDialect};
->>>>>>> 01b2d622e4c485d4a14be02b117c7f24bc3c2ba6
 ghost use Rattle.morsel_grammar.specs.Grammar.{CsvRecord, Records};
 ghost use Rattle.morsel_cut.specs.RowCounts.{row_count, TakesRows};
 

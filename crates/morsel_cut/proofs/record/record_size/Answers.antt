@@ -15,15 +15,9 @@ returns-in-Some-clause-some c = λ some. omega (arith, c.prefix_size.ensures, re
 pub returns-in-None-clause-value : goal.returns-in-None-clause-value
 returns-in-None-clause-value c =
     c.plain_size.ensures
-<<<<<<< HEAD
     ∙ sym (bare_size c.of-delimiters.result c.args.text.now)
     ∙ ap (λ (p : Option (List ℕ)). record_size (options_with c.of-delimiters.result p) c.args.text.now) c.in-None.ensures.value
     ∙ ap (λ (o : Dialect). record_size o c.args.text.now) c.of-delimiters.ensures
-=======
-    ∙ sym (bare_size c.of-signs.result c.args.text.now)
-    ∙ ap (λ (p : Option (List ℕ)). record_size (options_with c.of-signs.result p) c.args.text.now) c.in-None.ensures.value
-    ∙ ap (λ (o : Dialect). record_size o c.args.text.now) c.of-signs.ensures
->>>>>>> 01b2d622e4c485d4a14be02b117c7f24bc3c2ba6
 
 pub returns-in-None-clause-within : goal.returns-in-None-clause-within
 returns-in-None-clause-within c =
