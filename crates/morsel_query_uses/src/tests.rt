@@ -1,3 +1,5 @@
 //! Queries made by hand and read of texts.
+mod deep;
+mod makers;
 mod options;
 mod texts;

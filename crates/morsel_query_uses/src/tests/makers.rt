@@ -1,0 +1,111 @@
+//! Queries made by hand: at the edges of their numbers and past them, and trees that no text nests so deep.
+use morsel_frame::Schema;
+use morsel_grammar::CsvOptions;
+use morsel_meaning::{ColType, Fault, Field, Name, Why};
+use morsel_query::{Query, SinkFormat, SinkSpec, flaw_of_side};
+use morsel_scan::{FileScanOptions, ScanFormat, ScanSpec};
+use std::alloc::Global;
+use std::test::Fail;
+
+/// So many names of one file.
+fn names(alloc: Global, count: usize) -> Result<Vec<Name>, Fault> {
+    let mut names = Vec::new(alloc);
+    for _ in 0..count {
+        names.push(Name::new(alloc, "a.csv")?)?;
+    }
+    Ok(names)
+}
+
+/// A column of numbers, named by its place.
+fn field(alloc: Global, at: usize) -> Result<Field, Fault> {
+    let text = format!(in alloc; "c{at}")?;
+    Ok(Field {
+        name: Name::new(alloc, text.as_str())?,
+        kind: ColType::Int,
+    })
+}
+
+fn fields(alloc: Global, count: usize) -> Result<Vec<Field>, Fault> {
+    let mut fields = Vec::new(alloc);
+    for at in 0..count {
+        fields.push(field(alloc, at)?)?;
+    }
+    Ok(fields)
+}
+
+/// CSV files of so many columns.
+fn format(alloc: Global, columns: usize) -> Result<ScanFormat, Fault> {
+    let schema = Schema::new(alloc, fields(alloc, columns)?)?;
+    Ok(ScanFormat::Csv {
+        schema,
+        options: CsvOptions::standard(alloc)?,
+    })
+}
+
+/// A scan of so many files of so many columns.
+fn scan(alloc: Global, sources: usize, columns: usize) -> Result<ScanSpec, Fault> {
+    let format = format(alloc, columns)?;
+    Ok(ScanSpec {
+        sources: names(alloc, sources)?,
+        format,
+        file_options: FileScanOptions {
+            slice: None,
+            columns: Vec::new(alloc),
+            row_index: None,
+            path: None,
+            allow_missing_columns: false,
+        },
+        filter: None,
+    })
+}
+
+/// The flaw for which a query of so many files and columns into a sink is refused, if it is.
+fn flaw_of(
+    alloc: Global,
+    sources: usize,
+    columns: usize,
+    sink: &str,
+) -> Result<Option<Why>, Fault> {
+    let left = scan(alloc, sources, columns)?;
+    let sink = SinkSpec {
+        name: Name::new(alloc, sink)?,
+        format: SinkFormat::NdJson,
+    };
+    match Query::new(left, sink) {
+        Ok(_) => Ok(None),
+        Err(Fault::InvalidQuery { why }) => Ok(Some(why)),
+        Err(fault) => Err(fault),
+    }
+}
+
+#[test]
+fn a_query_has_one_source_up_to_65536(rt: HostRuntime) -> Result<(), Fail> {
+    let alloc = rt.alloc();
+    assert_eq!(rt; flaw_of(alloc, 0, 1, "o")?, Some(Why::NoSource));
+    assert_eq!(rt; flaw_of(alloc, 1, 1, "o")?, None);
+    assert_eq!(rt; flaw_of(alloc, 65_536, 1, "o")?, None);
+    assert_eq!(rt; flaw_of(alloc, 65_537, 1, "o")?, Some(Why::ManySources));
+    Ok(())
+}
+
+#[test]
+fn a_schema_has_one_column_up_to_65535(rt: HostRuntime) -> Result<(), Fail> {
+    let alloc = rt.alloc();
+    assert_eq!(rt; flaw_of(alloc, 1, 0, "o")?, Some(Why::NoColumn));
+    let sources = names(alloc, 1)?;
+    assert_eq!(rt; flaw_of_side(&sources, Some(65_535), "o"), None);
+    assert_eq!(rt;
+        flaw_of_side(&sources, Some(65_536), "o"),
+        Some(Why::NoColumn)
+    );
+    Ok(())
+}
+
+#[test]
+fn a_sink_is_no_source(rt: HostRuntime) -> Result<(), Fail> {
+    assert_eq!(rt;
+        flaw_of(rt.alloc(), 2, 1, "a.csv")?,
+        Some(Why::SinkIsSource)
+    );
+    Ok(())
+}
