@@ -2,4 +2,3 @@
 mod deep;
 mod makers;
 mod options;
-mod texts;
