@@ -2,3 +2,4 @@
 mod deep;
 mod makers;
 mod options;
+mod texts;
