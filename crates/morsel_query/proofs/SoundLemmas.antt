@@ -1,8 +1,7 @@
 -- A query that is sound has no flaw.
-use Rattle.std.proofs.Common.{◌≡◌, ◌⊎◌, inl, inr, true, false, ℕ, ◌<◌, ◌≤◌, List, [], ◌∷◌, Option, Some, None, length, arith}
-use Rattle.morsel_meaning.specs.declared.fault.Why.{Why}
+use Rattle.std.proofs.Common.{◌≡◌, inl, inr, ℕ, ◌<◌, List, [], ◌∷◌, Option, Some, None, length, arith}
 use Rattle.morsel_meaning.specs.declared.fault.Why.TheVariants as whys
-use Rattle.morsel_query.specs.QueryFlaws.{Side, HasSide, AreNoColumns, AreColumns, IsFlaw, IsSoundSide, AreSoundSides, AreSound, SoundHasNoFlaw}
+use Rattle.morsel_query.specs.QueryFlaws.{Side, HasSide, AreNoColumns, AreColumns, IsSoundSide, AreSoundSides, SoundHasNoFlaw}
 
 none-has : (P : Side → Type 0) (sides : List Side) → ((side : Side) → IsSoundSide side → P side → ⊥) → AreSoundSides sides → HasSide P sides → ⊥
 none-has P [] apart sound has = has

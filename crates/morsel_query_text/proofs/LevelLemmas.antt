@@ -1,5 +1,5 @@
 -- The levels of a predicate are those of the tree that it is written as.
-use Rattle.std.proofs.Common.{◌≡◌, ℕ, suc, max, refl, ap, ap₂, ◌∙◌}
+use Rattle.std.proofs.Common.{◌≡◌, ℕ, suc, max, refl, ap, ap₂}
 use Rattle.morsel_expr.specs.declared.node.CmpOp.TheVariants as ops
 use Rattle.morsel_expr.specs.declared.node.CmpOp.{CmpOp}
 use Rattle.morsel_expr.specs.declared.node.PredNode.{PredNode}

@@ -1,13 +1,13 @@
 -- Lists of a tree, item after item.
-use Rattle.std.proofs.Common.{◌≡◌, ℕ, suc, zero, ◌+◌, ◌<◌, ◌≤◌, List, [], ◌∷◌, ◌++◌, Option, Some, None, refl, ap, sym, ◌∙◌, length, drop, get_or, option_map, option_and_then, append_assoc, append-nil, arith}
+use Rattle.std.proofs.Common.{◌≡◌, ℕ, ◌+◌, ◌<◌, ◌≤◌, List, [], ◌∷◌, ◌++◌, Option, Some, None, refl, ap, sym, ◌∙◌, length, drop, get_or, option_map, option_and_then, append_assoc, append-nil, arith}
 use Rattle.std.proofs.lemmas.List.{at_drop_more, at_drop_all}
-use Rattle.serde_json.specs.Data.{Data, Items}
+use Rattle.serde_json.specs.Data.{Data}
 use Rattle.serde_json.specs.View.{view, items_view}
 use Rattle.serde_json.specs.declared.value.Value.{Value}
 use Rattle.morsel_meaning.specs.declared.fault.Fault.{Fault}
 use Rattle.morsel_meaning.specs.declared.fault.Fault.TheVariants as faults
 use Rattle.morsel_query_text.specs.Trees.{each_as, two_items}
-use Rattle.morsel_query_text.specs.Reads.{Refused, RefusedBy}
+use Rattle.morsel_query_text.specs.Reads.{Refused}
 
 moved : (T : Type 0) (done : List T) (v : T) (rest : Option (List T)) → option_map (λ (more : List T). done ++ more) (option_map (λ (values : List T). v ∷ values) rest) ≡ option_map (λ (more : List T). (done ++ v ∷ []) ++ more) rest
 moved T done v None = refl

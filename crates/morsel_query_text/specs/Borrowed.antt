@@ -6,7 +6,7 @@ use Rattle.morsel_query_text.specs.declared.options.OptionNumbers.{OptionNumbers
 use Rattle.morsel_query_text.specs.declared.scan.ScanText.{ScanText}
 use Rattle.morsel_query_text.specs.declared.text.QueryText.{QueryText}
 use Rattle.morsel_query_text.specs.Predicates.{pred_tree}
-use Rattle.morsel_query_text.specs.Written.{WrittenCsv, WrittenFormat, WrittenCsvFiles, WrittenScan, WrittenQuery, sink_written}
+use Rattle.morsel_query_text.specs.Written.{WrittenCsv, WrittenCsvFiles, WrittenScan, WrittenQuery, sink_written}
 use denote.Ref.{Bor}
 
 -- the text that is lent, where one is

@@ -1,4 +1,4 @@
-use Rattle.std.proofs.Common.{◌∙◌, sym, subst, rules, drop, ◌+◌, ◌∷◌, Option, Err, List, ℕ}
+use Rattle.std.proofs.Common.{◌∙◌, sym, subst, rules, drop, ◌+◌, Option, Err, List, ℕ}
 use Rattle.std.proofs.lemmas.Result.{err_from_is_err_and}
 use Rattle.morsel_meaning.specs.declared.fault.Fault.{Fault}
 use Rattle.morsel_frame.specs.Refusals.{Refuses}

@@ -1,4 +1,4 @@
-use Rattle.std.proofs.Common.{◌≡◌, ◌++◌, ◌∙◌, sym, subst, rules, append_assoc, List}
+use Rattle.std.proofs.Common.{◌≡◌, ◌++◌, sym, subst, rules, append_assoc, List}
 use Rattle.morsel_meaning.specs.declared.value.Field.{Field}
 use Rattle.morsel_meaning.specs.Values.{names_of}
 use Rattle.morsel_frame.specs.Names.{AreDistinct}

@@ -1,4 +1,4 @@
-use Rattle.std.proofs.Common.{◌<◌, ◌≤◌, ◌∙◌, arith, sym, subst, Option}
+use Rattle.std.proofs.Common.{◌<◌, ◌≤◌, arith, sym, subst, Option}
 use Rattle.std.specs.Prelude.{option_map}
 use Rattle.std.proofs.lemmas.Result.{err_from_is_err_and}
 use Rattle.morsel_expr.specs.declared.node.PredNode.{PredNode}
