@@ -1,13 +1,13 @@
 -- The end of a search for rows: a stretch of records, or none, or a fault.
-use Rattle.std.proofs.Common.{◌≡◌, ◌≢◌, ℕ, zero, suc, ◌+◌, ◌-◌, ◌<◌, ◌≤◌, ap, sym, subst, refl, ◌∙◌, inl, inr, arith, length-append, append_assoc, append-nil}
+use Rattle.std.proofs.Common.{◌≡◌, ℕ, zero, suc, ◌+◌, ◌-◌, ◌<◌, ◌≤◌, ap, sym, subst, refl, ◌∙◌, inl, inr, arith, length-append}
 use Rattle.std.proofs.lemmas.List.{take-append-drop, drop-drop, drop-take, drop_all, drop_at, length-take-le, length-drop, take-take, append_cancel_left}
 use Rattle.std.proofs.lemmas.Str.{IsUtf8-append}
-use Rattle.std.specs.Prelude.{◌⊎◌, Bool, true, false, Option, Some, None, Result, Ok, Err, List, [], ◌∷◌, ◌++◌, length, take, drop, slice_range, IsUtf8}
+use Rattle.std.specs.Prelude.{◌⊎◌, Bool, false, List, [], ◌∷◌, ◌++◌, length, take, drop, slice_range, IsUtf8}
 use Rattle.morsel_meaning.specs.declared.fault.Fault.{Fault}
 use Rattle.morsel_meaning.specs.declared.fault.Fault.TheVariants as faults
 use Rattle.morsel_meaning.specs.declared.fault.ComputeKind.TheVariants as kinds
 use Rattle.morsel_grammar.specs.Dialect.{Dialect, IsDialect}
-use Rattle.morsel_grammar.specs.Grammar.{CsvRecord, IsRecord, Records}
+use Rattle.morsel_grammar.specs.Grammar.{CsvRecord, Records}
 use Rattle.morsel_grammar.specs.Rows.{mark_len, unmarked, behind_header}
 use Rattle.morsel_grammar.specs.GrammarRows.{AreWholeRecords, awaits_header_after}
 use Rattle.morsel_outside.specs.Outside.{Outside}
@@ -16,13 +16,13 @@ use Rattle.morsel_scan.specs.declared.reader.front.BlockFront.{BlockFront}
 use Rattle.morsel_scan.specs.Scans.{CsvScan}
 use Rattle.morsel_scan.specs.CsvPieces.{HaveRows, HasRowsUpTo}
 use Rattle.morsel_scan.specs.FileReads.{IsTold, text_at}
-use Rattle.morsel_scan.specs.Blocks.{BlocksRead, given_to, IsOpenFile, IsSameFile, IsReadOf, IsLastCut, IsBlock, IsBlockFault, HasFound}
-use Rattle.morsel_scan.specs.RowBlocks.{RowsRead, RowStretch, passed_to, IsLaterIn, HasRowsBeforePlace, HasRowsGiven, AreNextRows, HasRecordNotUtf8, IsTextFault, IsRowsFault, GivesRows, IsToldFile, EndsAtGiven}
+use Rattle.morsel_scan.specs.Blocks.{BlocksRead, given_to, IsOpenFile, IsSameFile, IsReadOf, IsLastCut, IsBlockFault, HasFound}
+use Rattle.morsel_scan.specs.RowBlocks.{RowsRead, RowStretch, passed_to, HasRowsBeforePlace, HasRowsGiven, AreNextRows, HasRecordNotUtf8, IsTextFault, IsRowsFault, IsToldFile}
 use Rattle.morsel_scan.specs.BlockRows.{mark_at, header_front, IsFrontOf}
 use Rattle.morsel_scan.proofs.HeaderLemmas.{front-behind, front-awaits, front-then-behind, rows_after_header}
 use Rattle.morsel_scan.proofs.FrontLemmas.{whole_behind, text-mark, text-taken, mark_at-taken, bad_in_text, bad_behind}
 use Rattle.morsel_scan.proofs.RowStretchLemmas.{slice-append, rest_split, unmarked_split, rows_further, rows_at_end}
-use Rattle.morsel_scan.proofs.PassingLemmas.{IsPassing, IsBlockIn, block_of, told_now, given-passed, block_in, given_after_block, block_fault_of_rows}
+use Rattle.morsel_scan.proofs.PassingLemmas.{IsPassing, told_now, block_in, given_after_block, block_fault_of_rows}
 
 -- what a search for a block answers
 abbrev pub Searched : Outside → BlocksRead → ℕ → BlocksRead → Type 0

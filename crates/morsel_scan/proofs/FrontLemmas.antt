@@ -1,23 +1,22 @@
 -- The front of a block: its mark, its records up to the header, and what follows them.
-use Rattle.std.proofs.Common.{◌≡◌, ◌≢◌, ℕ, zero, suc, ◌+◌, ◌-◌, ◌<◌, ◌≤◌, ap, sym, subst, refl, ◌∙◌, inl, inr, arith, length-append, append_assoc, append-nil}
+use Rattle.std.proofs.Common.{◌≡◌, ◌≢◌, ℕ, zero, suc, ◌+◌, ◌≤◌, ap, sym, subst, refl, ◌∙◌, inl, inr, arith, length-append, append_assoc, append-nil}
 use Rattle.std.proofs.Math.Seq.{take-add}
 use borrow.Author.Tests.{eqb-true}
-use Rattle.std.proofs.lemmas.List.{take_all, take_at, take-append-drop, drop-drop, drop-take, drop_all, drop_at, length-take-le, length-drop, length-take}
+use Rattle.std.proofs.lemmas.List.{take-append-drop, drop-drop, drop-take, drop_all, length-take-le, length-drop, length-take}
 use Rattle.std.proofs.lemmas.Str.{IsUtf8-append, IsUtf8-nil}
-use Rattle.std.specs.Prelude.{◌⊎◌, ◌==◌, ◌&&◌, Bool, true, false, if◌then◌else◌, Result, Ok, Err, List, [], ◌∷◌, ◌++◌, length, take, drop, IsUtf8}
+use Rattle.std.specs.Prelude.{◌⊎◌, ◌==◌, ◌&&◌, Bool, true, false, if◌then◌else◌, List, [], ◌∷◌, ◌++◌, length, take, drop, IsUtf8}
 use lib.Utf8.{encode}
 use Rattle.morsel_meaning.specs.declared.fault.Fault.{Fault}
 use Rattle.morsel_meaning.specs.declared.fault.Fault.TheVariants as faults
 use Rattle.morsel_meaning.specs.declared.fault.ComputeKind.TheVariants as kinds
 use Rattle.morsel_grammar.specs.Dialect.{Dialect, IsDialect}
 use Rattle.morsel_grammar.specs.Grammar.{CsvRecord, IsRecord, Records}
-use Rattle.morsel_grammar.specs.Rows.{mark_len, unmarked, behind_header}
-use Rattle.morsel_grammar.specs.GrammarRows.{AreWholeRecords, awaits_header_after}
+use Rattle.morsel_grammar.specs.Rows.{mark_len, behind_header}
+use Rattle.morsel_grammar.specs.GrammarRows.{AreWholeRecords}
 use Rattle.morsel_grammar.proofs.RecordLemmas.{begins_with_one}
 use Rattle.morsel_grammar.proofs.WholeRecordLemmas.{stands_whatever_follows, joins_whole}
 use Rattle.morsel_cut.specs.RowCounts.{row_count}
 use Rattle.morsel_cut.specs.declared.header.HeadEnd.{HeadEnd}
-use Rattle.morsel_scan.specs.declared.reader.front.BlockFront.{BlockFront}
 use Rattle.morsel_scan.specs.FileReads.{text_at}
 use Rattle.morsel_scan.specs.RowBlocks.{HasRecordNotUtf8, IsTextFault}
 use Rattle.morsel_scan.specs.BlockRows.{mark_at, header_front, IsHeaderPart, IsFrontOf}

@@ -1,15 +1,14 @@
 -- A search for rows: block after block is passed while none has rows.
-use Rattle.std.proofs.Common.{◌≡◌, ◌≢◌, ℕ, zero, suc, ◌+◌, ◌-◌, ◌<◌, ◌≤◌, ap, sym, subst, refl, ◌∙◌, inl, inr, arith, length-append, append_assoc, append-nil}
-use Rattle.std.proofs.lemmas.List.{take-append-drop, drop-drop, drop-take, drop_all, length-take-le, length-drop, take-take, append_cancel_left}
+use Rattle.std.proofs.Common.{◌≡◌, ℕ, zero, suc, ◌+◌, ◌-◌, ◌<◌, ◌≤◌, ap, sym, subst, refl, ◌∙◌, inl, inr, arith}
+use Rattle.std.proofs.lemmas.List.{drop-drop, drop_all, length-take-le, length-drop}
 use Rattle.std.proofs.lemmas.Str.{IsUtf8-append, IsUtf8-nil}
-use Rattle.std.specs.Prelude.{◌⊎◌, Bool, true, false, Option, Some, None, Result, Ok, Err, List, [], ◌∷◌, ◌++◌, length, take, drop, slice_range, IsUtf8}
+use Rattle.std.specs.Prelude.{◌⊎◌, Bool, Option, Err, List, [], ◌∷◌, ◌++◌, length, take, drop, slice_range, IsUtf8}
 use Rattle.std.specs.List.{flat_map}
 use Rattle.morsel_meaning.specs.declared.fault.Fault.{Fault}
 use Rattle.morsel_meaning.specs.declared.fault.Fault.TheVariants as faults
-use Rattle.morsel_meaning.specs.declared.fault.ComputeKind.TheVariants as kinds
 use Rattle.morsel_grammar.specs.Dialect.{Dialect, IsDialect}
-use Rattle.morsel_grammar.specs.Grammar.{CsvRecord, IsRecord, Records}
-use Rattle.morsel_grammar.specs.Rows.{mark_len, unmarked, behind_header}
+use Rattle.morsel_grammar.specs.Grammar.{CsvRecord, Records}
+use Rattle.morsel_grammar.specs.Rows.{behind_header}
 use Rattle.morsel_grammar.specs.GrammarRows.{AreWholeRecords, awaits_header_after}
 use Rattle.morsel_outside.specs.Outside.{Outside, with_more}
 use Rattle.morsel_outside.specs.Actions.{Action, ReadingRange, FailedReadingRange, Does, opened_by}
@@ -20,12 +19,10 @@ use Rattle.morsel_scan.specs.declared.reader.front.BlockFront.{BlockFront}
 use Rattle.morsel_scan.specs.Scans.{CsvScan}
 use Rattle.morsel_scan.specs.CsvPieces.{HaveRows, HasRowsUpTo}
 use Rattle.morsel_scan.specs.FileReads.{IsTold, IsChunk, AreNextReads, text_at, HoldsNoRecord, ReadWithoutRecord}
-use Rattle.morsel_scan.specs.Blocks.{BlocksRead, given_to, IsOpenFile, IsSameFile, IsReadOf, IsLastCut, IsBlock, IsBlockFault, HasFound, FindsBlock, ReadsChunksOn, FailsToReadOn, ReadsForBlock}
-use Rattle.morsel_scan.specs.RowBlocks.{RowsRead, RowStretch, passed_to, IsLaterIn, HasRowsBeforePlace, HasRowsGiven, AreNextRows, HasRecordNotUtf8, IsTextFault, IsTextFaultOf, IsRowsFault, GivesRows, HoldsNoRow, ReadWithoutRow, IsToldFile, ReadsOnForRows, FailsToReadForRows, ReadsForRows, GivesStretch}
-use Rattle.morsel_scan.specs.BlockRows.{mark_at, header_front, IsFrontOf, FindsFront}
-use Rattle.morsel_scan.proofs.HeaderLemmas.{front-behind, front-awaits, front-then-behind, rows_after_header}
-use Rattle.morsel_scan.proofs.FrontLemmas.{whole_behind, text-mark, text-taken, mark_at-taken, bad_in_text, bad_behind}
-use Rattle.morsel_scan.proofs.RowStretchLemmas.{slice-append, rest_split, unmarked_split, rows_further, rows_to_end, rows_at_end, begins_none}
+use Rattle.morsel_scan.specs.Blocks.{BlocksRead, given_to, IsOpenFile, IsSameFile, IsReadOf, IsLastCut, IsBlock, IsBlockFault, HasFound, ReadsChunksOn, ReadsForBlock}
+use Rattle.morsel_scan.specs.RowBlocks.{RowsRead, passed_to, IsLaterIn, HasRowsBeforePlace, HasRowsGiven, IsTextFaultOf, IsRowsFault, HoldsNoRow, ReadWithoutRow, IsToldFile, ReadsOnForRows, ReadsForRows}
+use Rattle.morsel_scan.specs.BlockRows.{IsFrontOf}
+use Rattle.morsel_scan.proofs.RowStretchLemmas.{slice-append, rows_further, rows_to_end}
 
 -- lists of reads, one after the other
 next_reads-append : (file size chunk from mid to : ℕ) (first later : List Action) → AreNextReads file size chunk from first mid → AreNextReads file size chunk mid later to

@@ -1,26 +1,21 @@
 -- The rows of a file before a place, and before one further on.
-use Rattle.std.proofs.Common.{◌≡◌, ◌≢◌, ℕ, zero, suc, ◌+◌, ◌-◌, ◌<◌, ◌≤◌, ap, sym, subst, refl, ◌∙◌, inl, inr, arith, length-append, append_assoc, append-nil}
+use Rattle.std.proofs.Common.{◌≡◌, ℕ, zero, suc, ◌+◌, ◌-◌, ◌≤◌, ap, sym, subst, refl, ◌∙◌, inl, inr, arith, length-append, append_assoc, append-nil}
 use Rattle.std.proofs.Math.Seq.{take-add}
-use Rattle.std.proofs.lemmas.List.{take_all, take-append-drop, drop-drop, drop_all, drop_at, drop-append-le, length-take-le, length-drop, append_cancel_left}
-use Rattle.std.proofs.lemmas.Str.{IsUtf8-append, IsUtf8-nil}
-use Rattle.std.specs.Prelude.{◌⊎◌, Bool, true, false, Option, Some, None, Result, Ok, Err, List, [], ◌∷◌, ◌++◌, length, take, drop, slice_range, IsUtf8}
+use Rattle.std.proofs.lemmas.List.{take-append-drop, drop-drop, drop_all, drop_at, drop-append-le, length-drop}
+use Rattle.std.specs.Prelude.{Bool, true, false, List, [], ◌∷◌, ◌++◌, length, take, drop, slice_range}
 use Rattle.morsel_grammar.specs.Dialect.{Dialect, IsDialect}
-use Rattle.morsel_grammar.specs.Grammar.{CsvRecord, IsRecord, Records}
+use Rattle.morsel_grammar.specs.Grammar.{CsvRecord, Records}
 use Rattle.morsel_grammar.specs.Rows.{mark_len, unmarked, behind_header}
 use Rattle.morsel_grammar.specs.GrammarRows.{AreWholeRecords, awaits_header_after}
 use Rattle.morsel_grammar.proofs.OpeningCutLemmas.{mark_len-within}
-use Rattle.morsel_grammar.proofs.WholeRecordLemmas.{joins_whole, splits_behind_whole, whole_are_records}
+use Rattle.morsel_grammar.proofs.WholeRecordLemmas.{joins_whole, splits_behind_whole}
 use Rattle.morsel_cut.specs.RowCounts.{row_count}
 use Rattle.morsel_cut.proofs.CountLemmas.{adds_rows}
-use Rattle.morsel_scan.specs.declared.reader.front.BlockFront.{BlockFront}
 use Rattle.morsel_scan.specs.Scans.{CsvScan}
 use Rattle.morsel_scan.specs.CsvPieces.{HaveRows, HasRowsUpTo}
 use Rattle.morsel_scan.specs.FileReads.{text_at}
-use Rattle.morsel_scan.specs.Blocks.{IsBlock}
-use Rattle.morsel_scan.specs.RowBlocks.{RowStretch, HasRowsBeforePlace, AreNextRows}
-use Rattle.morsel_scan.specs.BlockRows.{mark_at, header_front, IsFrontOf}
-use Rattle.morsel_scan.proofs.HeaderLemmas.{behind_header-append, awaits_header-append, front-behind, front-awaits, front-then-behind, rows_after_header}
-use Rattle.morsel_scan.proofs.FrontLemmas.{whole_behind, text-mark, mark_at-taken}
+use Rattle.morsel_scan.specs.RowBlocks.{HasRowsBeforePlace}
+use Rattle.morsel_scan.proofs.HeaderLemmas.{behind_header-append, awaits_header-append}
 
 -- what is between three places
 pub slice-append : (bytes : List ℕ) (a b c : ℕ) → a ≤ b → b ≤ c → slice_range bytes a b ++ slice_range bytes b c ≡ slice_range bytes a c

@@ -1,19 +1,19 @@
 -- A file of which records with rows are given, one stretch after the other; what is passed between them has no row.
-use Rattle.std.specs.Prelude.{◌≡◌, ◌⊎◌, ℕ, zero, suc, ◌+◌, ◌<◌, ◌≤◌, Bool, true, false, Option, Some, None, Result, Ok, Err, List, [], ◌∷◌, ◌++◌, length, take, drop, slice_range, IsUtf8}
+use Rattle.std.specs.Prelude.{◌≡◌, ◌⊎◌, ℕ, ◌+◌, ◌<◌, ◌≤◌, Bool, false, Option, Some, None, Result, Ok, Err, List, [], ◌∷◌, ◌++◌, length, take, drop, slice_range, IsUtf8}
 use Rattle.morsel_meaning.specs.declared.fault.Fault.{Fault}
 use Rattle.morsel_meaning.specs.declared.fault.Fault.TheVariants as faults
 use Rattle.morsel_meaning.specs.declared.fault.ComputeKind.TheVariants as kinds
 use Rattle.morsel_grammar.specs.Dialect.{Dialect, IsDialect}
 use Rattle.morsel_grammar.specs.Grammar.{CsvRecord, IsRecord, Records}
-use Rattle.morsel_grammar.specs.Rows.{mark_len, unmarked, behind_header}
-use Rattle.morsel_grammar.specs.GrammarRows.{AreWholeRecords, awaits_header_after}
+use Rattle.morsel_grammar.specs.Rows.{mark_len, unmarked}
+use Rattle.morsel_grammar.specs.GrammarRows.{AreWholeRecords}
 use Rattle.morsel_outside.specs.Outside.{Outside}
 use Rattle.morsel_outside.specs.Actions.{Action, ReadingRange, FailedReadingRange, Does}
-use Rattle.morsel_cut.specs.RowCounts.{row_count, up_to_header}
+use Rattle.morsel_cut.specs.RowCounts.{row_count}
 use Rattle.morsel_scan.specs.declared.reader.front.BlockFront.{BlockFront}
 use Rattle.morsel_scan.specs.Scans.{CsvScan}
 use Rattle.morsel_scan.specs.CsvPieces.{HaveRows, HasRowsUpTo}
-use Rattle.morsel_scan.specs.FileReads.{IsTold, IsChunk, AreNextReads, text_at, HoldsNoRecord}
+use Rattle.morsel_scan.specs.FileReads.{IsTold, IsChunk, AreNextReads, HoldsNoRecord}
 use Rattle.morsel_scan.specs.Blocks.{BlocksRead, blocks_at_start, given_to, IsReadOf, IsLastCut, IsBlockFault, IsBlockFaultOf}
 
 -- a file of which rows are given, as far as it was read
@@ -47,6 +47,7 @@ pub record EndsAtGiven (old : RowsRead) (stretch : RowStretch) (new : RowsRead) 
   pub order : given_to old.blocks ≤ stretch.at
   pub end : stretch.at + length stretch.bytes ≡ given_to new.blocks
   pub some : 0 < stretch.rows
+  pub few : stretch.rows ≤ length stretch.bytes
 
 -- the records of a block after its front are given; or memory is out, and nothing is
 abbrev pub GivesStretch : RowsRead → ℕ → BlockFront → Result RowStretch Fault → RowsRead → Type 0

@@ -288,6 +288,9 @@ pub fn drop_front(bytes: &mut Vec<u8>, len: usize)
     requires { len ≤ length bytes.old.items }
     ensures { bytes.new.items ≡ drop len bytes.old.items }
 {
+    if len == 0 {
+        return;
+    }
     let left = bytes.len() - len;
     bytes.copy_within(len.., 0);
     bytes.truncate(left);

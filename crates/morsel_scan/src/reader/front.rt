@@ -37,7 +37,7 @@ pub fn front_of(
 ) -> Result<BlockFront, Fault>
     requires { at + length block.now < 2 ^ 64 }
     ensures within { IfOk result (λ front. front.len ≤ length block.now) }
-    ensures few { IfOk result (λ front. front.rows ≤ length block.now) }
+    ensures few { IfOk result (λ front. front.len + front.rows ≤ length block.now) }
     ensures front { (records : List CsvRecord) → Records options.now (text_at at block.now) records
         → FindsFront options.now columns awaits_header source at block.now records result }
     ensures listed { IfErr result (λ fault. IsTextFaultOf source fault) }

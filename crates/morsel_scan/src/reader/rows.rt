@@ -127,7 +127,7 @@ impl RowReader {
         requires held { length self.now.blocks.held ≤ self.now.blocks.asked }
         requires fits { self.now.blocks.asked < 2 ^ 64 }
         ensures within { IfOk result (λ front. front.len ≤ len) }
-        ensures few { IfOk result (λ front. front.rows ≤ len) }
+        ensures few { IfOk result (λ front. front.len + front.rows ≤ len) }
         ensures front { (records : List CsvRecord) → Records options.now (text_at (given_to self.now.blocks) (take len self.now.blocks.held)) records
             → FindsFront options.now columns self.now.awaits_header self.now.blocks.source (given_to self.now.blocks) (take len self.now.blocks.held) records result }
         ensures listed { IfErr result (λ fault. IsTextFaultOf self.now.blocks.source fault) }
