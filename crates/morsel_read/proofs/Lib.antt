@@ -1,0 +1,9 @@
+pub mod HeldLemmas
+pub mod ReadListLemmas
+pub mod SourceLemmas
+pub mod BetweenLemmas
+pub mod SliceLemmas
+pub mod StepLemmas
+pub mod GivenLemmas
+pub mod SearchLemmas
+pub mod LawLemmas
