@@ -13,7 +13,7 @@ use Rattle.morsel_pipe.specs.Pieces.{Piece, Part}
 use Rattle.morsel_scan.specs.StretchRows.{Gives, collected, before_fault}
 use Rattle.morsel_scan.specs.Ahead.{Axis, IsWrittenTo, ReadsAhead, asked_up_to, written_up_to, text_to, text_size}
 use Rattle.morsel_scan.proofs.AheadLemmas.{reads_on}
-use Rattle.morsel_scan.proofs.StretchLemmas.{gives_on, gives_front, gives_all, gives_midst, followed_by-ok}
+use Rattle.morsel_scan.proofs.StretchLemmas.{gives_on, gives_front, gives_midst, followed_by-ok}
 use Rattle.morsel_drive.specs.Lines.{Each, SuitsPart, IsSoundAxis, IsReading}
 use Rattle.morsel_drive.specs.Driving.{IsWriting, KeepsText, Stops, IsAfter, FitsInput, EndsWith, WritesRows}
 use Rattle.morsel_drive.specs.declared.written.Written.{Written}
@@ -177,26 +177,21 @@ written_to axis w chunk actions written sound k =
     front : (xs : List (Result (List Row) Fault)) (m : ℕ) → slice_range xs 0 m ≡ take m xs
     front xs m = let e : m - 0 ≡ m = omega arith in ap (λ k. take k xs) e
 
-take_all : (rows : List Row) → take (length rows) rows ≡ rows
-take_all rows = ap (take (length rows)) (sym (append-nil rows)) ∙ take-append_seam rows []
-
--- where all that was given is written, and no place gives more, the text is that of all rows
-pub writes_all : (axis : Axis) (is_piece : Piece → Type 0) (w chunk : ℕ) (actions : List Action) (given : ℕ) (input : Input) (written : Written) (result : Result ℕ Fault) → IsSoundAxis axis
-    → KeepsText axis w chunk actions written → FitsInput axis is_piece given input → EndsWith given input written result → WritesRows axis actions result
-writes_all axis is_piece w chunk actions given Ended written (Ok n) sound k rest (count, all, ended) =
-    let last : Gives axis.gives written.next (length axis.gives) [] = subst (λ from. Gives axis.gives from (length axis.gives) []) (sym all) rest in
-    let whole : Gives axis.gives 0 (length axis.gives) k.done = subst (Gives axis.gives 0 (length axis.gives)) (append-nil k.done)
-    (gives_on axis.gives 0 written.next (length axis.gives) k.done [] k.gives last) in
-    let rows = gives_all axis.gives k.done in
-    let ok : collected axis.gives ≡ Ok k.done = rows.0.0 whole in
-    let front : before_fault axis.gives ≡ k.done = rows.1 ok in
-    let size = ap length front in
-    let number : written.rows ≡ length k.done = let h = written.in_order in let b = k.begun in let u = k.within in omega (arith, h, b, u, size) in (
+-- where all that was given is written, and no more, the text is that of the rows which it gives
+pub writes_all : (axis : Axis) (is_piece : Piece → Type 0) (is_end : ℕ → ℕ → Type 0) (w chunk : ℕ) (actions : List Action) (given asked : ℕ) (input : Input) (written : Written) (result : Result ℕ Fault)
+    → KeepsText axis w chunk actions written → asked_up_to axis 0 (flat_map event_of actions) ≡ asked → FitsInput is_piece is_end given asked input → EndsWith given input written result
+    → WritesRows axis is_end actions result
+writes_all axis is_piece is_end w chunk actions given asked Ended written (Ok n) k asked_is rest (count, all, begun, ended) =
+    let front = gives_front axis.gives written.next k.done k.gives in
+    let number : written.rows ≡ length k.done = sym begun ∙ k.begun in
+    let rows : take written.rows (before_fault axis.gives) ≡ k.done = ap (take written.rows) front.1 ∙ ap (λ m. take m (k.done ++ front.0)) number ∙ take-append_seam k.done front.0 in (
+      given,
       k.done,
-      ok,
-      k.text ∙ ap (λ m. axis.text_of (take m (before_fault axis.gives))) number ∙ ap (λ r. axis.text_of (take (length k.done) r)) front ∙ ap axis.text_of (take_all k.done),
+      subst (λ (to : ℕ). Gives axis.gives 0 to k.done) all k.gives,
+      subst (is_end given) (sym asked_is) rest,
+      k.text ∙ ap axis.text_of rows,
       count ∙ number,
     )
-writes_all axis is_piece w chunk actions given Reading written (Ok n) sound k rest (count, all, ended) = absurd ended
-writes_all axis is_piece w chunk actions given (Holding piece) written (Ok n) sound k rest (count, all, ended) = absurd ended
-writes_all axis is_piece w chunk actions given input written (Err fault) sound k rest ends = tt
+writes_all axis is_piece is_end w chunk actions given asked Reading written (Ok n) k asked_is rest (count, all, begun, ended) = absurd ended
+writes_all axis is_piece is_end w chunk actions given asked (Holding piece) written (Ok n) k asked_is rest (count, all, begun, ended) = absurd ended
+writes_all axis is_piece is_end w chunk actions given asked input written (Err fault) k asked_is rest ends = tt

@@ -14,7 +14,7 @@ use Rattle.morsel_pipe.specs.Pieces.{Piece, Part}
 use Rattle.morsel_scan.specs.Ahead.{Axis, EndsEachRow, IsWrittenTo, Seeks, ReadsAhead, asked_up_to, written_up_to}
 use Rattle.morsel_scan.proofs.AheadLemmas.{seeks_in_time, counts_on}
 use Rattle.morsel_drive.specs.Lines.{Each, IsReading, IsSoundAxis, SuitsPart, IsDue, ReadsFor}
-use Rattle.morsel_drive.specs.Driving.{IsWriting, Transfers, KeepsText, Stops, KeepsOrStops, WritesPart, WritesOn, IsWriteStop, FitsInput, GivesInput, ReadsInTime, EndsWith, StopsFor, DrivesAxis, Drives}
+use Rattle.morsel_drive.specs.Driving.{IsWriting, Transfers, KeepsText, Stops, KeepsOrStops, WritesPart, WritesOn, IsWriteStop, FitsInput, GivesInput, ReadsInTime, HasEnded, EndsWith, StopsFor, DrivesAxis, Drives}
 use Rattle.morsel_drive.specs.declared.written.Written.{Written}
 use Rattle.morsel_drive.specs.declared.caller.Input.{Input}
 use Rattle.morsel_drive.specs.declared.caller.Input.TheVariants.{Reading}
@@ -103,30 +103,30 @@ pub record Stands (did : List Action → Type 0) (told : List Action → Type 0)
   pub told_them : told actions
 
 -- in the midst of a run the text is kept, so many bytes were asked, and what is held is of the input
-pub record InMidst (axis : Axis) (is_piece : Piece → Type 0) (reads serves : Type 0) (w chunk given asked : ℕ) (input : Input) (written : Written) (actions : List Action) : Type 0 where
+pub record InMidst (axis : Axis) (is_piece : Piece → Type 0) (is_end : ℕ → ℕ → Type 0) (reads serves : Type 0) (w chunk given asked : ℕ) (input : Input) (written : Written) (actions : List Action) : Type 0 where
   pub keeps : KeepsText axis w chunk actions written
   pub asked_is : asked_up_to axis 0 (flat_map event_of actions) ≡ asked
-  pub fits : FitsInput axis is_piece given input
+  pub fits : FitsInput is_piece is_end given asked input
   pub reading : reads
   pub serving : serves
 
 -- so it is for each job that the reader reads and the line serves
-abbrev pub ToldMidst : {J : Type 0} → (J → Axis) → (J → Piece → Type 0) → (J → Type 0) → (J → Type 0) → (J → Type 0) → (J → Type 0) → ℕ → ℕ → ℕ → ℕ → Input → Written
+abbrev pub ToldMidst : {J : Type 0} → (J → Axis) → (J → Piece → Type 0) → (J → ℕ → ℕ → Type 0) → (J → Type 0) → (J → Type 0) → (J → Type 0) → (J → Type 0) → ℕ → ℕ → ℕ → ℕ → Input → Written
     → List Action → Type 0
-ToldMidst {J} axis is_piece begun_reading begun_serving reads serves bound chunk given asked input written actions = (job : J)
+ToldMidst {J} axis is_piece is_end begun_reading begun_serving reads serves bound chunk given asked input written actions = (job : J)
     → begun_reading job → begun_serving job → IsSoundAxis (axis job)
-    → InMidst (axis job) (is_piece job) (reads job) (serves job) (bound + (axis job).longest) chunk given asked input written actions
+    → InMidst (axis job) (is_piece job) (is_end job) (reads job) (serves job) (bound + (axis job).longest) chunk given asked input written actions
 
 -- what is told of a whole run
-abbrev pub ToldRun : {J : Type 0} → (J → Axis) → (J → Fault → Type 0) → (J → Type 0) → (J → Type 0) → ℕ → ℕ → Result ℕ Fault → List Action → Type 0
-ToldRun {J} axis is_due begun_reading begun_serving bound chunk result actions = (job : J)
+abbrev pub ToldRun : {J : Type 0} → (J → Axis) → (J → Fault → Type 0) → (J → ℕ → ℕ → Type 0) → (J → Type 0) → (J → Type 0) → (J → Type 0) → ℕ → ℕ → Result ℕ Fault → List Action → Type 0
+ToldRun {J} axis is_due is_end on begun_reading begun_serving bound chunk result actions = (job : J)
     → begun_reading job → begun_serving job → IsSoundAxis (axis job)
-    → DrivesAxis (axis job) (is_due job) (bound + (axis job).longest) chunk actions result
+    → DrivesAxis (axis job) (is_due job) (is_end job) (on job) (bound + (axis job).longest) chunk actions result
 
-pub stands_begun : {J : Type 0} (axis : J → Axis) (is_piece : J → Piece → Type 0) (reads serves : J → Type 0) (bound chunk given asked : ℕ) (written : Written) (did : List Action → Type 0) (before : Outside)
+pub stands_begun : {J : Type 0} (axis : J → Axis) (is_piece : J → Piece → Type 0) (is_end : J → ℕ → ℕ → Type 0) (reads serves : J → Type 0) (bound chunk given asked : ℕ) (written : Written) (did : List Action → Type 0) (before : Outside)
     → did [] → asked ≡ 0 → written.next ≡ 0 → written.begun ≡ 0 → written.rows ≡ 0
-    → Stands did (ToldMidst axis is_piece reads serves reads serves bound chunk given asked Reading written) before before
-stands_begun axis is_piece reads serves bound chunk given asked written did before nothing none next begun rows = record {
+    → Stands did (ToldMidst axis is_piece is_end reads serves reads serves bound chunk given asked Reading written) before before
+stands_begun axis is_piece is_end reads serves bound chunk given asked written did before nothing none next begun rows = record {
   actions = [];
   transfers = transfers-nothing did before nothing;
   told_them = λ job reading serving sound. record {
@@ -145,30 +145,30 @@ asked_more axis actions more asked now was is =
     ∙ ap (λ n. asked_up_to axis n (flat_map event_of more)) was ∙ is
 
 -- the text after reads, whether they went well or not
-kept_read : (axis : Axis) (is_piece : Piece → Type 0) (reads serves : Type 0) (bound chunk given asked : ℕ) (input : Input) (written : Written) (actions more : List Action) → IsSoundAxis axis
-    → InMidst axis is_piece reads serves (bound + axis.longest) chunk given asked input written actions → Each IsReading more
+kept_read : (axis : Axis) (is_piece : Piece → Type 0) (is_end : ℕ → ℕ → Type 0) (reads serves : Type 0) (bound chunk given asked : ℕ) (input : Input) (written : Written) (actions more : List Action) → IsSoundAxis axis
+    → InMidst axis is_piece is_end reads serves (bound + axis.longest) chunk given asked input written actions → Each IsReading more
     → ((there : ℕ) → IsWrittenTo axis written.next there → ReadsAhead axis (bound + axis.longest) chunk asked there (flat_map event_of more))
     → KeepsText axis (bound + axis.longest) chunk (actions ++ more) written
-kept_read axis is_piece reads serves bound chunk given asked input written actions more sound m are in_time =
+kept_read axis is_piece is_end reads serves bound chunk given asked input written actions more sound m are in_time =
     keeps-read axis (bound + axis.longest) chunk actions more written m.keeps are
     (subst (λ n. ReadsAhead axis (bound + axis.longest) chunk n (written_up_to axis.head (flat_map event_of actions)) (flat_map event_of more)) (sym m.asked_is)
     (in_time (written_up_to axis.head (flat_map event_of actions)) (written_to axis (bound + axis.longest) chunk actions written sound m.keeps)))
 
-pub stands_read : {J : Type 0} (axis : J → Axis) (is_piece : J → Piece → Type 0) (is_due : J → Fault → Type 0) (begun_reading begun_serving reads serves on : J → Type 0) (bound chunk here given now asked later : ℕ)
+pub stands_read : {J : Type 0} (axis : J → Axis) (is_piece : J → Piece → Type 0) (is_end : J → ℕ → ℕ → Type 0) (is_due : J → Fault → Type 0) (begun_reading begun_serving reads serves on : J → Type 0) (bound chunk here given now asked later : ℕ)
     (input held : Input) (written : Written) (did call more : List Action → Type 0) (before old new : Outside) → here ≡ chunk
-    → Stands did (ToldMidst axis is_piece begun_reading begun_serving reads serves bound chunk given asked input written) before old
+    → Stands did (ToldMidst axis is_piece is_end begun_reading begun_serving reads serves bound chunk given asked input written) before old
     → ReadsFor call (λ events. (job : J) → reads job → EndsEachRow (axis job) → ReadsInTime (axis job) (bound + (axis job).longest) here asked written.next (Ok held) later events) old new
     → ((xs ys : List Action) → did xs → call ys → more (xs ++ ys))
-    → ((job : J) → reads job → FitsInput (axis job) (is_piece job) given input → GivesInput (axis job) (is_piece job) (is_due job) (on job) now (Ok held))
-    → Stands more (ToldMidst axis is_piece begun_reading begun_serving on serves bound chunk now later held written) before new
-stands_read axis is_piece is_due begun_reading begun_serving reads serves on bound chunk here given now asked later input held written did call more before old new same s r join gives = record {
+    → ((job : J) → reads job → FitsInput (is_piece job) (is_end job) given asked input → GivesInput (is_piece job) (is_due job) (is_end job) (on job) now later (Ok held))
+    → Stands more (ToldMidst axis is_piece is_end begun_reading begun_serving on serves bound chunk now later held written) before new
+stands_read axis is_piece is_end is_due begun_reading begun_serving reads serves on bound chunk here given now asked later input held written did call more before old new same s r join gives = record {
   actions = s.actions ++ r.reads;
   transfers = transfers-read did more before old new s.actions r.reads s.transfers r.does r.are (λ xs h. join xs r.reads h r.did_them);
   told_them = λ job reading serving sound.
       let m = s.told_them job reading serving sound in
       let t = r.sought_them job m.reading sound.ends in
       let g = gives job m.reading m.fits in record {
-        keeps = kept_read (axis job) (is_piece job) (reads job) (serves job) bound chunk given asked input written s.actions r.reads sound m r.are
+        keeps = kept_read (axis job) (is_piece job) (is_end job) (reads job) (serves job) bound chunk given asked input written s.actions r.reads sound m r.are
             (λ there is. subst (λ n. ReadsAhead (axis job) (bound + (axis job).longest) n asked there (flat_map event_of r.reads)) same (t.0 there is));
         asked_is = asked_more (axis job) s.actions r.reads asked later m.asked_is t.1;
         fits = g.0;
@@ -177,34 +177,36 @@ stands_read axis is_piece is_due begun_reading begun_serving reads serves on bou
       };
 }
 
-pub read_failed : {J : Type 0} (axis : J → Axis) (is_piece : J → Piece → Type 0) (is_due : J → Fault → Type 0) (begun_reading begun_serving reads serves on : J → Type 0) (bound chunk here given now asked later : ℕ)
-    (input : Input) (fault : Fault) (written : Written) (did call more : List Action → Type 0) (failed broke : Fault → Type 0) (before old new : Outside) → here ≡ chunk
-    → Stands did (ToldMidst axis is_piece begun_reading begun_serving reads serves bound chunk given asked input written) before old
+pub read_failed : {J : Type 0} (axis : J → Axis) (is_piece : J → Piece → Type 0) (is_end : J → ℕ → ℕ → Type 0) (is_due : J → Fault → Type 0) (begun_reading begun_serving reads serves on : J → Type 0) (bound chunk here given now asked later : ℕ)
+    (input : Input) (fault : Fault) (written : Written) (did call more : List Action → Type 0) (failed broke : Fault → Type 0) (ended : Type 0) (before old new : Outside) → here ≡ chunk
+    → Stands did (ToldMidst axis is_piece is_end begun_reading begun_serving reads serves bound chunk given asked input written) before old
     → ReadsFor call (λ events. (job : J) → reads job → EndsEachRow (axis job) → ReadsInTime (axis job) (bound + (axis job).longest) here asked written.next (Err fault) later events) old new
     → ((xs ys : List Action) → did xs → call ys → more (xs ++ ys))
-    → ((job : J) → reads job → FitsInput (axis job) (is_piece job) given input → GivesInput (axis job) (is_piece job) (is_due job) (on job) now (Err fault))
-    → failed fault → Drives more failed broke (ToldRun axis is_due begun_reading begun_serving bound chunk (Err fault)) before (Err fault) new
-read_failed axis is_piece is_due begun_reading begun_serving reads serves on bound chunk here given now asked later input fault written did call more failed broke before old new same s r join gives is = record {
+    → ((job : J) → reads job → FitsInput (is_piece job) (is_end job) given asked input → GivesInput (is_piece job) (is_due job) (is_end job) (on job) now later (Err fault))
+    → failed fault → Drives more failed broke ended (ToldRun axis is_due is_end on begun_reading begun_serving bound chunk (Err fault)) before (Err fault) new
+read_failed axis is_piece is_end is_due begun_reading begun_serving reads serves on bound chunk here given now asked later input fault written did call more failed broke ended before old new same s r join gives is = record {
   actions = s.actions ++ r.reads;
   transfers = transfers-read did more before old new s.actions r.reads s.transfers r.does r.are (λ xs h. join xs r.reads h r.did_them);
   stops = inr (inl is);
+  ends = tt;
   told_them = λ job reading serving sound.
       let m = s.told_them job reading serving sound in
       let t = r.sought_them job m.reading sound.ends in record {
         writes = tt;
+        reads_on = tt;
         due = gives job m.reading m.fits;
         front = keeps-stops (axis job) (bound + (axis job).longest) chunk (s.actions ++ r.reads) written sound
-            (kept_read (axis job) (is_piece job) (reads job) (serves job) bound chunk given asked input written s.actions r.reads sound m r.are
+            (kept_read (axis job) (is_piece job) (is_end job) (reads job) (serves job) bound chunk given asked input written s.actions r.reads sound m r.are
             (λ there is. subst (λ n. ReadsAhead (axis job) (bound + (axis job).longest) n asked there (flat_map event_of r.reads)) same (t.0 there is)));
       };
 }
 
 -- a piece was fed, or the line was let go on
-pub stands_served : {J : Type 0} (axis : J → Axis) (is_piece : J → Piece → Type 0) (begun_reading begun_serving reads serves later : J → Type 0) (bound chunk given asked : ℕ) (input held : Input) (written : Written)
-    (did : List Action → Type 0) (before now : Outside) → Stands did (ToldMidst axis is_piece begun_reading begun_serving reads serves bound chunk given asked input written) before now
-    → ((job : J) → serves job → FitsInput (axis job) (is_piece job) given input → later job × FitsInput (axis job) (is_piece job) given held)
-    → Stands did (ToldMidst axis is_piece begun_reading begun_serving reads later bound chunk given asked held written) before now
-stands_served axis is_piece begun_reading begun_serving reads serves later bound chunk given asked input held written did before now s on = record {
+pub stands_served : {J : Type 0} (axis : J → Axis) (is_piece : J → Piece → Type 0) (is_end : J → ℕ → ℕ → Type 0) (begun_reading begun_serving reads serves later : J → Type 0) (bound chunk given asked : ℕ) (input held : Input) (written : Written)
+    (did : List Action → Type 0) (before now : Outside) → Stands did (ToldMidst axis is_piece is_end begun_reading begun_serving reads serves bound chunk given asked input written) before now
+    → ((job : J) → serves job → FitsInput (is_piece job) (is_end job) given asked input → later job × FitsInput (is_piece job) (is_end job) given asked held)
+    → Stands did (ToldMidst axis is_piece is_end begun_reading begun_serving reads later bound chunk given asked held written) before now
+stands_served axis is_piece is_end begun_reading begun_serving reads serves later bound chunk given asked input held written did before now s on = record {
   actions = s.actions;
   transfers = s.transfers;
   told_them = λ job reading serving sound. let m = s.told_them job reading serving sound in let g = on job m.serving m.fits in record {
@@ -216,29 +218,31 @@ stands_served axis is_piece begun_reading begun_serving reads serves later bound
   };
 }
 
-pub step_failed : {J : Type 0} (axis : J → Axis) (is_piece : J → Piece → Type 0) (is_due : J → Fault → Type 0) (begun_reading begun_serving reads serves : J → Type 0) (bound chunk given asked : ℕ) (input : Input)
-    (fault : Fault) (written : Written) (did : List Action → Type 0) (failed broke : Fault → Type 0) (before now : Outside)
-    → Stands did (ToldMidst axis is_piece begun_reading begun_serving reads serves bound chunk given asked input written) before now
+pub step_failed : {J : Type 0} (axis : J → Axis) (is_piece : J → Piece → Type 0) (is_end : J → ℕ → ℕ → Type 0) (is_due : J → Fault → Type 0) (begun_reading begun_serving reads serves on : J → Type 0) (bound chunk given asked : ℕ) (input : Input)
+    (fault : Fault) (written : Written) (did : List Action → Type 0) (failed broke : Fault → Type 0) (ended : Type 0) (before now : Outside)
+    → Stands did (ToldMidst axis is_piece is_end begun_reading begun_serving reads serves bound chunk given asked input written) before now
     → ((job : J) → serves job → IsDue (is_due job) fault) → broke fault
-    → Drives did failed broke (ToldRun axis is_due begun_reading begun_serving bound chunk (Err fault)) before (Err fault) now
-step_failed axis is_piece is_due begun_reading begun_serving reads serves bound chunk given asked input fault written did failed broke before now s due is = record {
+    → Drives did failed broke ended (ToldRun axis is_due is_end on begun_reading begun_serving bound chunk (Err fault)) before (Err fault) now
+step_failed axis is_piece is_end is_due begun_reading begun_serving reads serves on bound chunk given asked input fault written did failed broke ended before now s due is = record {
   actions = s.actions;
   transfers = s.transfers;
   stops = inr (inr is);
+  ends = tt;
   told_them = λ job reading serving sound. let m = s.told_them job reading serving sound in record {
     writes = tt;
+    reads_on = tt;
     due = due job m.serving;
     front = keeps-stops (axis job) (bound + (axis job).longest) chunk s.actions written sound m.keeps;
   };
 }
 
 -- what wrote on, or stopped, adds to what was done
-pub stands_written : {J T : Type 0} (axis : J → Axis) (is_piece : J → Piece → Type 0) (begun_reading begun_serving reads on serves later : J → Type 0) (bound chunk given asked : ℕ) (input : Input) (was now : Written)
+pub stands_written : {J T : Type 0} (axis : J → Axis) (is_piece : J → Piece → Type 0) (is_end : J → ℕ → ℕ → Type 0) (begun_reading begun_serving reads on serves later : J → Type 0) (bound chunk given asked : ℕ) (input : Input) (was now : Written)
     (did : List Action → Type 0) (before old new : Outside) (done : T)
-    → Stands did (ToldMidst axis is_piece begun_reading begun_serving reads serves bound chunk given asked input was) before old
+    → Stands did (ToldMidst axis is_piece is_end begun_reading begun_serving reads serves bound chunk given asked input was) before old
     → WritesOn (ToldStop axis serves later was (Ok done) now) old (Ok done) new → ((job : J) → reads job → on job)
-    → Stands did (ToldMidst axis is_piece begun_reading begun_serving on later bound chunk given asked input now) before new
-stands_written axis is_piece begun_reading begun_serving reads on serves later bound chunk given asked input was now did before old new done s w go = record {
+    → Stands did (ToldMidst axis is_piece is_end begun_reading begun_serving on later bound chunk given asked input now) before new
+stands_written axis is_piece is_end begun_reading begun_serving reads on serves later bound chunk given asked input was now did before old new done s w go = record {
   actions = s.actions ++ w.writes;
   transfers = transfers-written did before old new s.actions w.writes s.transfers w.does w.are;
   told_them = λ job reading serving sound.
@@ -261,18 +265,20 @@ stop_among actions writes faults.OutOfMemory h = tt
 stop_among actions writes faults.WriteFault h = failures_among actions writes h
 stop_among actions writes fault h = absurd h
 
-pub write_failed : {J T : Type 0} (axis : J → Axis) (is_piece : J → Piece → Type 0) (is_due : J → Fault → Type 0) (begun_reading begun_serving reads serves later : J → Type 0) (bound chunk given asked : ℕ)
-    (input : Input) (fault : Fault) (was now : Written) (did : List Action → Type 0) (failed broke : Fault → Type 0) (before old new : Outside)
-    → Stands did (ToldMidst axis is_piece begun_reading begun_serving reads serves bound chunk given asked input was) before old
+pub write_failed : {J T : Type 0} (axis : J → Axis) (is_piece : J → Piece → Type 0) (is_end : J → ℕ → ℕ → Type 0) (is_due : J → Fault → Type 0) (begun_reading begun_serving reads serves later on : J → Type 0) (bound chunk given asked : ℕ)
+    (input : Input) (fault : Fault) (was now : Written) (did : List Action → Type 0) (failed broke : Fault → Type 0) (ended : Type 0) (before old new : Outside)
+    → Stands did (ToldMidst axis is_piece is_end begun_reading begun_serving reads serves bound chunk given asked input was) before old
     → WritesOn {T = T} (ToldStop {T = T} axis serves later was (Err fault) now) old (Err fault) new
-    → Drives did failed broke (ToldRun axis is_due begun_reading begun_serving bound chunk (Err fault)) before (Err fault) new
-write_failed axis is_piece is_due begun_reading begun_serving reads serves later bound chunk given asked input fault was now did failed broke before old new s w = record {
+    → Drives did failed broke ended (ToldRun axis is_due is_end on begun_reading begun_serving bound chunk (Err fault)) before (Err fault) new
+write_failed axis is_piece is_end is_due begun_reading begun_serving reads serves later on bound chunk given asked input fault was now did failed broke ended before old new s w = record {
   actions = s.actions ++ w.writes;
   transfers = transfers-written did before old new s.actions w.writes s.transfers w.does w.are;
   stops = inl (stop_among s.actions w.writes fault w.stops);
+  ends = tt;
   told_them = λ job reading serving sound.
       let m = s.told_them job reading serving sound in let h = w.told_them job m.serving sound in record {
         writes = tt;
+        reads_on = tt;
         due = write_due (is_due job) w.writes fault w.stops;
         front = h.1 (bound + (axis job).longest) chunk s.actions m.keeps;
       };
@@ -290,17 +296,27 @@ ended_due due given input written (Err faults.OutOfMemory) ends = tt
 ended_due due given input written (Err fault) ends = absurd ends
 
 -- the run has ended
-pub run_ended : {J : Type 0} (axis : J → Axis) (is_piece : J → Piece → Type 0) (is_due : J → Fault → Type 0) (begun_reading begun_serving reads serves : J → Type 0) (bound chunk given asked : ℕ) (input : Input)
-    (written : Written) (result : Result ℕ Fault) (did : List Action → Type 0) (failed broke : Fault → Type 0) (before now : Outside)
-    → Stands did (ToldMidst axis is_piece begun_reading begun_serving reads serves bound chunk given asked input written) before now → EndsWith given input written result
-    → Drives did failed broke (ToldRun axis is_due begun_reading begun_serving bound chunk result) before result now
-run_ended axis is_piece is_due begun_reading begun_serving reads serves bound chunk given asked input written result did failed broke before now s ends = record {
+pub run_ended : {J : Type 0} (axis : J → Axis) (is_piece : J → Piece → Type 0) (is_end : J → ℕ → ℕ → Type 0) (is_due : J → Fault → Type 0) (begun_reading begun_serving reads serves : J → Type 0) (bound chunk given asked : ℕ)
+    (input : Input) (written : Written) (result : Result ℕ Fault) (did : List Action → Type 0) (failed broke : Fault → Type 0) (ended : Type 0) (before now : Outside)
+    → Stands did (ToldMidst axis is_piece is_end begun_reading begun_serving reads serves bound chunk given asked input written) before now → EndsWith given input written result → (HasEnded input → ended)
+    → Drives did failed broke ended (ToldRun axis is_due is_end reads begun_reading begun_serving bound chunk result) before result now
+run_ended axis is_piece is_end is_due begun_reading begun_serving reads serves bound chunk given asked input written result did failed broke ended before now s ends at_end = record {
   actions = s.actions;
   transfers = s.transfers;
   stops = ended_stop given input written result failed broke s.actions ends;
+  ends = ended_well given input written result ended ends at_end;
   told_them = λ job reading serving sound. let m = s.told_them job reading serving sound in record {
-    writes = writes_all (axis job) (is_piece job) (bound + (axis job).longest) chunk s.actions given input written result sound m.keeps m.fits ends;
+    writes = writes_all (axis job) (is_piece job) (is_end job) (bound + (axis job).longest) chunk s.actions given asked input written result m.keeps m.asked_is m.fits ends;
+    reads_on = when_ok result (reads job) m.reading;
     due = ended_due (is_due job) given input written result ends;
     front = keeps-stops (axis job) (bound + (axis job).longest) chunk s.actions written sound m.keeps;
   };
 }
+  where
+    ended_well : (given : ℕ) (input : Input) (written : Written) (result : Result ℕ Fault) (ended : Type 0) → EndsWith given input written result → (HasEnded input → ended) → OnOk result ended
+    ended_well given input written (Ok n) ended ends at_end = at_end ends.3
+    ended_well given input written (Err fault) ended ends at_end = tt
+
+    when_ok : (result : Result ℕ Fault) (P : Type 0) → P → OnOk result P
+    when_ok (Ok n) P holds = holds
+    when_ok (Err fault) P holds = tt

@@ -9,7 +9,7 @@ use Rattle.morsel_outside.specs.Outside.{Outside}
 use Rattle.morsel_outside.specs.Actions.{Action, ReadingRange, FailedReadingRange, Writing, FailedWriting, Does, event_of, text_by, write_failures}
 use Rattle.morsel_pipe.specs.Pieces.{Piece, Part}
 use Rattle.morsel_scan.specs.CsvScans.{FitsScan}
-use Rattle.morsel_scan.specs.StretchRows.{Gives, collected, before_fault}
+use Rattle.morsel_scan.specs.StretchRows.{Gives, before_fault}
 use Rattle.morsel_scan.specs.Ahead.{Axis, IsWrittenTo, ReadsAhead, asked_up_to}
 use Rattle.morsel_drive.specs.Lines.{Each, IsReading, IsDue}
 use Rattle.morsel_drive.specs.declared.written.Written.{Written}
@@ -87,16 +87,16 @@ HoldsFitting Reading = Unit {0}
 HoldsFitting (Holding piece) = FitsScan piece
 HoldsFitting Ended = Unit {0}
 
--- what the caller holds of the input is a piece of it; at its end no place gives more
-abbrev pub FitsInput : Axis → (Piece → Type 0) → ℕ → Input → Type 0
-FitsInput axis is_piece given Reading = Unit {0}
-FitsInput axis is_piece given (Holding piece) = is_piece piece
-FitsInput axis is_piece given Ended = Gives axis.gives given (length axis.gives) []
+-- what the caller holds of the input is a piece of it; where it holds its end, no place gives more
+abbrev pub FitsInput : (Piece → Type 0) → (ℕ → ℕ → Type 0) → ℕ → ℕ → Input → Type 0
+FitsInput is_piece is_end given asked Reading = Unit {0}
+FitsInput is_piece is_end given asked (Holding piece) = is_piece piece
+FitsInput is_piece is_end given asked Ended = is_end given asked
 
 -- what the caller holds of the input, and that the reader reads on; or a fault that is due
-abbrev pub GivesInput : Axis → (Piece → Type 0) → (Fault → Type 0) → Type 0 → ℕ → Result Input Fault → Type 0
-GivesInput axis is_piece is_due reads given (Ok input) = FitsInput axis is_piece given input × reads
-GivesInput axis is_piece is_due reads given (Err fault) = IsDue is_due fault
+abbrev pub GivesInput : (Piece → Type 0) → (Fault → Type 0) → (ℕ → ℕ → Type 0) → Type 0 → ℕ → ℕ → Result Input Fault → Type 0
+GivesInput is_piece is_due is_end reads given asked (Ok input) = FitsInput is_piece is_end given asked input × reads
+GivesInput is_piece is_due is_end reads given asked (Err fault) = IsDue is_due fault
 
 -- where all that the places before one add is written, each read is in time; after them so many bytes were asked, unless there was a fault
 abbrev pub ReadsInTime : Axis → ℕ → ℕ → ℕ → ℕ → Result Input Fault → ℕ → List IoEvent → Type 0
@@ -109,9 +109,9 @@ HasEnded Reading = ⊥
 HasEnded (Holding piece) = ⊥
 HasEnded Ended = Unit {0}
 
--- rows are answered where all that was given is written, and the input has ended
+-- rows are answered where all that was given is written, and no more, and the input has ended
 abbrev pub EndsWith : ℕ → Input → Written → Result ℕ Fault → Type 0
-EndsWith given input written (Ok n) = (n ≡ written.rows) × (written.next ≡ given) × HasEnded input
+EndsWith given input written (Ok n) = (n ≡ written.rows) × (written.next ≡ given) × (written.begun ≡ written.rows) × HasEnded input
 EndsWith given input written (Err faults.OutOfMemory) = Unit {0}
 EndsWith given input written (Err fault) = ⊥
 
@@ -119,20 +119,23 @@ EndsWith given input written (Err fault) = ⊥
 abbrev pub StopsFor : (Fault → Type 0) → (Fault → Type 0) → List Action → Fault → Type 0
 StopsFor failed broke actions fault = IsWriteStop actions fault ⊎ failed fault ⊎ broke fault
 
--- rows are answered where all places give them, and their text was written
-abbrev pub WritesRows : Axis → List Action → Result ℕ Fault → Type 0
-WritesRows axis actions (Ok n) = (rows : List Row) × (collected axis.gives ≡ Ok rows) × (flat_map text_by actions ≡ axis.text_of rows) × (n ≡ length rows)
-WritesRows axis actions (Err fault) = Unit {0}
+-- rows are answered where the places before one give them, after which no place gives a row, and their text was written
+abbrev pub WritesRows : Axis → (ℕ → ℕ → Type 0) → List Action → Result ℕ Fault → Type 0
+WritesRows axis is_end actions (Ok n) = (given : ℕ) × (rows : List Row) × Gives axis.gives 0 given rows × is_end given (asked_up_to axis 0 (flat_map event_of actions))
+    × (flat_map text_by actions ≡ axis.text_of rows) × (n ≡ length rows)
+WritesRows axis is_end actions (Err fault) = Unit {0}
 
 -- what a run answers and what it wrote, given what each place gives: all rows, or a fault that is due; the text is a front of the rows' before the first fault, and each read in time
-pub record DrivesAxis (axis : Axis) (is_due : Fault → Type 0) (w chunk : ℕ) (actions : List Action) (result : Result ℕ Fault) : Type 0 where
-  pub writes : WritesRows axis actions result
+pub record DrivesAxis (axis : Axis) (is_due : Fault → Type 0) (is_end : ℕ → ℕ → Type 0) (reads : Type 0) (w chunk : ℕ) (actions : List Action) (result : Result ℕ Fault) : Type 0 where
+  pub writes : WritesRows axis is_end actions result
+  pub reads_on : OnOk result reads
   pub due : IfErr result (IsDue is_due)
   pub front : Stops axis w chunk actions
 
--- a whole run: what it did, why it has a fault, and, where it is told what the files contain, what was written
-pub record Drives (did : List Action → Type 0) (failed broke : Fault → Type 0) (told : List Action → Type 0) (before : Outside) (result : Result ℕ Fault) (now : Outside) : Type 0 where
+-- a whole run: what it did, why it has a fault, that its reader came to the end where it has none, and, where it is told what the files contain, what was written
+pub record Drives (did : List Action → Type 0) (failed broke : Fault → Type 0) (ended : Type 0) (told : List Action → Type 0) (before : Outside) (result : Result ℕ Fault) (now : Outside) : Type 0 where
   pub actions : List Action
   pub transfers : Transfers did before actions now
   pub stops : IfErr result (StopsFor failed broke actions)
+  pub ends : OnOk result ended
   pub told_them : told actions

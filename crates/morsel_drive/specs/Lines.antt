@@ -47,11 +47,11 @@ GivesFitting (Ok (Some piece)) = FitsScan piece
 GivesFitting (Ok None) = Unit {0}
 GivesFitting (Err fault) = Unit {0}
 
--- the next piece of the input is given, whose stretch begins at the place up to which all was given, and the reader reads on; or no place gives more; or a fault that is due
-abbrev pub GivesNext : Axis → (Piece → Type 0) → (Fault → Type 0) → Type 0 → ℕ → Result (Option Piece) Fault → ℕ → Type 0
-GivesNext axis is_piece is_due reads given (Ok (Some piece)) now = is_piece piece × (piece.from ≡ given) × (piece.to ≡ now) × reads
-GivesNext axis is_piece is_due reads given (Ok None) now = (now ≡ given) × Gives axis.gives given (length axis.gives) [] × reads
-GivesNext axis is_piece is_due reads given (Err fault) now = IsDue is_due fault
+-- the next piece of the input is given, whose stretch begins at the place up to which all was given, and the reader reads on; or the input ends there; or a fault that is due
+abbrev pub GivesNext : (Piece → Type 0) → (Fault → Type 0) → (ℕ → ℕ → Type 0) → Type 0 → ℕ → Result (Option Piece) Fault → ℕ → ℕ → Type 0
+GivesNext is_piece is_due is_end reads given (Ok (Some piece)) now asked = is_piece piece × (piece.from ≡ given) × (piece.to ≡ now) × reads
+GivesNext is_piece is_due is_end reads given (Ok None) now asked = (now ≡ given) × is_end now asked × reads
+GivesNext is_piece is_due is_end reads given (Err fault) now asked = IsDue is_due fault
 
 -- each of a list is so
 abbrev pub Each : {X : Type 0} → (X → Type 0) → List X → Type 0

@@ -3,7 +3,7 @@ ghost use Rattle.std.specs.Prelude.{◌≡◌, ℕ, ◌+◌, ◌<◌, List, ◌+
 ghost use Rattle.morsel_outside.specs.Actions.{Action};
 ghost use Rattle.morsel_scan.specs.Ahead.{EndsEachRow};
 ghost use Rattle.morsel_drive.specs.Lines.{IsSoundAxis, ReadsFor};
-ghost use Rattle.morsel_drive.specs.Driving.{IsAfter, WritesPart, WritesOn, KeepsOrStops, KeepsText, HoldsFitting, FitsInput, GivesInput, ReadsInTime, EndsWith, DrivesAxis, Drives};
+ghost use Rattle.morsel_drive.specs.Driving.{IsAfter, WritesPart, WritesOn, KeepsOrStops, KeepsText, HoldsFitting, HasEnded, FitsInput, GivesInput, ReadsInTime, EndsWith, DrivesAxis, Drives};
 
 use crate::line::{Line, PieceSource, Taken};
 use crate::written::Written;
@@ -94,14 +94,16 @@ fn read_on<H: Io, L: Line, S: PieceSource<H, L>>(
 ) -> Result<Input, Fault>
     requires suits { S.suits reader.old (H.seen io.old) }
     requires fits { HoldsFitting input }
+    requires ended { HasEnded input → S.ended reader.old }
     ensures suits { OnOk result (S.suits reader.new (H.seen io.new)) }
     ensures chunk { S.chunk reader.new ≡ S.chunk reader.old }
     ensures fits { IfOk result HoldsFitting }
+    ensures ended { IfOk result (λ held. HasEnded held → S.ended reader.new) }
     ensures failed { IfErr result (S.failed reader.new) }
-    ensures reads { ReadsFor (S.did reader.old reader.new) (λ events. (job : L.Job) → S.reads reader.old job (H.seen io.old) → EndsEachRow (L.axis job)
+    ensures reads { ReadsFor (S.did reader.old reader.new (H.seen io.old).sizes) (λ events. (job : L.Job) → S.reads reader.old job (H.seen io.old) → EndsEachRow (L.axis job)
         → ReadsInTime (L.axis job) (bound + (L.axis job).longest) (S.chunk reader.old) (S.asked reader.old) written.now.next result (S.asked reader.new) events) (H.seen io.old) (H.seen io.new) }
-    ensures input { (job : L.Job) → S.reads reader.old job (H.seen io.old) → FitsInput (L.axis job) (L.is_piece job) (S.given reader.old) input
-        → GivesInput (L.axis job) (L.is_piece job) (L.is_due job) (S.reads reader.new job (H.seen io.new)) (S.given reader.new) result }
+    ensures input { (job : L.Job) → S.reads reader.old job (H.seen io.old) → FitsInput (L.is_piece job) (L.is_end job) (S.given reader.old) (S.asked reader.old) input
+        → GivesInput (L.is_piece job) (L.is_due job) (L.is_end job) (S.reads reader.new job (H.seen io.new)) (S.given reader.new) (S.asked reader.new) result }
 {
     let Input::Reading = input else {
         return Ok(input);
@@ -120,8 +122,9 @@ fn read_on<H: Io, L: Line, S: PieceSource<H, L>>(
 fn feed_on<L: Line>(line: &mut L, input: Input) -> Input
     requires fits { HoldsFitting input }
     ensures fits { HoldsFitting result }
-    ensures input { (job : L.Job) → L.serves line.old job → (given : ℕ) → FitsInput (L.axis job) (L.is_piece job) given input
-        → L.serves line.new job × FitsInput (L.axis job) (L.is_piece job) given result }
+    ensures ended { HasEnded result → HasEnded input }
+    ensures input { (job : L.Job) → L.serves line.old job → (given asked : ℕ) → FitsInput (L.is_piece job) (L.is_end job) given asked input
+        → L.serves line.new job × FitsInput (L.is_piece job) (L.is_end job) given asked result }
 {
     match input {
         Input::Reading => Input::Reading,
@@ -136,12 +139,12 @@ fn feed_on<L: Line>(line: &mut L, input: Input) -> Input
     }
 }
 
-/// The answer where the line has ended: the number of rows that were written, where they are those of all the input.
+/// The answer where the line has ended: the number of rows that were written, where they are those of all the input and no others.
 fn end(given: u64, input: &Input, written: &Written) -> Result<u64, Fault>
     ensures { EndsWith given input.now written.now result }
 {
     match input {
-        Input::Ended if written.next == given => Ok(written.rows),
+        Input::Ended if written.next == given && written.begun == written.rows => Ok(written.rows),
         _ => Err(Fault::OutOfMemory),
     }
 }
@@ -160,9 +163,9 @@ pub fn drive<H: Io, L: Line, S: PieceSource<H, L>>(
     requires suits { S.suits reader.old (H.seen io.old) }
     requires given { S.given reader.old ≡ 0 }
     requires asked { S.asked reader.old ≡ 0 }
-    ensures { Drives (S.did reader.old reader.new) (S.failed reader.new) (L.broke line.new) (λ actions. (job : L.Job)
+    ensures { Drives (S.did reader.old reader.new (H.seen io.old).sizes) (S.failed reader.new) (L.broke line.new) (S.ended reader.new × S.suits reader.new (H.seen io.new)) (λ actions. (job : L.Job)
         → S.reads reader.old job (H.seen io.old) → L.serves line.old job → IsSoundAxis (L.axis job)
-        → DrivesAxis (L.axis job) (L.is_due job) (bound + (L.axis job).longest) (S.chunk reader.old) actions result)
+        → DrivesAxis (L.axis job) (L.is_due job) (L.is_end job) (S.reads reader.new job (H.seen io.new)) (bound + (L.axis job).longest) (S.chunk reader.old) actions result)
         (H.seen io.old) result (H.seen io.new) }
 {
     let mut written = Written {

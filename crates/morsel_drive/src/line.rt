@@ -21,7 +21,7 @@ pub enum Taken {
 
 /// A line of tasks, from the pieces of a scan to the text of rows.
 pub trait Line {
-    ghost use Rattle.std.specs.Prelude.{IfErr, OnOk};
+    ghost use Rattle.std.specs.Prelude.{ℕ, IfErr, OnOk};
     ghost use Rattle.morsel_meaning.specs.declared.fault.Fault.{Fault};
     ghost use Rattle.morsel_pipe.specs.Pieces.{Piece};
     ghost use Rattle.morsel_scan.specs.CsvScans.{FitsScan};
@@ -36,6 +36,9 @@ pub trait Line {
 
     /// The piece is one of the input.
     ghost is_piece: { Self.Job → Piece → Type 0 };
+
+    /// No place after this one gives a row, where so many bytes of the input were asked.
+    ghost is_end: { Self.Job → ℕ → ℕ → Type 0 };
 
     /// The fault is due: by a record, or a row, or by what the files are.
     ghost is_due: { Self.Job → Fault → Type 0 };
@@ -70,7 +73,7 @@ pub trait Line {
 
 /// The reader of the pieces of a scan that go into a line.
 pub trait PieceSource<H: Io, L: Line> {
-    ghost use Rattle.std.specs.Prelude.{ℕ, List, [], ◌++◌, OnOk, IfErr};
+    ghost use Rattle.std.specs.Prelude.{ℕ, List, [], ◌++◌, None, OnOk, IfOk, IfErr};
     ghost use Rattle.morsel_meaning.specs.declared.fault.Fault.{Fault};
     ghost use Rattle.morsel_outside.specs.Outside.{Outside};
     ghost use Rattle.morsel_outside.specs.Actions.{Action};
@@ -91,8 +94,11 @@ pub trait PieceSource<H: Io, L: Line> {
     /// How many bytes a read asks at most.
     ghost chunk: { Self → ℕ };
 
-    /// Calls that took the reader from one state to another did this.
-    ghost did: { Self → Self → List Action → Type 0 };
+    /// Calls that took the reader from one state to another, over files of these sizes, did this.
+    ghost did: { Self → Self → List ℕ → List Action → Type 0 };
+
+    /// The reader has come to the end of its input.
+    ghost ended: { Self → Type 0 };
 
     /// The reader answered this fault.
     ghost failed: { Self → Fault → Type 0 };
@@ -104,10 +110,11 @@ pub trait PieceSource<H: Io, L: Line> {
         ensures same { chunk self.new ≡ chunk self.old }
         ensures fits { GivesFitting result }
         ensures failed { IfErr result (failed self.new) }
-        ensures reads { ReadsFor (did self.old self.new) (λ events. (job : L.Job) → reads self.old job (H.seen io.old)
+        ensures ended { IfOk result (λ found. found ≡ None → ended self.new) }
+        ensures reads { ReadsFor (did self.old self.new (H.seen io.old).sizes) (λ events. (job : L.Job) → reads self.old job (H.seen io.old)
             → SeeksFor (L.axis job) (chunk self.old) (given self.old) (asked self.old) result (asked self.new) events) (H.seen io.old) (H.seen io.new) }
         ensures piece { (job : L.Job) → reads self.old job (H.seen io.old)
-            → GivesNext (L.axis job) (L.is_piece job) (L.is_due job) (reads self.new job (H.seen io.new)) (given self.old) result (given self.new) };
+            → GivesNext (L.is_piece job) (L.is_due job) (L.is_end job) (reads self.new job (H.seen io.new)) (given self.old) result (given self.new) (asked self.new) };
 
     /// The place where the last piece's stretch ends.
     fn given(&self) -> u64
@@ -120,8 +127,8 @@ pub trait PieceSource<H: Io, L: Line> {
     ghost reads_on: { (reader : Self) (job : L.Job) (old new : Outside) → new.sizes ≡ old.sizes → new.held ≡ old.held → reads reader job old → reads reader job new };
 
     /// No call did nothing.
-    ghost did_nothing: { (reader : Self) → did reader reader [] };
+    ghost did_nothing: { (reader : Self) (sizes : List ℕ) → did reader reader sizes [] };
 
     /// Calls after others did what these did, and then their own.
-    ghost did_on: { (first between last : Self) (old more : List Action) → did first between old → did between last more → did first last (old ++ more) };
+    ghost did_on: { (first between last : Self) (sizes : List ℕ) (old more : List Action) → did first between sizes old → did between last sizes more → did first last sizes (old ++ more) };
 }

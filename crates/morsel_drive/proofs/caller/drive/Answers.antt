@@ -1,4 +1,5 @@
-use Rattle.std.proofs.Common.{◌∙◌, refl, arith}
+use Rattle.std.proofs.Common.{ℕ, ◌∙◌, refl, subst, arith}
+use Rattle.std.specs.Prelude.{List}
 use Rattle.morsel_drive.proofs.TransferLemmas.{either_reading, either_writing, stays}
 use Rattle.morsel_drive.proofs.TurnLemmas.{stands_begun, stands_read, read_failed, stands_served, step_failed, stands_written, write_failed, run_ended}
 use Rattle.morsel_drive.proofs.caller.drive.Goals as goal
@@ -8,68 +9,73 @@ turns-init g c = record {
   suits = c.requires.suits;
   made = c.requires.made;
   chunk = refl;
+  same = refl;
   fits = tt;
-  stands = stands_begun _ _ _ _ _ _ _ _ _ _ _ (g.met.S.PieceSource.did_nothing _) c.requires.asked refl refl refl;
+  ended = λ none. absurd none;
+  stands = stands_begun _ _ _ _ _ _ _ _ _ _ _ _ (g.met.S.PieceSource.did_nothing _ _) c.requires.asked refl refl refl;
 }
 
 pub returns-in-Err : goal.returns-in-Err
 returns-in-Err g c =
-    read_failed _ _ _ _ _ _ _ (λ job. g.S.PieceSource.reads c.read_on.new.reader job (g.H.Io.seen c.read_on.new.io)) _ _ _ _ (g.S.PieceSource.given c.read_on.new.reader) _
-    (g.S.PieceSource.asked c.read_on.new.reader) _ c.in-Err.fault _ _ _ _ _ _ _ _ _ c.turns.invariant.chunk c.turns.invariant.stands c.in-Err.ensures.reads
-    (λ xs ys first later. g.met.S.PieceSource.did_on _ _ _ xs ys first later) (λ job reads fits. c.in-Err.ensures.input job reads fits) c.in-Err.ensures.failed
+    read_failed _ _ _ _ _ _ _ _ (λ job. g.S.PieceSource.reads c.read_on.new.reader job (g.H.Io.seen c.read_on.new.io)) _ _ _ _ (g.S.PieceSource.given c.read_on.new.reader) _
+    (g.S.PieceSource.asked c.read_on.new.reader) _ c.in-Err.fault _ _ _ _ _ _ _ _ _ _ c.turns.invariant.chunk c.turns.invariant.stands c.in-Err.ensures.reads
+    (λ xs ys first later. g.met.S.PieceSource.did_on _ _ _ _ xs ys first (subst (λ (x : List ℕ). g.S.PieceSource.did c.turns.reader c.read_on.new.reader x ys) c.turns.invariant.same later)) (λ job reads fits. c.in-Err.ensures.input job reads fits) c.in-Err.ensures.failed
 
 pub returns-in-Err-step : goal.returns-in-Err-step
 returns-in-Err-step g c =
-    let read = stands_read _ _ g.L.Line.is_due _ _ _ _ _ _ _ _ _ _ _ _ _ c.in-Ok.input _ _ _ _ _ _ _ c.turns.invariant.chunk c.turns.invariant.stands c.in-Ok.ensures.reads
-    (λ xs ys first later. g.met.S.PieceSource.did_on _ _ _ xs ys first later) (λ job reads fits. c.in-Ok.ensures.input job reads fits) in
-    let fed = stands_served _ _ _ _ _ _ (g.L.Line.serves c.feed_on-input.new.line) _ _ _ _ _ c.feed_on-input.result _ _ _ _ read
-    (λ job serving fits. c.feed_on-input.ensures.input job serving _ fits) in
-    step_failed _ _ g.L.Line.is_due _ _ _ _ _ _ _ _ _ c.in-Err-step.fault _ _ _ _ _ _ fed (λ job serving. c.in-Err-step.ensures.due job serving) c.in-Err-step.ensures.broke
+    let read = stands_read _ _ _ g.L.Line.is_due _ _ _ _ _ _ _ _ _ _ _ _ _ c.in-Ok.input _ _ _ _ _ _ _ c.turns.invariant.chunk c.turns.invariant.stands c.in-Ok.ensures.reads
+    (λ xs ys first later. g.met.S.PieceSource.did_on _ _ _ _ xs ys first (subst (λ (x : List ℕ). g.S.PieceSource.did c.turns.reader c.read_on.new.reader x ys) c.turns.invariant.same later)) (λ job reads fits. c.in-Ok.ensures.input job reads fits) in
+    let fed = stands_served _ _ _ _ _ _ _ (g.L.Line.serves c.feed_on-input.new.line) _ _ _ _ _ c.feed_on-input.result _ _ _ _ read
+    (λ job serving fits. c.feed_on-input.ensures.input job serving _ _ fits) in
+    step_failed _ _ _ g.L.Line.is_due _ _ _ _ (λ job. g.S.PieceSource.reads c.read_on.new.reader job (g.H.Io.seen c.read_on.new.io)) _ _ _ _ _ c.in-Err-step.fault _ _ _ _ _ _ _ fed (λ job serving. c.in-Err-step.ensures.due job serving) c.in-Err-step.ensures.broke
 
 pub returns-in-Err-write_on : goal.returns-in-Err-write_on
 returns-in-Err-write_on g c =
-    let read = stands_read _ _ g.L.Line.is_due _ _ _ _ _ _ _ _ _ _ _ _ _ c.in-Ok.input _ _ _ _ _ _ _ c.turns.invariant.chunk c.turns.invariant.stands c.in-Ok.ensures.reads
-    (λ xs ys first later. g.met.S.PieceSource.did_on _ _ _ xs ys first later) (λ job reads fits. c.in-Ok.ensures.input job reads fits) in
-    let fed = stands_served _ _ _ _ _ _ (g.L.Line.serves c.feed_on-input.new.line) _ _ _ _ _ c.feed_on-input.result _ _ _ _ read
-    (λ job serving fits. c.feed_on-input.ensures.input job serving _ fits) in
-    let stepped = stands_served _ _ _ _ _ _ (g.L.Line.serves c.step.new.self) _ _ _ _ _ _ _ _ _ _ fed
+    let read = stands_read _ _ _ g.L.Line.is_due _ _ _ _ _ _ _ _ _ _ _ _ _ c.in-Ok.input _ _ _ _ _ _ _ c.turns.invariant.chunk c.turns.invariant.stands c.in-Ok.ensures.reads
+    (λ xs ys first later. g.met.S.PieceSource.did_on _ _ _ _ xs ys first (subst (λ (x : List ℕ). g.S.PieceSource.did c.turns.reader c.read_on.new.reader x ys) c.turns.invariant.same later)) (λ job reads fits. c.in-Ok.ensures.input job reads fits) in
+    let fed = stands_served _ _ _ _ _ _ _ (g.L.Line.serves c.feed_on-input.new.line) _ _ _ _ _ c.feed_on-input.result _ _ _ _ read
+    (λ job serving fits. c.feed_on-input.ensures.input job serving _ _ fits) in
+    let stepped = stands_served _ _ _ _ _ _ _ (g.L.Line.serves c.step.new.self) _ _ _ _ _ _ _ _ _ _ fed
     (λ job serving fits. (c.in_default.ensures.serves job serving, fits)) in
-    write_failed _ _ g.L.Line.is_due _ _ _ _ (g.L.Line.serves c.write_on.new.line) _ _ _ _ _ c.in-Err-write_on.fault _ c.write_on.new.written _ _ _ _ _ _ stepped c.in-Err-write_on.ensures
+    write_failed _ _ _ g.L.Line.is_due _ _ _ _ (g.L.Line.serves c.write_on.new.line) (λ job. g.S.PieceSource.reads c.read_on.new.reader job (g.H.Io.seen c.write_on.new.io)) _ _ _ _ _ c.in-Err-write_on.fault _ c.write_on.new.written _ _ _ _ _ _ _ stepped c.in-Err-write_on.ensures
 
 pub returns-then-whole : goal.returns-then-whole
 returns-then-whole g c =
-    let read = stands_read _ _ g.L.Line.is_due _ _ _ _ _ _ _ _ _ _ _ _ _ c.in-Ok.input _ _ _ _ _ _ _ c.turns.invariant.chunk c.turns.invariant.stands c.in-Ok.ensures.reads
-    (λ xs ys first later. g.met.S.PieceSource.did_on _ _ _ xs ys first later) (λ job reads fits. c.in-Ok.ensures.input job reads fits) in
-    let fed = stands_served _ _ _ _ _ _ (g.L.Line.serves c.feed_on-input.new.line) _ _ _ _ _ c.feed_on-input.result _ _ _ _ read
-    (λ job serving fits. c.feed_on-input.ensures.input job serving _ fits) in
-    let stepped = stands_served _ _ _ _ _ _ (g.L.Line.serves c.step.new.self) _ _ _ _ _ _ _ _ _ _ fed
+    let read = stands_read _ _ _ g.L.Line.is_due _ _ _ _ _ _ _ _ _ _ _ _ _ c.in-Ok.input _ _ _ _ _ _ _ c.turns.invariant.chunk c.turns.invariant.stands c.in-Ok.ensures.reads
+    (λ xs ys first later. g.met.S.PieceSource.did_on _ _ _ _ xs ys first (subst (λ (x : List ℕ). g.S.PieceSource.did c.turns.reader c.read_on.new.reader x ys) c.turns.invariant.same later)) (λ job reads fits. c.in-Ok.ensures.input job reads fits) in
+    let fed = stands_served _ _ _ _ _ _ _ (g.L.Line.serves c.feed_on-input.new.line) _ _ _ _ _ c.feed_on-input.result _ _ _ _ read
+    (λ job serving fits. c.feed_on-input.ensures.input job serving _ _ fits) in
+    let stepped = stands_served _ _ _ _ _ _ _ (g.L.Line.serves c.step.new.self) _ _ _ _ _ _ _ _ _ _ fed
     (λ job serving fits. (c.in_default.ensures.serves job serving, fits)) in
     let writes = c.in-Ok-write_on.ensures in
     let same = stays _ _ writes.writes (either_writing writes.writes writes.are) writes.does in
-    let written = stands_written _ _ _ _ _ (λ job. g.S.PieceSource.reads c.read_on.new.reader job (g.H.Io.seen c.write_on.new.io)) _ _ _ _ _ _ _ _ _ _ _ _ _ c.in-Ok-write_on.whole stepped writes
+    let written = stands_written _ _ _ _ _ _ (λ job. g.S.PieceSource.reads c.read_on.new.reader job (g.H.Io.seen c.write_on.new.io)) _ _ _ _ _ _ _ _ _ _ _ _ _ c.in-Ok-write_on.whole stepped writes
     (λ job reads. g.met.S.PieceSource.reads_on _ job _ _ same.sizes same.held reads) in
-    run_ended _ _ g.L.Line.is_due _ _ _ _ _ _ _ _ _ _ _ _ _ _ _ _ written (rw c.given.ensures at c.end.ensures)
+    run_ended _ _ _ g.L.Line.is_due _ _ _ _ _ _ _ _ _ _ _ _ _ _ _ _ _ written (rw c.given.ensures at c.end.ensures)
+    (λ end. (c.in-Ok.ensures.ended (c.feed_on-input.ensures.ended end), g.met.S.PieceSource.suits_on _ _ _ same.sizes c.in-Ok.ensures.suits))
 
 pub turns-preserved : goal.turns-preserved
 turns-preserved g c =
-    let read = stands_read _ _ g.L.Line.is_due _ _ _ _ _ _ _ _ _ _ _ _ _ c.in-Ok.input _ _ _ _ _ _ _ c.turns.invariant.chunk c.turns.invariant.stands c.in-Ok.ensures.reads
-    (λ xs ys first later. g.met.S.PieceSource.did_on _ _ _ xs ys first later) (λ job reads fits. c.in-Ok.ensures.input job reads fits) in
-    let fed = stands_served _ _ _ _ _ _ (g.L.Line.serves c.feed_on-input.new.line) _ _ _ _ _ c.feed_on-input.result _ _ _ _ read
-    (λ job serving fits. c.feed_on-input.ensures.input job serving _ fits) in
-    let stepped = stands_served _ _ _ _ _ _ (g.L.Line.serves c.step.new.self) _ _ _ _ _ _ _ _ _ _ fed
+    let read = stands_read _ _ _ g.L.Line.is_due _ _ _ _ _ _ _ _ _ _ _ _ _ c.in-Ok.input _ _ _ _ _ _ _ c.turns.invariant.chunk c.turns.invariant.stands c.in-Ok.ensures.reads
+    (λ xs ys first later. g.met.S.PieceSource.did_on _ _ _ _ xs ys first (subst (λ (x : List ℕ). g.S.PieceSource.did c.turns.reader c.read_on.new.reader x ys) c.turns.invariant.same later)) (λ job reads fits. c.in-Ok.ensures.input job reads fits) in
+    let fed = stands_served _ _ _ _ _ _ _ (g.L.Line.serves c.feed_on-input.new.line) _ _ _ _ _ c.feed_on-input.result _ _ _ _ read
+    (λ job serving fits. c.feed_on-input.ensures.input job serving _ _ fits) in
+    let stepped = stands_served _ _ _ _ _ _ _ (g.L.Line.serves c.step.new.self) _ _ _ _ _ _ _ _ _ _ fed
     (λ job serving fits. (c.in_default.ensures.serves job serving, fits)) in
     let writes = c.in-Ok-write_on.ensures in
     let same = stays _ _ writes.writes (either_writing writes.writes writes.are) writes.does in
-    let written = stands_written _ _ _ _ _ (λ job. g.S.PieceSource.reads c.read_on.new.reader job (g.H.Io.seen c.write_on.new.io)) _ _ _ _ _ _ _ _ _ _ _ _ _ c.in-Ok-write_on.whole stepped writes
+    let written = stands_written _ _ _ _ _ _ (λ job. g.S.PieceSource.reads c.read_on.new.reader job (g.H.Io.seen c.write_on.new.io)) _ _ _ _ _ _ _ _ _ _ _ _ _ c.in-Ok-write_on.whole stepped writes
     (λ job reads. g.met.S.PieceSource.reads_on _ job _ _ same.sizes same.held reads) in
     record {
       suits = g.met.S.PieceSource.suits_on _ _ _ same.sizes c.in-Ok.ensures.suits;
       made = let some = c.turns.invariant.made in let one = (stays _ _ c.in-Ok.ensures.reads.reads (either_reading c.in-Ok.ensures.reads.reads c.in-Ok.ensures.reads.are) c.in-Ok.ensures.reads.does).sinks in
           let two = same.sinks in omega (arith, some, one, two);
       chunk = c.in-Ok.ensures.chunk ∙ c.turns.invariant.chunk;
+      same = same.sizes ∙ (stays _ _ c.in-Ok.ensures.reads.reads (either_reading c.in-Ok.ensures.reads.reads c.in-Ok.ensures.reads.are) c.in-Ok.ensures.reads.does).sizes ∙ c.turns.invariant.same;
+      ended = λ end. c.in-Ok.ensures.ended (c.feed_on-input.ensures.ended end);
       fits = c.feed_on-input.ensures.fits;
       stands = written;
     }
 
 pub returns : goal.returns
-returns g c = run_ended _ _ _ _ _ _ _ _ _ _ _ _ _ _ _ _ _ _ _ c.turns.invariant.stands tt
+returns g c = run_ended _ _ _ _ _ _ _ _ _ _ _ _ _ _ _ _ _ _ _ _ _ c.turns.invariant.stands tt (λ end. (c.turns.invariant.ended end, c.turns.invariant.suits))

@@ -1,5 +1,5 @@
 use Rattle.std.proofs.Common.{◌≡◌, ◌<◌}
-use Rattle.morsel_drive.specs.Driving.{HoldsFitting}
+use Rattle.morsel_drive.specs.Driving.{HoldsFitting, HasEnded}
 use Rattle.morsel_drive.proofs.TurnLemmas.{Stands, ToldMidst}
 use Rattle.morsel_drive.proofs.caller.drive.Given as goal
 
@@ -9,8 +9,10 @@ invariant-turns g l = record {
   suits : g.S.PieceSource.suits l.reader (g.H.Io.seen l.io);
   made : 0 < (g.H.Io.seen l.io).sinks;
   chunk : g.S.PieceSource.chunk l.reader ≡ g.S.PieceSource.chunk l.fn.reader;
+  same : (g.H.Io.seen l.io).sizes ≡ (g.H.Io.seen l.fn.io).sizes;
   fits : HoldsFitting l.input;
-  stands : Stands (g.S.PieceSource.did l.fn.reader l.reader) (ToldMidst {J = g.row.L-Job.Denot} g.L.Line.axis g.L.Line.is_piece
+  ended : HasEnded l.input → g.S.PieceSource.ended l.reader;
+  stands : Stands (g.S.PieceSource.did l.fn.reader l.reader (g.H.Io.seen l.fn.io).sizes) (ToldMidst {J = g.row.L-Job.Denot} g.L.Line.axis g.L.Line.is_piece g.L.Line.is_end
       (λ job. g.S.PieceSource.reads l.fn.reader job (g.H.Io.seen l.fn.io)) (g.L.Line.serves l.fn.line)
       (λ job. g.S.PieceSource.reads l.reader job (g.H.Io.seen l.io)) (g.L.Line.serves l.line)
       l.bound (g.S.PieceSource.chunk l.fn.reader) (g.S.PieceSource.given l.reader) (g.S.PieceSource.asked l.reader) l.input l.written)
