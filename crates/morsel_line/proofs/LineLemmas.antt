@@ -16,23 +16,23 @@ use Rattle.morsel_scan.specs.StretchRows.{HasFaultWithin}
 use Rattle.morsel_scan.proofs.AxisRowLemmas.{ends_each_row}
 use Rattle.morsel_scan.proofs.AxisEndLemmas.{gives_pieces}
 use Rattle.morsel_drive.specs.Lines.{IsSoundAxis, SuitsPart, IsDue}
-use Rattle.morsel_line.specs.declared.job.ScanJob.{ScanJob}
-use Rattle.morsel_line.specs.ScanJobs.{scan_text, job_files, job_axis, IsJobPiece, IsJobFault, EncodesPiece}
+use Rattle.morsel_line.specs.Jobs.{Job}
+use Rattle.morsel_line.specs.ScanJobs.{scan_text, job_axis, IsJobPiece, IsJobFault, EncodesPiece}
 
-pub sound : (job : ScanJob) → IsDialect job.node.options → IsSoundAxis (job_axis job)
+pub sound : (job : Job) → IsDialect job.scan.options → IsSoundAxis (job_axis job)
 sound job fit = record {
   none = refl;
-  adds = λ first later. flat_map-append (json_line (names_of (output_fields job.node.scan))) first later;
-  ends = ends_each_row job.node job.first 0 job.names.items (job_files job) job.opened.items (scan_text job.node);
+  adds = λ first later. flat_map-append (json_line (names_of (output_fields job.scan.scan))) first later;
+  ends = ends_each_row job.scan job.first 0 job.names job.files job.opened (scan_text job.scan);
 }
 
 take_all : (rows : List Row) → take (length rows) rows ≡ rows
 take_all rows = ap (take (length rows)) (sym (append-nil rows)) ∙ take-append_seam rows []
 
 -- what is made of a piece of the job suits it
-pub part_suits : (job : ScanJob) (piece : Piece) (part : Part) → IsDialect job.node.options → IsJobPiece job piece → EncodesPiece job.node piece (Ok part) → SuitsPart (job_axis job) part
+pub part_suits : (job : Job) (piece : Piece) (part : Part) → IsDialect job.scan.options → IsJobPiece job piece → EncodesPiece job.scan piece (Ok part) → SuitsPart (job_axis job) part
 part_suits job piece part fit is (rows, made, whole) =
-    let given = gives_pieces job.node fit job.first 0 job.names.items (job_files job) job.opened.items (scan_text job.node) piece is in record {
+    let given = gives_pieces job.scan fit job.first 0 job.names job.files job.opened (scan_text job.scan) piece is in record {
       all = rows;
       gives = record {
         order = let e = given.0 in let f = whole.from in let t = whole.to in omega (arith, e, f, t);
@@ -40,28 +40,28 @@ part_suits job piece part fit is (rows, made, whole) =
         all = rw (whole.from, whole.to) (given.2 ∙ made);
       };
       within = let s = whole.skip in let c = whole.count in omega (arith, s, c);
-      text = whole.text ∙ ap (scan_text job.node) (sym (ap (λ n. take n (drop part.skip rows)) whole.count ∙ ap (λ n. take (length rows) (drop n rows)) whole.skip ∙ take_all rows));
+      text = whole.text ∙ ap (scan_text job.scan) (sym (ap (λ n. take n (drop part.skip rows)) whole.count ∙ ap (λ n. take (length rows) (drop n rows)) whole.skip ∙ take_all rows));
       ends = λ last. let s = whole.skip in let c = whole.count in omega (arith, s, c);
     }
 
-due_within : (job : ScanJob) (from to : ℕ) (fault : Fault) → to ≤ length (job_axis job).gives → UnlessOutOfMemory fault (HasFaultWithin (job_axis job).gives from to fault) → IsDue (IsJobFault job) fault
+due_within : (job : Job) (from to : ℕ) (fault : Fault) → to ≤ length (job_axis job).gives → UnlessOutOfMemory fault (HasFaultWithin (job_axis job).gives from to fault) → IsDue (IsJobFault job) fault
 due_within job from to faults.OutOfMemory within is = tt
 due_within job from to (faults.ReadFault file) within is = tt
 due_within job from to faults.WriteFault within is = tt
-due_within job from to (faults.InvalidQuery why) within (place, low, high, found) = (place, omega arith, omega (arith, high, within), found)
-due_within job from to (faults.Malformed file at) within (place, low, high, found) = (place, omega arith, omega (arith, high, within), found)
-due_within job from to (faults.Unsupported file code) within (place, low, high, found) = (place, omega arith, omega (arith, high, within), found)
-due_within job from to (faults.ColumnNotFound name) within (place, low, high, found) = (place, omega arith, omega (arith, high, within), found)
-due_within job from to (faults.SchemaMismatch name) within (place, low, high, found) = (place, omega arith, omega (arith, high, within), found)
-due_within job from to (faults.Duplicate name) within (place, low, high, found) = (place, omega arith, omega (arith, high, within), found)
-due_within job from to (faults.ComputeError kind file at) within (place, low, high, found) = (place, omega arith, omega (arith, high, within), found)
-due_within job from to faults.QueryText within (place, low, high, found) = (place, omega arith, omega (arith, high, within), found)
-due_within job from to faults.Usage within (place, low, high, found) = (place, omega arith, omega (arith, high, within), found)
+due_within job from to (faults.InvalidQuery why) within (place, low, high, found) = inl (place, omega arith, omega (arith, high, within), found)
+due_within job from to (faults.Malformed file at) within (place, low, high, found) = inl (place, omega arith, omega (arith, high, within), found)
+due_within job from to (faults.Unsupported file code) within (place, low, high, found) = inl (place, omega arith, omega (arith, high, within), found)
+due_within job from to (faults.ColumnNotFound name) within (place, low, high, found) = inl (place, omega arith, omega (arith, high, within), found)
+due_within job from to (faults.SchemaMismatch name) within (place, low, high, found) = inl (place, omega arith, omega (arith, high, within), found)
+due_within job from to (faults.Duplicate name) within (place, low, high, found) = inl (place, omega arith, omega (arith, high, within), found)
+due_within job from to (faults.ComputeError kind file at) within (place, low, high, found) = inl (place, omega arith, omega (arith, high, within), found)
+due_within job from to faults.QueryText within (place, low, high, found) = inl (place, omega arith, omega (arith, high, within), found)
+due_within job from to faults.Usage within (place, low, high, found) = inl (place, omega arith, omega (arith, high, within), found)
 
 -- a fault of a piece of the job is due
-pub fault_due : (job : ScanJob) (piece : Piece) (fault : Fault) → IsDialect job.node.options → IsJobPiece job piece → IsPieceFault job.node piece fault → IsDue (IsJobFault job) fault
+pub fault_due : (job : Job) (piece : Piece) (fault : Fault) → IsDialect job.scan.options → IsJobPiece job piece → IsPieceFault job.scan piece fault → IsDue (IsJobFault job) fault
 fault_due job piece fault fit is has =
-    let given = gives_pieces job.node fit job.first 0 job.names.items (job_files job) job.opened.items (scan_text job.node) piece is in
+    let given = gives_pieces job.scan fit job.first 0 job.names job.files job.opened (scan_text job.scan) piece is in
     due_within job piece.from piece.to fault given.1 (given.3 fault has)
 
 -- a fault of a piece, or that memory is out, is one of the piece

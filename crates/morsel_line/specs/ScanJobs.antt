@@ -1,7 +1,8 @@
 -- A line for a scan of CSV files into NDJSON.
-use Rattle.std.specs.Prelude.{◌≡◌, ℕ, true, Option, Some, None, Result, Ok, Err, List, map, length}
+use Rattle.std.specs.Prelude.{◌≡◌, ◌⊎◌, ℕ, true, Option, Some, None, Result, Ok, Err, List, length}
 use Rattle.morsel_meaning.specs.declared.fault.Fault.{Fault}
 use Rattle.morsel_meaning.specs.declared.fault.Fault.TheVariants as faults
+use Rattle.morsel_meaning.specs.declared.fault.ComputeKind.TheVariants as kinds
 use Rattle.morsel_meaning.specs.Values.{Row, names_of}
 use Rattle.morsel_grammar.specs.Dialect.{IsDialect}
 use Rattle.morsel_ndjson.specs.Ndjson.{ndjson}
@@ -13,28 +14,30 @@ use Rattle.morsel_scan.specs.CsvPieces.{IsPieceOf}
 use Rattle.morsel_scan.specs.Ahead.{Axis}
 use Rattle.morsel_scan.specs.StretchRows.{HasFaultWithin}
 use Rattle.morsel_scan.specs.CsvAxis.{csv_axis}
+use Rattle.morsel_read.specs.PieceReads.{IsPiecesFault, IsScanEnd}
 use Rattle.morsel_drive.specs.Lines.{SuitsPart}
-use Rattle.morsel_line.specs.declared.job.ScanJob.{ScanJob}
+use Rattle.morsel_line.specs.Jobs.{Job}
 
 -- the text of the rows of a scan
 abbrev pub scan_text : CsvScan → List Row → List ℕ
 scan_text s rows = ndjson (names_of (output_fields s.scan)) rows
 
--- the bytes of the files
-abbrev pub job_files : ScanJob → List (List ℕ)
-job_files job = map (λ file. file.items) job.files.items
-
 -- what each place of the files gives, as NDJSON, which has nothing before its first row
-abbrev pub job_axis : ScanJob → Axis
-job_axis job = csv_axis job.node job.first job.names.items (job_files job) job.opened.items 0 (scan_text job.node)
+abbrev pub job_axis : Job → Axis
+job_axis job = csv_axis job.scan job.first job.names job.files job.opened 0 (scan_text job.scan)
 
 -- the piece is one of the scan
-abbrev pub IsJobPiece : ScanJob → Piece → Type 0
-IsJobPiece job piece = IsPieceOf job.node job.first job.names.items (job_files job) piece
+abbrev pub IsJobPiece : Job → Piece → Type 0
+IsJobPiece job piece = IsPieceOf job.scan job.first job.names job.files piece
 
--- a place of the files has this fault
-abbrev pub IsJobFault : ScanJob → Fault → Type 0
+-- a place of the files has this fault, or there is a reason for it in the files as far as some place
+abbrev pub IsJobFault : Job → Fault → Type 0
 IsJobFault job fault = HasFaultWithin (job_axis job).gives 0 (length (job_axis job).gives) fault
+    ⊎ ((asked : ℕ) × IsPiecesFault job.scan job.first job.files asked fault)
+
+-- no place of the files after this one gives anything, all having been asked; or the slice keeps no row after it, where so many bytes of them were asked
+abbrev pub IsJobEnd : Job → ℕ → ℕ → Type 0
+IsJobEnd job given asked = IsScanEnd job.scan job.first job.names job.files given asked
 
 -- the part is all that the piece gives
 pub record IsWholePart (s : CsvScan) (piece : Piece) (rows : List Row) (part : Part) : Type 0 where
@@ -50,11 +53,13 @@ abbrev pub EncodesPiece : CsvScan → Piece → Result Part Fault → Type 0
 EncodesPiece s piece (Ok part) = (rows : List Row) × (piece_rows s piece ≡ Ok rows) × IsWholePart s piece rows part
 EncodesPiece s piece (Err fault) = IsPieceFault s piece fault
 
--- faults of records and of rows, and that memory is out
+-- faults of records and of the rows of a scan, and that memory is out
 abbrev pub IsPieceKind : Fault → Type 0
 IsPieceKind faults.OutOfMemory = Unit {0}
 IsPieceKind (faults.Malformed file at) = Unit {0}
-IsPieceKind (faults.ComputeError kind file at) = Unit {0}
+IsPieceKind (faults.ComputeError kinds.NotUtf8 file at) = Unit {0}
+IsPieceKind (faults.ComputeError kinds.IllTyped file at) = Unit {0}
+IsPieceKind (faults.ComputeError kinds.IndexTooLarge file at) = Unit {0}
 IsPieceKind fault = ⊥
 
 -- what is held, if anything is, is so
@@ -63,8 +68,8 @@ IfHeld None P = Unit {0}
 IfHeld (Some x) P = P x
 
 -- a line of this scan, with what it holds, is for the job
-pub record ServesJob (s : CsvScan) (held : Option Piece) (part : Option Part) (job : ScanJob) : Type 0 where
-  pub scan : s ≡ job.node
-  pub fit : IsDialect job.node.options
+pub record ServesJob (s : CsvScan) (held : Option Piece) (part : Option Part) (job : Job) : Type 0 where
+  pub scan : s ≡ job.scan
+  pub fit : IsDialect job.scan.options
   pub piece : IfHeld held (IsJobPiece job)
   pub made : IfHeld part (SuitsPart (job_axis job))

@@ -7,7 +7,7 @@ ghost use Rattle.morsel_scan.specs.CsvScans.{FitsScan};
 ghost use Rattle.morsel_line.specs.ScanJobs.{EncodesPiece, IsPieceKind};
 
 use morsel_frame::Frame;
-use morsel_meaning::Fault;
+use morsel_meaning::{ComputeKind, Fault};
 use morsel_ndjson::write_ndjson;
 use morsel_pipe::{Encoded, RawPiece};
 use morsel_scan::CsvSourceNode;
@@ -53,7 +53,12 @@ fn of_piece(fault: Fault) -> Fault
     ensures same { (result ≡ fault) ⊎ (result ≡ OutOfMemory) }
 {
     match fault {
-        Fault::OutOfMemory | Fault::Malformed { .. } | Fault::ComputeError { .. } => fault,
+        Fault::OutOfMemory
+        | Fault::Malformed { .. }
+        | Fault::ComputeError {
+            kind: ComputeKind::NotUtf8 | ComputeKind::IllTyped | ComputeKind::IndexTooLarge,
+            ..
+        } => fault,
         _ => Fault::OutOfMemory,
     }
 }

@@ -1,11 +1,12 @@
 //! What a line of CSV pieces is for.
 ghost use Rattle.morsel_grammar.specs.Dialect.{IsDialect};
 ghost use Rattle.morsel_drive.specs.Lines.{IsSoundAxis};
-ghost use Rattle.morsel_line.specs.declared.job.ScanJob.{ScanJob};
+ghost use Rattle.morsel_line.specs.Jobs.{Job};
 ghost use Rattle.morsel_line.specs.ScanJobs.{job_axis};
 
 use morsel_meaning::Name;
 use morsel_scan::CsvSourceNode;
+use std::marker::Model;
 
 /// A scan, and what its files contain: what a line is for.
 ///
@@ -24,7 +25,27 @@ pub struct ScanJob {
     pub files: Vec<Vec<u8>>,
 }
 
+impl Model for ScanJob {
+    ghost use Rattle.std.specs.Prelude.{map};
+    ghost use Rattle.morsel_line.specs.Jobs.{Job};
+
+    ghost Value = { Job };
+
+    ghost use Rattle.morsel_expr.specs.contracts.node.PredNode as tree;
+    ghost use Rattle.std.specs.Coded.{codes};
+
+    ghost coded = { Prim.hlevel (codes, tree.the_row.coded) };
+
+    ghost view = { λ job. record {
+      scan = job.node;
+      first = job.first;
+      names = job.names.items;
+      opened = job.opened.items;
+      files = map (λ file. file.items) job.files.items;
+    } };
+}
+
 /// The texts of a scan's rows are one after the other, and places of its files at which no row ends are of one record at most.
 pub fn a_scan_has_a_sound_axis()
-    ensures { (job : ScanJob) → IsDialect job.node.options → IsSoundAxis (job_axis job) }
+    ensures { (job : Job) → IsDialect job.scan.options → IsSoundAxis (job_axis job) }
 {}

@@ -2,7 +2,7 @@
 ghost use Rattle.std.specs.Prelude.{◌≡◌};
 ghost use Rattle.std.specs.Option.{ForSome};
 ghost use Rattle.morsel_grammar.specs.Dialect.{IsDialect};
-ghost use Rattle.morsel_line.specs.declared.job.ScanJob.{ScanJob};
+ghost use Rattle.morsel_line.specs.Jobs.{Job};
 ghost use Rattle.morsel_scan.specs.CsvScans.{FitsScan};
 ghost use Rattle.morsel_line.specs.ScanJobs.{ServesJob};
 
@@ -28,7 +28,7 @@ pub struct ScanLine {
 impl ScanLine {
     /// A line of this scan, which holds nothing.
     pub fn new(alloc: Global, node: CsvSourceNode) -> ScanLine
-        ensures { (job : ScanJob) → job.node ≡ node → IsDialect job.node.options → ServesJob result.node result.held result.part job }
+        ensures { (job : Job) → job.scan ≡ node → IsDialect job.scan.options → ServesJob result.node result.held result.part job }
     {
         ScanLine {
             node,
@@ -42,13 +42,15 @@ impl ScanLine {
 
 impl Line for ScanLine {
     ghost use Rattle.std.specs.Prelude.{◌≡◌, Some};
-    ghost use Rattle.morsel_line.specs.ScanJobs.{job_axis, IsJobPiece, IsJobFault, ServesJob, IsPieceKind};
+    ghost use Rattle.morsel_line.specs.ScanJobs.{job_axis, IsJobPiece, IsJobEnd, IsJobFault, ServesJob, IsPieceKind};
 
     type Job = ScanJob;
 
     ghost axis = { job_axis };
 
     ghost is_piece = { IsJobPiece };
+
+    ghost is_end = { IsJobEnd };
 
     ghost is_due = { IsJobFault };
 

@@ -1,0 +1,58 @@
+-- A whole scan from its open files into a sink.
+use Rattle.std.specs.Prelude.{◌≡◌, ◌⊎◌, ℕ, ◌+◌, ◌≤◌, IfErr, OnOk, Result, Ok, Err, List, length}
+use Rattle.std.specs.List.{flat_map, filter, sum_by}
+use Rattle.morsel_meaning.specs.declared.fault.Fault.{Fault}
+use Rattle.morsel_meaning.specs.declared.fault.Fault.TheVariants as faults
+use Rattle.morsel_meaning.specs.Values.{Row}
+use Rattle.morsel_outside.specs.Outside.{Outside}
+use Rattle.morsel_outside.specs.Actions.{Action, Does, event_of, text_by}
+use Rattle.morsel_scan.specs.Scans.{CsvScan}
+use Rattle.morsel_scan.specs.CsvScans.{csv_scan_rows}
+use Rattle.morsel_scan.specs.StretchRows.{HasFaultWithin}
+use Rattle.morsel_scan.specs.Ahead.{asked_up_to}
+use Rattle.morsel_read.specs.ScanReads.{FilesAsked, PiecesRead, sizes_in, IsPiecesFaultOf, HasGivenRows}
+use Rattle.morsel_read.specs.PieceReads.{IsSliceEnd}
+use Rattle.morsel_drive.specs.Lines.{Each, IsReading, IsDue}
+use Rattle.morsel_drive.specs.Driving.{is_reading, IsWriting, Stops, IsWriteStop}
+use Rattle.morsel_line.specs.Jobs.{Job}
+use Rattle.morsel_line.specs.ScanJobs.{scan_text, job_axis, IsJobFault, IsPieceKind}
+use Rattle.morsel_line.specs.ScanSources.{opened_as, AskNextChunks, EndsInFailure}
+
+-- the job of a reader whose files contain these bytes
+abbrev pub job_of : CsvScan → PiecesRead → List (List ℕ) → Job
+job_of s r files = record { scan = s; first = r.sources.first; names = r.sources.names; opened = opened_as r.sources.files; files = files }
+
+-- the rows are what the scan means, of which so many bytes were asked: all; or the slice keeps none from a place on that was asked, and then they are so where no record from there on has a fault
+abbrev pub MeansRows : Job → ℕ → List Row → Type 0
+MeansRows job asked rows = ((asked ≡ sum_by length job.files) × (csv_scan_rows job.scan job.first job.names job.files ≡ Ok rows))
+    ⊎ ((given : ℕ) × IsSliceEnd job.scan job.files given asked
+    × (((fault : Fault) → HasFaultWithin (job_axis job).gives given (length (job_axis job).gives) fault → ⊥) → csv_scan_rows job.scan job.first job.names job.files ≡ Ok rows))
+
+-- rows are answered where their text was written, and they are what the scan means
+abbrev pub AnswersRows : Job → List Action → Result ℕ Fault → Type 0
+AnswersRows job actions (Ok n) = (rows : List Row) × (flat_map text_by actions ≡ scan_text job.scan rows) × (n ≡ length rows)
+    × MeansRows job (asked_up_to (job_axis job) 0 (flat_map event_of actions)) rows
+AnswersRows job actions (Err fault) = Unit {0}
+
+-- what was written, given what the files contain: all rows, or the beginning of the text of those before the first fault; the fault that is answered is due; each read is in time
+pub record WritesJob (job : Job) (bound chunk : ℕ) (actions : List Action) (result : Result ℕ Fault) : Type 0 where
+  pub answers : AnswersRows job actions result
+  pub due : IfErr result (IsDue (IsJobFault job))
+  pub front : Stops (job_axis job) (bound + (job_axis job).longest) chunk actions
+
+-- why a run of a scan has a fault: memory is out or a write failed, as the writes say; the reader answered it, and a read fault only where the last read failed; or decoding a piece did
+abbrev pub StopsScan : FilesAsked → List Action → Fault → Type 0
+StopsScan files actions fault = IsWriteStop actions fault
+    ⊎ (IsPiecesFaultOf files fault × ((number : ℕ) → fault ≡ faults.ReadFault number → EndsInFailure files number (filter is_reading actions)))
+    ⊎ IsPieceKind fault
+
+-- a scan was written: only the next chunks were read, and parts written; a fault has its reason; with rows, all was asked, but where the slice ends within the greatest number of rows
+pub record WritesScan (s : CsvScan) (r : PiecesRead) (bound : ℕ) (before : Outside) (result : Result ℕ Fault) (after : Outside) : Type 0 where
+  pub actions : List Action
+  pub does : Does before actions after
+  pub each : Each (λ action. IsReading action ⊎ IsWriting action) actions
+  pub to : ℕ
+  pub reads : AskNextChunks r.sources.files (sizes_in before.sizes r.sources.files) r.sources.chunk 0 (filter is_reading actions) to
+  pub stops : IfErr result (StopsScan r.sources actions)
+  pub all_asked : OnOk result ((to ≡ sum_by (λ n. n) (sizes_in before.sizes r.sources.files)) ⊎ (r.sources.stop ≤ 4294967295))
+  pub told : (files : List (List ℕ)) → HasGivenRows s files before r → WritesJob (job_of s r files) bound r.sources.chunk actions result
