@@ -1,41 +1,12 @@
--- The fields that a choice of columns keeps.
-use Rattle.std.proofs.Common.{◌≡◌, ℕ, ◌+◌, ◌<◌, Bool, true, false, ◌||◌, if◌then◌else◌, List, [], ◌∷◌, ◌++◌, Option, Some, None, refl, ap, sym, subst, ◌∙◌, length, drop, get_or, append_assoc, append-nil}
+-- Fields that differ in name, of which a choice of columns keeps some, which differ too.
+use Rattle.std.proofs.Common.{◌≡◌, ℕ, Bool, true, false, ◌||◌, if◌then◌else◌, List, [], ◌∷◌, ◌++◌, Option, Some, None, refl, ap, sym, subst, ◌∙◌, append-nil}
 use Rattle.std.specs.Str.{bytes_eq}
-use Rattle.std.proofs.lemmas.List.{at_drop_more, drop_more}
 use Rattle.morsel_meaning.specs.declared.value.Field.{Field}
 use Rattle.morsel_meaning.specs.Values.{names_of}
 use Rattle.morsel_frame.specs.Names.{AreDistinct, stands_in, first_known, first_repeated}
 use Rattle.morsel_frame.proofs.SeenNames.{distinct-from_known}
 use Rattle.morsel_scan.specs.ScanColumns.{is_kept}
 use Rattle.morsel_query.specs.Queries.{kept_fields}
-
--- one more of a list, and then those that are left
-pub pushed : (done more : List Field) (i : ℕ) (field : Field) → i < length more → field ≡ get_or more i field → (done ++ field ∷ []) ++ drop (i + 1) more ≡ done ++ drop i more
-pushed done more i field within read =
-    append_assoc done (field ∷ []) (drop (i + 1) more)
-    ∙ ap (λ (f : Field). done ++ f ∷ drop (i + 1) more) read
-    ∙ ap (λ (fs : List Field). done ++ fs) (sym (drop_more more i field within))
-
-kept-next : (columns : List (List ℕ)) (more : List Field) (i : ℕ) (field : Field) → i < length more → field ≡ get_or more i field → kept_fields columns (drop i more) ≡ kept_fields columns (field ∷ drop (i + 1) more)
-kept-next columns more i field within read =
-    at_drop_more (kept_fields columns) more i field within ∙ ap (λ (f : Field). kept_fields columns (f ∷ drop (i + 1) more)) (sym read)
-
--- a field that is kept, and then those of what is left
-pub kept-pushed : (columns : List (List ℕ)) (done more : List Field) (i : ℕ) (field : Field) → i < length more → field ≡ get_or more i field → is_kept columns field.name ≡ true
-    → (done ++ field ∷ []) ++ kept_fields columns (drop (i + 1) more) ≡ done ++ kept_fields columns (drop i more)
-kept-pushed columns done more i field within read kept =
-    let next : kept_fields columns (field ∷ drop (i + 1) more) ≡ field ∷ kept_fields columns (drop (i + 1) more) = rw kept refl in
-    append_assoc done (field ∷ []) (kept_fields columns (drop (i + 1) more))
-    ∙ ap (λ (fs : List Field). done ++ fs) (sym (kept-next columns more i field within read ∙ next))
-
--- a field that is not, and then those of what is left
-pub kept-passed : (columns : List (List ℕ)) (done more : List Field) (i : ℕ) (field : Field) → i < length more → field ≡ get_or more i field → is_kept columns field.name ≡ false
-    → done ++ kept_fields columns (drop (i + 1) more) ≡ done ++ kept_fields columns (drop i more)
-kept-passed columns done more i field within read kept =
-    let next : kept_fields columns (field ∷ drop (i + 1) more) ≡ kept_fields columns (drop (i + 1) more) = rw kept refl in
-    ap (λ (fs : List Field). done ++ fs) (sym (kept-next columns more i field within read ∙ next))
-
--- ---- some of distinct names are distinct
 
 -- each of these names is one of those
 abbrev pub AreIn : List (List ℕ) → List (List ℕ) → Type 0

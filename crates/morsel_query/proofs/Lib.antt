@@ -1,3 +1,4 @@
 pub mod NameLemmas
 pub mod FieldLemmas
 pub mod SoundLemmas
+pub mod SetLemmas

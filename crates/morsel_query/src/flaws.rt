@@ -46,7 +46,7 @@ fn are_columns(columns: Option<usize>) -> bool
 }
 
 /// Whether a text is one of these names.
-pub fn is_among(text: &str, names: &[Name]) -> bool
+fn is_among(text: &str, names: &[Name]) -> bool
     ensures { result ≡ stands_in text.now names.now }
 {
     names.iter().any(|name| name.as_str() == text)

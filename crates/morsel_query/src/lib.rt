@@ -3,6 +3,7 @@
 #![tactic(auto)]
 
 mod flaws;
+mod name_sets;
 mod options;
 mod plans;
 mod query;

@@ -3,13 +3,13 @@ ghost use Rattle.std.specs.Prelude.{◌≡◌, ◌++◌, ◌∷◌, [], Some, No
 ghost use Rattle.morsel_meaning.specs.Values.{names_of};
 ghost use Rattle.morsel_frame.specs.Names.{first_repeated};
 ghost use Rattle.morsel_frame.specs.Refusals.{Refuses, fault_of_repeat};
-ghost use Rattle.morsel_expr.specs.Flaws.{absence};
 ghost use Rattle.morsel_scan.specs.ScanColumns.{is_kept, index_fields, path_fields};
 ghost use Rattle.morsel_scan.specs.ScanFlaws.{choice_absence, choice_flaw, filter_flaw, scan_flaw};
+ghost use Rattle.morsel_query.specs.NameSets.{HasNames};
 ghost use Rattle.morsel_query.specs.Queries.{kept_fields, scan_over};
 ghost use Rattle.morsel_query.specs.Plans.{planned_scan};
 
-use crate::flaws::is_among;
+use crate::name_sets::{set_of_columns, set_of_names};
 use morsel_expr::Pred;
 use morsel_frame::Schema;
 use morsel_meaning::{ColType, Fault, Field, Name};
@@ -94,22 +94,26 @@ fn duplicate(alloc: Global, name: &str) -> Result<(), Fault>
 fn check_presence(alloc: Global, schema: &Schema, names: &[Name]) -> Result<(), Fault>
     ensures { Refuses (choice_absence schema.now names.now) result }
 {
+    if names.is_empty() {
+        return Ok(());
+    }
+    let known = set_of_columns(alloc, schema.fields())?;
     for name in names {
-        check_name(alloc, schema, name.as_str())?;
+        let text = name.as_str();
+        if !known.contains(text) {
+            return absent(alloc, text);
+        }
     }
     Ok(())
 }
 
 /// Refuses a name that no column has.
-fn check_name(alloc: Global, schema: &Schema, name: &str) -> Result<(), Fault>
-    ensures { Refuses (absence schema.now name.now) result }
+fn absent(alloc: Global, name: &str) -> Result<(), Fault>
+    ensures { Refuses (Some (Fault.ColumnNotFound name.now)) result }
 {
-    if schema.find(name).is_none() {
-        return Err(Fault::ColumnNotFound {
-            name: Name::new(alloc, name)?,
-        });
-    }
-    Ok(())
+    Err(Fault::ColumnNotFound {
+        name: Name::new(alloc, name)?,
+    })
 }
 
 /// Refuses a filter that does not fit the columns, where there is one.
@@ -194,19 +198,21 @@ fn push_kept(
     ensures ok { OnOk result (fields.new.items ≡ fields.old.items ++ kept_fields columns.now more.now) }
     ensures out_of_memory { IsOkUnless result Fault.OutOfMemory }
 {
+    let chosen = set_of_names(alloc, columns)?;
     for field in more {
-        if is_kept(columns, &field.name) {
+        if is_kept(columns, &chosen, field.name.as_str()) {
             push_field(alloc, fields, &field.name, field.kind)?;
         }
     }
     Ok(())
 }
 
-/// Whether a choice of columns keeps the one of this name.
-fn is_kept(columns: &[Name], name: &Name) -> bool
+/// Whether a choice of columns, whose names are in the set, keeps the one of this name.
+fn is_kept(columns: &[Name], chosen: &BTreeSet<&str>, name: &str) -> bool
+    requires { HasNames chosen.now columns.now }
     ensures { result ≡ is_kept columns.now name.now }
 {
-    columns.is_empty() || is_among(name.as_str(), columns)
+    columns.is_empty() || chosen.contains(name)
 }
 
 /// Puts a field last.

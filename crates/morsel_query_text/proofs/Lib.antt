@@ -4,3 +4,4 @@ pub mod FormLemmas
 pub mod LevelLemmas
 pub mod FlawLemmas
 pub mod ScanLemmas
+pub mod AlikeLemmas

@@ -1,10 +1,13 @@
--- The text of predicates: how a predicate is written, which trees are predicates, and how many levels these have.
-use Rattle.std.specs.Prelude.{ℕ, suc, max, Bool, true, false, ◌&&◌, ◌||◌, codes, is_some, if◌then◌else◌, Option, Some, None, List, [], ◌∷◌}
+-- The text of predicates: how a predicate is written, which trees are predicates, how many levels these have, and what is the same of
+-- predicates that are written alike.
+use Rattle.std.specs.Prelude.{◌≡◌, ℕ, suc, max, Bool, true, false, ◌&&◌, ◌||◌, codes, is_some, if◌then◌else◌, Option, Some, None, List, [], ◌∷◌}
 use Rattle.std.specs.Str.{bytes_eq}
 use Rattle.serde_json.specs.Data.{Data, null, boolean, number, string, array, object, no_items, item, Members, no_members, member}
 use Rattle.serde_json.specs.Find.{as_str, of_integer}
 use Rattle.morsel_meaning.specs.declared.value.Value.{Value}
 use Rattle.morsel_meaning.specs.declared.value.Value.TheVariants as values
+use Rattle.morsel_meaning.specs.declared.value.Field.{Field}
+use Rattle.morsel_meaning.specs.Values.{Row}
 use Rattle.morsel_frame.specs.Names.{stands_in}
 use Rattle.morsel_expr.specs.declared.node.CmpOp.{CmpOp}
 use Rattle.morsel_expr.specs.declared.node.CmpOp.TheVariants as ops
@@ -12,6 +15,9 @@ use Rattle.morsel_expr.specs.declared.node.Rhs.{Rhs}
 use Rattle.morsel_expr.specs.declared.node.Rhs.TheVariants as sides
 use Rattle.morsel_expr.specs.declared.node.PredNode.{PredNode}
 use Rattle.morsel_expr.specs.declared.node.PredNode.TheVariants as nodes
+use Rattle.morsel_expr.specs.Predicates.{truth}
+use Rattle.morsel_expr.specs.Flaws.{levels, flaw}
+use Rattle.morsel_scan.specs.ScanColumns.{names_in}
 use Rattle.morsel_query_text.specs.Trees.{signed_number}
 
 -- ---- how a predicate is written
@@ -139,3 +145,16 @@ abbrev pub tree_levels : Data → ℕ
 tree_levels (array (item (string word) (item part no_items))) = if stands_in word join_words then suc (tree_levels part) else 1
 tree_levels (array (item (string word) (item a (item b no_items)))) = if stands_in word join_words then suc (max (tree_levels a) (tree_levels b)) else 1
 tree_levels tree = 1
+
+-- ---- predicates that are written alike
+
+-- two predicates say the same of each row, have the same flaws over all fields, as many levels, and the names of the same columns
+pub record SayTheSame (a b : PredNode) : Type 0 where
+  pub truths : (fields : List Field) (row : Row) → truth fields a row ≡ truth fields b row
+  pub flaws : (fields : List Field) → flaw fields a ≡ flaw fields b
+  pub depth : levels a ≡ levels b
+  pub names : names_in a ≡ names_in b
+
+-- predicates that are written as one tree say the same
+abbrev pub IsOnePredicate : Type 0
+IsOnePredicate = (a b : PredNode) → pred_tree a ≡ pred_tree b → SayTheSame a b

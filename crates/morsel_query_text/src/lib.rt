@@ -13,4 +13,4 @@ mod scan;
 mod text;
 mod trees;
 
-pub use query::{a_tree_is_one_query, query_of};
+pub use query::{a_tree_is_one_predicate, a_tree_is_one_query, query_of};

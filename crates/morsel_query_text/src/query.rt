@@ -1,6 +1,7 @@
 //! The query of a JSON tree.
 ghost use Rattle.std.specs.Prelude.{IfOk, IfErr};
 ghost use Rattle.serde_json.specs.View.{view};
+ghost use Rattle.morsel_query_text.specs.Predicates.{IsOnePredicate};
 ghost use Rattle.morsel_query_text.specs.QueryTexts.{IsOneQuery};
 ghost use Rattle.morsel_query_text.specs.Answers.{IsQueryText, RefusesText};
 
@@ -26,4 +27,10 @@ pub fn query_of(alloc: Global, tree: &Value, out: &str) -> Result<(Query, Option
 /// A tree is at most one query, so what `query_of` may answer is one answer, or that memory is out.
 pub fn a_tree_is_one_query()
     ensures { IsOneQuery }
+{}
+
+/// A query has its filter as a tree, and a tree is at most one predicate: two that are written as it differ in nothing that a row,
+/// a schema or a scan sees.
+pub fn a_tree_is_one_predicate()
+    ensures { IsOnePredicate }
 {}

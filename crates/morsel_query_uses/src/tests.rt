@@ -2,4 +2,6 @@
 mod deep;
 mod makers;
 mod options;
+mod rows;
+mod show;
 mod texts;

@@ -1,8 +1,8 @@
-//! Queries made by hand: at the edges of their numbers and past them, and trees that no text nests so deep.
+//! Queries made by hand: at the edges of their numbers and past them.
 use morsel_frame::Schema;
 use morsel_grammar::CsvOptions;
 use morsel_meaning::{ColType, Fault, Field, Name, Why};
-use morsel_query::{Query, SinkFormat, SinkSpec, flaw_of_side};
+use morsel_query::{Query, SinkFormat, SinkSpec};
 use morsel_scan::{FileScanOptions, ScanFormat, ScanSpec};
 use std::alloc::Global;
 use std::test::Fail;
@@ -92,12 +92,8 @@ fn a_query_has_one_source_up_to_65536(rt: HostRuntime) -> Result<(), Fail> {
 fn a_schema_has_one_column_up_to_65535(rt: HostRuntime) -> Result<(), Fail> {
     let alloc = rt.alloc();
     assert_eq!(rt; flaw_of(alloc, 1, 0, "o")?, Some(Why::NoColumn));
-    let sources = names(alloc, 1)?;
-    assert_eq!(rt; flaw_of_side(&sources, Some(65_535), "o"), None);
-    assert_eq!(rt;
-        flaw_of_side(&sources, Some(65_536), "o"),
-        Some(Why::NoColumn)
-    );
+    assert_eq!(rt; flaw_of(alloc, 1, 65_535, "o")?, None);
+    assert_eq!(rt; flaw_of(alloc, 1, 65_536, "o")?, Some(Why::NoColumn));
     Ok(())
 }
 

@@ -1,57 +1,91 @@
 //! Texts read as queries: what the query has, part by part. The table of texts and faults is `morsel_query_table`.
-use morsel_grammar::CsvOptions;
+use super::show::{are_options, is_answered, is_shown};
 use morsel_meaning::Fault;
 use morsel_query::{Options, Query, check};
 use morsel_query_text::query_of;
-use morsel_scan::{FileScanOptions, ScanFormat};
 use serde_json::Value;
 use std::alloc::Global;
-use std::test::Fail;
+use std::mem::drop;
+use std::process::Abort;
 
 /// The query of a text, into `out.ndjson`.
-fn read(alloc: Global, text: &str) -> Result<(Query, Options), Fault> {
+pub fn read(alloc: Global, text: &str) -> Result<(Query, Options), Fault> {
     let Ok(tree) = Value::from_str(alloc, text) else {
         return Err(Fault::QueryText);
     };
     query_of(alloc, &tree, "out.ndjson")
 }
 
+/// The text is read as this query, whose names meet columns with types that fit, and these options.
+fn is_read(
+    rt: &impl Abort,
+    alloc: Global,
+    text: &str,
+    wanted: &str,
+    numbers: [u32; 6],
+    random_state: u64,
+) {
+    let (query, options) = read(alloc, text).expect(rt, "a query");
+    is_shown(rt, alloc, &query, wanted);
+    are_options(rt, &options, numbers, random_state);
+    is_answered(rt, alloc, check(alloc, &query), "ok");
+    drop(query);
+}
+
 /// A query that leaves every default as it is.
 const SHORT: &str =
-    "{\"left\":{\"format\":\"csv\",\"files\":[\"a.csv\"],\"schema\":[[\"id\",\"int\"],[\"name\",\"text\"]]},\"sink\":{\"format\":\"ndjson\"}}";
+    r#"{"left":{"format":"csv","files":["a.csv"],"schema":[["id","int"],["name","text"]]},"sink":{"format":"ndjson"}}"#;
 
-/// The options of the CSV texts of a query.
-fn csv_of(query: &Query) -> &CsvOptions {
-    let ScanFormat::Csv { options, .. } = &query.left().format;
-    options
-}
-
-/// Whether nothing is asked of the rows.
-fn asks_nothing(asked: &FileScanOptions) -> bool {
-    asked.slice.is_none() && asked.columns.is_empty() && !asked.allow_missing_columns
-}
-
-/// Whether CSV texts are written with commas, double quotes, line feeds, a header and empty nulls.
-fn is_standard(csv: &CsvOptions) -> bool {
-    csv.separator() == b',' && csv.eol() == b'\n' && csv.has_header() && !csv.ignores_errors()
-}
-
-/// Whether a short query has its files, its columns, its sink and every default.
-fn is_short(query: &Query, options: &Options) -> bool {
-    if query.sink().name.as_str() != "out.ndjson" || options.chunk_bytes() != 65_536 {
-        return false;
-    }
-    asks_nothing(&query.left().file_options) && is_standard(csv_of(query))
-}
-
-fn reads_short(alloc: Global) -> Result<bool, Fault> {
-    let (query, options) = read(alloc, SHORT)?;
-    check(alloc, &query)?;
-    Ok(is_short(&query, &options))
-}
+/// Commas, double quotes, line feeds, a header and empty nulls; and nothing is asked of the rows.
+const SHORT_SHOWN: &str = "files(a.csv|) schema(id Int|name Text|)
+separator 44 quote Some(34) eol 10 comment none header true null <> ignores false
+columns() slice None index none path none lacking false
+filter none
+sink <out.ndjson> NdJson
+";
 
 #[test]
-fn what_a_text_does_not_say_is_the_default(rt: HostRuntime) -> Result<(), Fail> {
-    assert!(rt; reads_short(rt.alloc())?);
-    Ok(())
+fn what_a_text_does_not_say_is_the_default(rt: HostRuntime) {
+    let numbers = [4, 100_000, 65_536, 4, 4, 16_777_216];
+    is_read(&rt, rt.alloc(), SHORT, SHORT_SHOWN, numbers, 0);
+}
+
+/// A query that says all that a query can say, with names in escapes and a filter of every kind of node.
+const WHOLE: &str = r#"{
+"left":{
+  "format":"csv",
+  "files":["jan.csv","f\u0065b.csv","\ud83d\ude80\/\t.csv"],
+  "schema":[["id","int"],["ok","bool"],["name","text"],["old","int"]],
+  "csv":{"separator":";","quote":"'","eol":"$","comment":"//","has_header":false,"null":"NA","ignore_errors":true},
+  "columns":["name","id"],
+  "slice":[2,18446744073709551615],
+  "row_index":["row",4294967294],
+  "path":"file",
+  "filter":["and",
+    ["or",["not",["null","name"]],["and",["notnull","file"],["is","ok"]]],
+    ["and",
+      ["and",["eq","id",{"col":"old"}],["ne","ok",{"lit":true}]],
+      ["and",
+        ["or",["lt","name",{"lit":"m\"\u00df"}],["le","id",{"lit":-9223372036854775808}]],
+        ["and",["gt","old",{"lit":null}],["ge","row",{"lit":9223372036854775807}]]]]]
+},
+"sink":{"format":"ndjson"},
+"options":{
+  "workers":8,"morsel_rows":1000,"chunk_bytes":4096,"distributor_buffer":2,"linearizer_buffer":3,
+  "min_values_per_task":5,"random_state":18446744073709551615}
+}"#;
+
+/// The same, part by part.
+const WHOLE_SHOWN: &str =
+    "files(jan.csv|feb.csv|\u{1f680}/\t.csv|) schema(id Int|ok Bool|name Text|old Int|)
+separator 59 quote Some(39) eol 36 comment <//> header false null <NA> ignores true
+columns(name|id|) slice Some((2, 18446744073709551615)) index <row> from 4294967294 path <file> lacking false
+filter And Or Not IsNull name|And NotNull file|Is ok|And And Eq id old|Ne ok true|And Or Lt name <m\"\u{df}>|Le id -9223372036854775808|And Gt old null|Ge row 9223372036854775807|
+sink <out.ndjson> NdJson
+";
+
+#[test]
+fn what_a_text_says_is_read(rt: HostRuntime) {
+    let numbers = [8, 1000, 4096, 2, 3, 5];
+    is_read(&rt, rt.alloc(), WHOLE, WHOLE_SHOWN, numbers, u64::MAX);
 }
