@@ -160,7 +160,7 @@ fn time_rows<R: Clock + AllocGlobal>(
 }
 
 /// Reads a piece, and says how many rows it has; none under another number of columns.
-fn read_piece(
+pub fn read_piece(
     alloc: Global,
     piece: &[u8],
     schema: &Schema,

@@ -28,14 +28,23 @@ impl Best {
 
     /// Takes in a run that gave a count and has just ended.
     pub fn take_in(&mut self, rt: &impl Clock, begun: Instant, count: usize) -> Result<(), Fault> {
-        let Ok(passed) = begun.elapsed(rt) else {
-            return Err(Fault::WriteFault);
-        };
-        let nanos = u64::try_from(passed.as_nanos()).unwrap_or(u64::MAX);
-        self.count = count;
-        self.nanos = self.nanos.min(nanos);
+        self.take(nanos_since(rt, begun)?, count);
         Ok(())
     }
+
+    /// Takes in a run that took so many nanoseconds and gave a count.
+    pub fn take(&mut self, nanos: u64, count: usize) {
+        self.count = count;
+        self.nanos = self.nanos.min(nanos);
+    }
+}
+
+/// The nanoseconds from then on.
+pub fn nanos_since(rt: &impl Clock, begun: Instant) -> Result<u64, Fault> {
+    let Ok(passed) = begun.elapsed(rt) else {
+        return Err(Fault::WriteFault);
+    };
+    Ok(u64::try_from(passed.as_nanos()).unwrap_or(u64::MAX))
 }
 
 /// Now.
