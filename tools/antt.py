@@ -3,7 +3,8 @@ import glob
 import os
 import re
 
-ITEM = re.compile(r"(?:(?:abbrev|unfoldable) pub|pub (?:record|data)) (\S+)|pub (?!use\b|mod\b)(\S+) :")
+# an item is at the margin, or within a `module _`
+ITEM = re.compile(r"(?:  )?(?:(?:abbrev|unfoldable) pub|pub (?:record|data)) (\S+)|pub (?!use\b|mod\b)(\S+) :")
 USE = re.compile(r"^\s*(?:pub )?(?:ghost )?use (Rattle\.[\w.]+?)(?:\.\{([^}]*)\}| as (\w+));?$", re.M)
 DECLARED = re.compile(r"(.+)\.specs\.declared\.(.+)")
 
@@ -23,8 +24,9 @@ class Definition:
     def __init__(self, name, crate, module, path, line, comment, text):
         self.name, self.crate, self.module, self.path, self.line = name, crate, module, path, line
         self.comment, self.text = comment, text
-        self.is_data, self.is_record = text.startswith("pub data "), text.startswith("pub record ")
-        members = re.findall(r"^  (?:pub )?(\S+) :", text, re.M)
+        self.is_data, self.is_record = text.lstrip().startswith("pub data "), text.lstrip().startswith("pub record ")
+        margin = len(text) - len(text.lstrip())
+        members = re.findall(r"^ {%d}(?:pub )?(\S+) :" % (margin + 2), text, re.M)
         self.constructors = members if self.is_data else []
         self.fields = members if self.is_record else []
 
@@ -46,12 +48,12 @@ class Module:
         self.definitions = []
         for at, after in zip(starts, starts[1:] + [len(lines)]):
             first, end = at, after
-            while first and lines[first - 1].startswith("--"):
+            while first and lines[first - 1].lstrip().startswith("--"):
                 first -= 1
-            while end < len(lines) and end > at + 1 and (lines[end - 1].startswith("--") or not lines[end - 1].strip()):
+            while end < len(lines) and end > at + 1 and (lines[end - 1].lstrip().startswith("-- ") or not lines[end - 1].strip()):
                 end -= 1
             name = next(filter(None, ITEM.match(lines[at]).groups()))
-            comment = [line[2:].strip() for line in lines[first:at]]
+            comment = [line.strip()[2:].strip() for line in lines[first:at]]
             text = "\n".join(lines[at:end]).rstrip()
             self.definitions.append(Definition(name, self.crate, self.name, path, at + 1, comment, text))
 
