@@ -1,13 +1,14 @@
 -- What the caller's loop keeps, turn by turn. `J` are the jobs that a line may be for, and what is told of a run is told for each job.
 use Rattle.std.specs.Prelude.{◌≡◌, ℕ, ◌+◌, ◌-◌, ◌<◌, OnOk, IfErr, Result, Ok, Err, List, [], ◌∷◌, ◌++◌, take}
-use Rattle.std.proofs.Common.{ap, sym, subst, ◌∙◌, append-nil, append_assoc, arith, inl, inr}
-use Rattle.std.specs.List.{flat_map}
+use Rattle.std.proofs.Common.{refl, ap, sym, subst, ◌∙◌, append-nil, append_assoc, arith, inl, inr}
+use Rattle.std.specs.List.{flat_map, sum_by}
 use Rattle.std.proofs.lemmas.List.Concat.{flat_map-append}
+use Rattle.std.proofs.lemmas.List.Sums.{sum_by-append}
 use Rattle.morsel_meaning.specs.declared.fault.Fault.{Fault}
 use Rattle.morsel_meaning.specs.declared.fault.Fault.TheVariants as faults
 use Rattle.morsel_outside.specs.declared.events.IoEvent.{IoEvent}
 use Rattle.morsel_outside.specs.Outside.{Outside}
-use Rattle.morsel_outside.specs.Actions.{Action, Writing, FailedWriting, Does, event_of}
+use Rattle.morsel_outside.specs.Actions.{Action, ReadingRange, FailedReadingRange, Writing, FailedWriting, Does, event_of, write_failures}
 use Rattle.morsel_outside.proofs.ActionLemmas.{does-append}
 use Rattle.morsel_outside.proofs.DoesLemmas.{does-nothing}
 use Rattle.morsel_pipe.specs.Pieces.{Piece, Part}
@@ -43,6 +44,7 @@ wrote_nothing axis serves written old = record {
   does = does-nothing old;
   are = tt;
   stops = tt;
+  fine = refl;
   told_them = λ job serving sound. (serving, λ w chunk before k. subst (λ actions. KeepsText (axis job) w chunk actions written) (sym (append-nil before)) k);
 }
 
@@ -54,6 +56,7 @@ wrote_more axis first serves later fn was now old mid new part s on suits (begin
   does = does-append old mid new s.writes (Writing part.bytes ∷ []) s.does does;
   are = each-append IsWriting s.writes (Writing part.bytes ∷ []) s.are (tt, tt);
   stops = tt;
+  fine = sum_by-append write_failures s.writes (Writing part.bytes ∷ []) ∙ ap (λ n. n + 0) s.fine;
   told_them = λ job serving sound. let h = s.told_them job serving sound in (
     on job h.0,
     λ w chunk before k. subst (λ actions. KeepsText (axis job) w chunk actions now) (append_assoc before s.writes (Writing part.bytes ∷ []))
@@ -69,6 +72,7 @@ wrote_all axis first serves later fn was old mid done s on = record {
   does = s.does;
   are = s.are;
   stops = tt;
+  fine = s.fine;
   told_them = λ job serving sound. let h = s.told_them job serving sound in (on job h.0, λ w chunk before k. h.1 w chunk before k);
 }
 
@@ -80,6 +84,7 @@ write_stopped axis first serves later fn was now old mid new part faults.OutOfMe
   does = subst (λ o. Does old s.writes o) (sym same) s.does;
   are = s.are;
   stops = tt;
+  fine = tt;
   told_them = λ job serving sound. let h = s.told_them job serving sound in
       (tt, λ w chunk before k. keeps-stops (axis job) w chunk (before ++ s.writes) was sound (h.1 w chunk before k));
 }
@@ -88,6 +93,7 @@ write_stopped axis first serves later fn was now old mid new part faults.WriteFa
   does = does-append old mid new s.writes (FailedWriting (take taken part.bytes) ∷ []) s.does does;
   are = each-append IsWriting s.writes (FailedWriting (take taken part.bytes) ∷ []) s.are (tt, tt);
   stops = failures_among s.writes (FailedWriting (take taken part.bytes) ∷ []) (omega arith);
+  fine = tt;
   told_them = λ job serving sound. let h = s.told_them job serving sound in (
     tt,
     λ w chunk before k. subst (λ actions. Stops (axis job) w chunk actions) (append_assoc before s.writes (FailedWriting (take taken part.bytes) ∷ []))
@@ -96,10 +102,11 @@ write_stopped axis first serves later fn was now old mid new part faults.WriteFa
 }
 write_stopped axis first serves later fn was now old mid new part fault s suits h = absurd h
 
--- what was done so far, and what is told of it
+-- what was done so far, that no write failed, and what is told of it
 pub record Stands (did : List Action → Type 0) (told : List Action → Type 0) (before now : Outside) : Type 0 where
   pub actions : List Action
   pub transfers : Transfers did before actions now
+  pub fine : sum_by write_failures actions ≡ 0
   pub told_them : told actions
 
 -- in the midst of a run the text is kept, so many bytes were asked, and what is held is of the input
@@ -129,6 +136,7 @@ pub stands_begun : {J : Type 0} (axis : J → Axis) (is_piece : J → Piece → 
 stands_begun axis is_piece is_end reads serves bound chunk given asked written did before nothing none next begun rows = record {
   actions = [];
   transfers = transfers-nothing did before nothing;
+  fine = refl;
   told_them = λ job reading serving sound. record {
     keeps = keeps-nothing (axis job) (bound + (axis job).longest) chunk written sound next begun rows;
     asked_is = sym none;
@@ -154,6 +162,15 @@ kept_read axis is_piece is_end reads serves bound chunk given asked input writte
     (subst (λ n. ReadsAhead axis (bound + axis.longest) chunk n (written_up_to axis.head (flat_map event_of actions)) (flat_map event_of more)) (sym m.asked_is)
     (in_time (written_up_to axis.head (flat_map event_of actions)) (written_to axis (bound + axis.longest) chunk actions written sound m.keeps)))
 
+-- reads fail no write
+no_failures : (reads : List Action) → Each IsReading reads → sum_by write_failures reads ≡ 0
+no_failures [] are = refl
+no_failures (ReadingRange file at len ∷ reads) are = no_failures reads are.1
+no_failures (FailedReadingRange file at len ∷ reads) are = no_failures reads are.1
+no_failures (Writing piece ∷ reads) are = absurd are.0
+no_failures (FailedWriting piece ∷ reads) are = absurd are.0
+no_failures (action ∷ reads) are = absurd are.0
+
 pub stands_read : {J : Type 0} (axis : J → Axis) (is_piece : J → Piece → Type 0) (is_end : J → ℕ → ℕ → Type 0) (is_due : J → Fault → Type 0) (begun_reading begun_serving reads serves on : J → Type 0) (bound chunk here given now asked later : ℕ)
     (input held : Input) (written : Written) (did call more : List Action → Type 0) (before old new : Outside) → here ≡ chunk
     → Stands did (ToldMidst axis is_piece is_end begun_reading begun_serving reads serves bound chunk given asked input written) before old
@@ -164,6 +181,7 @@ pub stands_read : {J : Type 0} (axis : J → Axis) (is_piece : J → Piece → T
 stands_read axis is_piece is_end is_due begun_reading begun_serving reads serves on bound chunk here given now asked later input held written did call more before old new same s r join gives = record {
   actions = s.actions ++ r.reads;
   transfers = transfers-read did more before old new s.actions r.reads s.transfers r.does r.are (λ xs h. join xs r.reads h r.did_them);
+  fine = (let all = sum_by-append write_failures s.actions r.reads in let first = s.fine in let later = no_failures r.reads r.are in omega (arith, all, first, later));
   told_them = λ job reading serving sound.
       let m = s.told_them job reading serving sound in
       let t = r.sought_them job m.reading sound.ends in
@@ -189,6 +207,7 @@ read_failed axis is_piece is_end is_due begun_reading begun_serving reads serves
   transfers = transfers-read did more before old new s.actions r.reads s.transfers r.does r.are (λ xs h. join xs r.reads h r.did_them);
   stops = inr (inl is);
   ends = tt;
+  fine = tt;
   told_them = λ job reading serving sound.
       let m = s.told_them job reading serving sound in
       let t = r.sought_them job m.reading sound.ends in record {
@@ -209,6 +228,7 @@ pub stands_served : {J : Type 0} (axis : J → Axis) (is_piece : J → Piece →
 stands_served axis is_piece is_end begun_reading begun_serving reads serves later bound chunk given asked input held written did before now s on = record {
   actions = s.actions;
   transfers = s.transfers;
+  fine = s.fine;
   told_them = λ job reading serving sound. let m = s.told_them job reading serving sound in let g = on job m.serving m.fits in record {
     keeps = m.keeps;
     asked_is = m.asked_is;
@@ -228,6 +248,7 @@ step_failed axis is_piece is_end is_due begun_reading begun_serving reads serves
   transfers = s.transfers;
   stops = inr (inr is);
   ends = tt;
+  fine = tt;
   told_them = λ job reading serving sound. let m = s.told_them job reading serving sound in record {
     writes = tt;
     reads_on = tt;
@@ -245,6 +266,7 @@ pub stands_written : {J T : Type 0} (axis : J → Axis) (is_piece : J → Piece 
 stands_written axis is_piece is_end begun_reading begun_serving reads on serves later bound chunk given asked input was now did before old new done s w go = record {
   actions = s.actions ++ w.writes;
   transfers = transfers-written did before old new s.actions w.writes s.transfers w.does w.are;
+  fine = (let all = sum_by-append write_failures s.actions w.writes in let first = s.fine in let later : sum_by write_failures w.writes ≡ 0 = w.fine in omega (arith, all, first, later));
   told_them = λ job reading serving sound.
       let m = s.told_them job reading serving sound in let h = w.told_them job m.serving sound in record {
         keeps = h.1 (bound + (axis job).longest) chunk s.actions m.keeps;
@@ -275,6 +297,7 @@ write_failed axis is_piece is_end is_due begun_reading begun_serving reads serve
   transfers = transfers-written did before old new s.actions w.writes s.transfers w.does w.are;
   stops = inl (stop_among s.actions w.writes fault w.stops);
   ends = tt;
+  fine = tt;
   told_them = λ job reading serving sound.
       let m = s.told_them job reading serving sound in let h = w.told_them job m.serving sound in record {
         writes = tt;
@@ -305,6 +328,7 @@ run_ended axis is_piece is_end is_due begun_reading begun_serving reads serves b
   transfers = s.transfers;
   stops = ended_stop given input written result failed broke s.actions ends;
   ends = ended_well given input written result ended ends at_end;
+  fine = when_ok result (sum_by write_failures s.actions ≡ 0) s.fine;
   told_them = λ job reading serving sound. let m = s.told_them job reading serving sound in record {
     writes = writes_all (axis job) (is_piece job) (is_end job) (bound + (axis job).longest) chunk s.actions given asked input written result m.keeps m.asked_is m.fits ends;
     reads_on = when_ok result (reads job) m.reading;

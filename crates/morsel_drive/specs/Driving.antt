@@ -73,12 +73,13 @@ IsWriteStop actions faults.OutOfMemory = Unit {0}
 IsWriteStop actions faults.WriteFault = 0 < sum_by write_failures actions
 IsWriteStop actions fault = ⊥
 
--- what taking parts out and writing them did: writes, and nothing else
+-- what taking parts out and writing them did: writes, and nothing else; none failed, where there is no fault
 pub record WritesOn {T : Type 0} (told : List Action → Type 0) (old : Outside) (result : Result T Fault) (new : Outside) : Type 0 where
   pub writes : List Action
   pub does : Does old writes new
   pub are : Each IsWriting writes
   pub stops : IfErr result (IsWriteStop writes)
+  pub fine : OnOk result (sum_by write_failures writes ≡ 0)
   pub told_them : told writes
 
 -- the piece that the caller holds, if it holds one, can be decoded
@@ -132,10 +133,11 @@ pub record DrivesAxis (axis : Axis) (is_due : Fault → Type 0) (is_end : ℕ �
   pub due : IfErr result (IsDue is_due)
   pub front : Stops axis w chunk actions
 
--- a whole run: what it did, why it has a fault, that its reader came to the end where it has none, and, where it is told what the files contain, what was written
+-- a whole run: what it did, why it has a fault, that where it has none its reader came to the end and no write failed, and, where it is told what the files contain, what was written
 pub record Drives (did : List Action → Type 0) (failed broke : Fault → Type 0) (ended : Type 0) (told : List Action → Type 0) (before : Outside) (result : Result ℕ Fault) (now : Outside) : Type 0 where
   pub actions : List Action
   pub transfers : Transfers did before actions now
   pub stops : IfErr result (StopsFor failed broke actions)
   pub ends : OnOk result ended
+  pub fine : OnOk result (sum_by write_failures actions ≡ 0)
   pub told_them : told actions

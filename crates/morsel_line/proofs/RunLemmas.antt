@@ -8,7 +8,7 @@ use Rattle.morsel_meaning.specs.declared.fault.Fault.TheVariants as faults
 use Rattle.morsel_meaning.specs.Values.{Row}
 use Rattle.morsel_grammar.specs.Dialect.{IsDialect}
 use Rattle.morsel_outside.specs.Outside.{Outside}
-use Rattle.morsel_outside.specs.Actions.{Action, event_of}
+use Rattle.morsel_outside.specs.Actions.{Action, event_of, read_failures, write_failures}
 use Rattle.morsel_scan.specs.Scans.{CsvScan}
 use Rattle.morsel_scan.specs.CsvScans.{csv_scan_rows}
 use Rattle.morsel_scan.specs.Ahead.{asked_up_to}
@@ -25,7 +25,7 @@ use Rattle.morsel_read.proofs.SliceLemmas.{keeps_no_more}
 use Rattle.morsel_read.proofs.SourceLemmas.{get_less, sizes_len}
 use Rattle.morsel_drive.proofs.TransferLemmas.{stays}
 use Rattle.morsel_drive.specs.Lines.{IsSoundAxis}
-use Rattle.morsel_drive.specs.Driving.{is_reading, IsWriteStop, StopsFor, WritesRows, DrivesAxis, Drives}
+use Rattle.morsel_drive.specs.Driving.{is_reading, StopsFor, WritesRows, DrivesAxis, Drives}
 use Rattle.morsel_line.specs.Jobs.{Job}
 use Rattle.morsel_line.specs.ScanJobs.{scan_text, job_axis, IsJobFault, IsJobEnd, IsPieceKind}
 use Rattle.morsel_line.specs.ScanSources.{AskNextChunks, EndsInFailure, DidRead, ReadsJob}
@@ -102,6 +102,7 @@ scan_written s old new bound before after result none start d =
       to = did.to;
       reads = subst (λ n. AskNextChunks old.sources.files (sizes_in before.sizes old.sources.files) old.sources.chunk n (filter is_reading d.actions) did.to) none did.are;
       stops = stops_for old new d.actions result did.same (did.failed start) d.stops;
+      fine = fine_by result d.ends d.fine;
       all_asked = by_result result d.ends;
       told = λ files had.
           let job : Job = job_of s old files in
@@ -113,6 +114,11 @@ scan_written s old new bound before after result none start d =
           };
     }
   where
+    fine_by : (result : Result ℕ Fault) → OnOk result (AtEnd after new) → OnOk result (sum_by write_failures d.actions ≡ 0)
+        → OnOk result ((sum_by read_failures (filter is_reading d.actions) ≡ 0) × (sum_by write_failures d.actions ≡ 0))
+    fine_by (Err fault) ends fine = tt
+    fine_by (Ok n) ((all, none), suits) fine = (d.transfers.reads.fine none, fine)
+
     by_result : (result : Result ℕ Fault) → OnOk result (AtEnd after new) → OnOk result ((d.transfers.reads.to ≡ sum_by (λ n. n) (sizes_in before.sizes old.sources.files)) ⊎ (old.sources.stop ≤ 4294967295))
     by_result (Err fault) ends = tt
     by_result (Ok n) ((all, none), suits) = on (whole_asked after old new before.sizes d.transfers.reads.same (stays before after d.actions d.transfers.each d.transfers.does).sizes all (suits.opened none))

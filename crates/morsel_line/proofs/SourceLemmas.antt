@@ -8,7 +8,7 @@ use Rattle.morsel_meaning.specs.declared.fault.Fault.TheVariants as faults
 use Rattle.morsel_outside.specs.declared.events.IoEvent.{IoEvent}
 use Rattle.morsel_outside.specs.Outside.{Outside}
 use Rattle.morsel_outside.specs.declared.io.FileNo.{FileNo}
-use Rattle.morsel_outside.specs.Actions.{Action, ReadingRange, FailedReadingRange, Does, event_of}
+use Rattle.morsel_outside.specs.Actions.{Action, ReadingRange, FailedReadingRange, Does, event_of, read_failures}
 use Rattle.morsel_outside.proofs.ActionLemmas.{does-append}
 use Rattle.morsel_outside.proofs.DoesLemmas.{does-nothing}
 use Rattle.morsel_pipe.specs.Pieces.{Piece}
@@ -32,6 +32,12 @@ chunks_read : (files : List FileNo) (sizes : List ℕ) (chunk from to : ℕ) (re
 chunks_read files sizes chunk from to [] are = tt
 chunks_read files sizes chunk from to (ReadingRange file at len ∷ reads) are = (tt, chunks_read files sizes chunk (from + len) to reads are.1)
 chunks_read files sizes chunk from to (action ∷ reads) are = absurd are
+
+-- none of the next chunks failed
+chunks_fine : (files : List FileNo) (sizes : List ℕ) (chunk from to : ℕ) (reads : List Action) → AreNextChunks files sizes chunk from reads to → sum_by read_failures reads ≡ 0
+chunks_fine files sizes chunk from to [] are = refl
+chunks_fine files sizes chunk from to (ReadingRange file at len ∷ reads) are = chunks_fine files sizes chunk (from + len) to reads are.1
+chunks_fine files sizes chunk from to (action ∷ reads) are = absurd are
 
 each-last : (reads : List Action) (file at len : ℕ) → Each IsReading reads → Each IsReading (reads ++ FailedReadingRange file at len ∷ [])
 each-last [] file at len are = (tt, tt)
@@ -127,6 +133,7 @@ reads_well before after old new found none same still r = record {
     to = asked_to new;
     are = chunks_asked old.sources.files (sizes_in before.sizes old.sources.files) old.sources.chunk (asked_to old) (asked_to new) r.reads r.are;
     there = λ is. refl;
+    fine = λ is. chunks_fine old.sources.files (sizes_in before.sizes old.sources.files) old.sources.chunk (asked_to old) (asked_to new) r.reads r.are;
     failed = λ start number is. absurd (let both : None ≡ Some (faults.ReadFault number) = sym still ∙ is in cc);
     after_fault = λ fault is. absurd (let both : None ≡ Some fault = sym none ∙ is in cc);
   };
@@ -144,6 +151,7 @@ reads_to before after old new fault to other_kind none same failed r = record {
     to = to;
     are = chunks_asked old.sources.files (sizes_in before.sizes old.sources.files) old.sources.chunk (asked_to old) to r.reads r.are;
     there = λ is. absurd (let both : None ≡ Some fault = sym is ∙ failed in cc);
+    fine = λ is. absurd (let both : None ≡ Some fault = sym is ∙ failed in cc);
     failed = λ start number is. absurd (other_kind number (let both : Some fault ≡ Some (faults.ReadFault number) = sym failed ∙ is in cc));
     after_fault = λ other is. absurd (let both : None ≡ Some other = sym none ∙ is in cc);
   };
@@ -168,6 +176,7 @@ reads_fail before after old new fault number kind none same failed f =
         to = f.to + f.len;
         are = ask-last old.sources.files (sizes_in before.sizes old.sources.files) old.sources.chunk (asked_to old) f.to f.file f.at f.len r.reads r.are f.last;
         there = λ is. absurd (let both : None ≡ Some fault = sym is ∙ failed in cc);
+        fine = λ is. absurd (let both : None ≡ Some fault = sym is ∙ failed in cc);
         failed = λ start other is. record {
           before = r.reads;
           source = f.last.source;

@@ -5,7 +5,7 @@ use Rattle.morsel_meaning.specs.declared.fault.Fault.{Fault}
 use Rattle.morsel_meaning.specs.declared.fault.Fault.TheVariants as faults
 use Rattle.morsel_meaning.specs.Values.{Row}
 use Rattle.morsel_outside.specs.Outside.{Outside}
-use Rattle.morsel_outside.specs.Actions.{Action, Does, event_of, text_by}
+use Rattle.morsel_outside.specs.Actions.{Action, Does, event_of, text_by, read_failures, write_failures}
 use Rattle.morsel_scan.specs.Scans.{CsvScan}
 use Rattle.morsel_scan.specs.CsvScans.{csv_scan_rows}
 use Rattle.morsel_scan.specs.StretchRows.{HasFaultWithin}
@@ -46,7 +46,7 @@ StopsScan files actions fault = IsWriteStop actions fault
     ⊎ (IsPiecesFaultOf files fault × ((number : ℕ) → fault ≡ faults.ReadFault number → EndsInFailure files number (filter is_reading actions)))
     ⊎ IsPieceKind fault
 
--- a scan was written: only the next chunks were read, and parts written; a fault has its reason; with rows, all was asked, but where the slice ends within the greatest number of rows
+-- a scan was written: only the next chunks were read, and parts written; a fault has its reason; with rows, no read and no write failed, and all was asked, but where the slice ends within the greatest number of rows
 pub record WritesScan (s : CsvScan) (r : PiecesRead) (bound : ℕ) (before : Outside) (result : Result ℕ Fault) (after : Outside) : Type 0 where
   pub actions : List Action
   pub does : Does before actions after
@@ -54,5 +54,6 @@ pub record WritesScan (s : CsvScan) (r : PiecesRead) (bound : ℕ) (before : Out
   pub to : ℕ
   pub reads : AskNextChunks r.sources.files (sizes_in before.sizes r.sources.files) r.sources.chunk 0 (filter is_reading actions) to
   pub stops : IfErr result (StopsScan r.sources actions)
+  pub fine : OnOk result ((sum_by read_failures (filter is_reading actions) ≡ 0) × (sum_by write_failures actions ≡ 0))
   pub all_asked : OnOk result ((to ≡ sum_by (λ n. n) (sizes_in before.sizes r.sources.files)) ⊎ (r.sources.stop ≤ 4294967295))
   pub told : (files : List (List ℕ)) → HasGivenRows s files before r → WritesJob (job_of s r files) bound r.sources.chunk actions result

@@ -1,10 +1,11 @@
 -- The reader of a scan's files, as what a line is fed from.
-use Rattle.std.specs.Prelude.{◌≡◌, ℕ, ◌+◌, Option, Some, None, List, [], ◌∷◌, ◌++◌, map, slice_get}
+use Rattle.std.specs.Prelude.{◌≡◌, ℕ, ◌+◌, Some, None, List, [], ◌∷◌, ◌++◌, map, slice_get}
+use Rattle.std.specs.List.{sum_by}
 use Rattle.morsel_meaning.specs.declared.fault.Fault.{Fault}
 use Rattle.morsel_meaning.specs.declared.fault.Fault.TheVariants as faults
 use Rattle.morsel_outside.specs.Outside.{Outside}
 use Rattle.morsel_outside.specs.declared.io.FileNo.{FileNo}
-use Rattle.morsel_outside.specs.Actions.{Action, ReadingRange, FailedReadingRange}
+use Rattle.morsel_outside.specs.Actions.{Action, ReadingRange, FailedReadingRange, read_failures}
 use Rattle.morsel_read.specs.ScanReads.{FilesAsked, PiecesRead, asked_to, sizes_in, HasGivenRows}
 use Rattle.morsel_read.specs.PieceReads.{IsNextChunk}
 use Rattle.morsel_line.specs.Jobs.{Job}
@@ -33,12 +34,13 @@ pub record EndsInFailure (files : FilesAsked) (number : ℕ) (actions : List Act
   pub number_is : number ≡ files.first + source
   pub split : actions ≡ before ++ FailedReadingRange file at len ∷ []
 
--- what calls of a reader, one after the other, did over files of these sizes; a reader that had a fault does nothing
+-- what calls of a reader, one after the other, did over files of these sizes; none failed where there is no fault, and a reader that had one does nothing
 pub record DidRead (old new : PiecesRead) (sizes : List ℕ) (actions : List Action) : Type 0 where
   pub same : new.sources ≡ old.sources
   pub to : ℕ
   pub are : AskNextChunks old.sources.files (sizes_in sizes old.sources.files) old.sources.chunk (asked_to old) actions to
   pub there : new.fault ≡ None → to ≡ asked_to new
+  pub fine : new.fault ≡ None → sum_by read_failures actions ≡ 0
   pub failed : old.fault ≡ None → (number : ℕ) → new.fault ≡ Some (faults.ReadFault number) → EndsInFailure old.sources number actions
   pub after_fault : (fault : Fault) → old.fault ≡ Some fault → (actions ≡ []) × (new ≡ old)
 

@@ -1,11 +1,12 @@
 -- Laws of the reader of a scan's files as what a line is fed from: over another outside, and over several calls.
-use Rattle.std.proofs.Common.{◌≡◌, ℕ, ◌+◌, ap, sym, subst, refl, ◌∙◌, append-nil, append_assoc}
+use Rattle.std.proofs.Common.{◌≡◌, ℕ, ◌+◌, ap, sym, subst, refl, ◌∙◌, append-nil, append_assoc, arith}
+use Rattle.std.proofs.lemmas.List.Sums.{sum_by-append}
 use Rattle.std.specs.Prelude.{Option, Some, None, List, [], ◌∷◌, ◌++◌, slice_get}
 use Rattle.morsel_meaning.specs.declared.fault.Fault.{Fault}
 use Rattle.morsel_meaning.specs.declared.fault.Fault.TheVariants as faults
 use Rattle.morsel_outside.specs.Outside.{Outside}
 use Rattle.morsel_outside.specs.declared.io.FileNo.{FileNo}
-use Rattle.morsel_outside.specs.Actions.{Action, ReadingRange, FailedReadingRange}
+use Rattle.morsel_outside.specs.Actions.{Action, ReadingRange, FailedReadingRange, read_failures}
 use Rattle.morsel_read.specs.ScanReads.{FilesAsked, PiecesRead, asked_to, sizes_in, SuitsPieces}
 use Rattle.morsel_read.proofs.LawLemmas.{goes_on_over}
 use Rattle.morsel_line.specs.Jobs.{Job}
@@ -23,7 +24,7 @@ reads_on r job old new same held reads = record {
 }
 
 pub did_nothing : (r : PiecesRead) (sizes : List ℕ) → DidRead r r sizes []
-did_nothing r sizes = record { same = refl; to = asked_to r; are = refl; there = λ none. refl; failed = λ none number is. absurd (let both : None ≡ Some (faults.ReadFault number) = sym none ∙ is in cc); after_fault = λ fault is. (refl, refl) }
+did_nothing r sizes = record { same = refl; to = asked_to r; are = refl; there = λ none. refl; fine = λ none. refl; failed = λ none number is. absurd (let both : None ≡ Some (faults.ReadFault number) = sym none ∙ is in cc); after_fault = λ fault is. (refl, refl) }
 
 -- what was asked by calls, one after the other
 pub ask-append : (files : List FileNo) (sizes : List ℕ) (chunk from mid to : ℕ) (first later : List Action) → AskNextChunks files sizes chunk from first mid → AskNextChunks files sizes chunk mid later to
@@ -44,6 +45,7 @@ did_on first between last sizes old more one two = by between.fault refl
           (subst (λ n. AskNextChunks first.sources.files (sizes_in sizes first.sources.files) first.sources.chunk n more two.to) (sym (one.there none))
           (subst (λ (x : FilesAsked). AskNextChunks x.files (sizes_in sizes x.files) x.chunk (asked_to between) more two.to) one.same two.are));
       there = two.there;
+      fine = λ still. (let all = sum_by-append read_failures old more in let first = one.fine none in let later = two.fine still in omega (arith, all, first, later));
       failed = λ start number is.
           let end = two.failed none number is in record {
             before = old ++ end.before;

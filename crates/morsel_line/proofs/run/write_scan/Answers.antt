@@ -16,5 +16,6 @@ returns g c =
       transfers = d.transfers;
       stops = d.stops;
       ends = d.ends;
+      fine = d.fine;
       told_them = λ job reads serves sound. d.told_them job reads (c.new-line.ensures job serves.0 serves.1) sound;
     }))
