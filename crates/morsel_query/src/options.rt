@@ -1,5 +1,5 @@
 //! The numbers by which a query is run.
-ghost use Rattle.std.specs.Prelude.{◌≡◌, ◌↔◌, IfOk, IsErrOf, IsOkUnless, IsTrue};
+ghost use Rattle.std.specs.Prelude.{◌≡◌, ◌<◌, ◌↔◌, IfOk, IsErrOf, IsOkUnless, IsTrue};
 ghost use Rattle.morsel_query.specs.RunOptions.{AreInRange, IsFrom1To, run_options_of, standard_options, pieces_ahead};
 
 use morsel_meaning::{Fault, Why};
@@ -154,7 +154,8 @@ fn is_from_1_to(most: u32, n: u32) -> bool
 
 /// How many pieces may be read ahead of what is written.
 pub fn ahead(options: &Options) -> u64
-    ensures { result ≡ pieces_ahead options.now }
+    ensures value { result ≡ pieces_ahead options.now }
+    ensures some { 0 < result }
 {
     let places = u64::from(options.distributor_buffer()) + u64::from(options.linearizer_buffer());
     u64::from(options.workers()) * (3 * places + 16)

@@ -57,6 +57,14 @@ impl Query {
         &self.left
     }
 
+    /// The parts of which the query is made.
+    pub fn into_parts(self) -> (ScanSpec, SinkSpec)
+        ensures value { query_parts result.0 result.1 ≡ self }
+        ensures sound { IsSound self }
+    {
+        (self.left, self.sink)
+    }
+
     /// The sink.
     pub fn sink(&self) -> &SinkSpec
         ensures { result.now ≡ self.now.sink }
