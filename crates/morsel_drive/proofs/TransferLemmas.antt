@@ -22,7 +22,7 @@ each-append P (x ∷ xs) ys (here, first) later = (here, each-append P xs ys fir
 abbrev pub IsEither : Action → Type 0
 IsEither action = IsReading action ⊎ IsWriting action
 
-are_transfers : (actions : List Action) → Each IsEither actions → AreTransfers actions
+pub are_transfers : (actions : List Action) → Each IsEither actions → AreTransfers actions
 are_transfers [] h = tt
 are_transfers (ReadingRange file at len ∷ actions) (here, later) = are_transfers actions later
 are_transfers (FailedReadingRange file at len ∷ actions) (here, later) = are_transfers actions later

@@ -21,6 +21,7 @@ use Rattle.morsel_scan.proofs.AxisFileLemmas.{gives_scan_rows}
 use Rattle.morsel_scan.specs.RowBlocks.{RowsRead}
 use Rattle.morsel_read.specs.ScanReads.{FilesAsked, PiecesRead, sizes_in, asked_to, asked_within, IsCurrent, AreOpen, SuitsPieces, IsPiecesFaultOf, CountsFromFirst}
 use Rattle.morsel_read.specs.PieceReads.{HasGivenAll}
+use Rattle.morsel_read.proofs.FaultlessLemmas.{no_fault_between}
 use Rattle.morsel_read.proofs.SliceLemmas.{keeps_no_more}
 use Rattle.morsel_read.proofs.SourceLemmas.{get_less, sizes_len}
 use Rattle.morsel_drive.proofs.TransferLemmas.{stays}
@@ -32,25 +33,30 @@ use Rattle.morsel_line.specs.ScanSources.{AskNextChunks, EndsInFailure, DidRead,
 use Rattle.morsel_line.specs.ScanRuns.{MeansRows, AnswersRows, StopsScan, WritesScan, job_of}
 use Rattle.morsel_line.proofs.LineLemmas.{sound}
 
--- where no place after them gives anything, the rows are what the scan means
+-- where no place after them gives anything, all places give the rows
+all_give : (job : Job) (given : ℕ) (rows : List Row) → Gives (job_axis job).gives 0 given rows → Gives (job_axis job).gives given (length (job_axis job).gives) []
+    → Gives (job_axis job).gives 0 (length (job_axis job).gives) rows
+all_give job given rows gives nothing = let gives_all_of = (job_axis job).gives in
+    subst (Gives gives_all_of 0 (length gives_all_of)) (append-nil rows) (gives_on gives_all_of 0 given (length gives_all_of) rows [] gives nothing)
+
+-- and the rows are what the scan means
 meant : (job : Job) (given : ℕ) (rows : List Row) → IsDialect job.scan.options → Gives (job_axis job).gives 0 given rows → Gives (job_axis job).gives given (length (job_axis job).gives) []
     → csv_scan_rows job.scan job.first job.names job.files ≡ Ok rows
-meant job given rows fit gives nothing =
-    let gives_all_of = (job_axis job).gives in
-    let whole : Gives gives_all_of 0 (length gives_all_of) rows = subst (Gives gives_all_of 0 (length gives_all_of)) (append-nil rows)
-    (gives_on gives_all_of 0 given (length gives_all_of) rows [] gives nothing) in
-    gives_scan_rows job.scan fit job.first 0 job.names job.files job.opened (scan_text job.scan) rows ((gives_all gives_all_of rows).0.0 whole)
+meant job given rows fit gives nothing = gives_scan_rows job.scan fit job.first 0 job.names job.files job.opened (scan_text job.scan) rows
+    ((gives_all (job_axis job).gives rows).0.0 (all_give job given rows gives nothing))
 
 -- the rows that the places before the end give are what the scan means
 means_rows : (job : Job) (given asked : ℕ) (rows : List Row) → IsDialect job.scan.options → CountsFromFirst job.scan.scan.asked.slice → length job.names ≡ length job.files
     → Gives (job_axis job).gives 0 given rows → IsJobEnd job given asked → MeansRows job asked rows
-means_rows job given asked rows fit from one_each gives (inl (all, nothing)) = inl (all, meant job given rows fit gives nothing)
+means_rows job given asked rows fit from one_each gives (inl (all, nothing, few)) = inl (all, all_give job given rows gives nothing, meant job given rows fit gives nothing, few)
 means_rows job given asked rows fit from one_each gives (inr end) = inr (
   given,
+  gives,
   end,
   λ none. meant job given rows fit gives
       (gives_nothing_past_slice job.scan fit job.first 0 given end.rows job.names job.files job.opened (scan_text job.scan) one_each (inl end.begins)
-      (λ position low. keeps_no_more job.scan.scan.asked.slice end.slice (total_rows (csv_sources job.scan job.first job.names job.files)) end.rows position from end.is end.past low) none),
+      (λ position low. keeps_no_more job.scan.scan.asked.slice end.slice (total_rows (csv_sources job.scan job.first job.names job.files)) end.rows position from end.is end.past low)
+      (no_fault_between (job_axis job).gives given asked (length (job_axis job).gives) (end.faultless job.first job.names one_each) none)),
 )
 
 -- a reader that has come to its end has asked for all, but where a slice has an end

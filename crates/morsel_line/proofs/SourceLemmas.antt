@@ -48,12 +48,12 @@ ask-last : (files : List FileNo) (sizes : List ℕ) (chunk from to file at len :
 ask-last files sizes chunk from to file at len reads are last =
     ask-append files sizes chunk from to (to + len) reads (FailedReadingRange file at len ∷ []) (chunks_asked files sizes chunk from to reads are) (last, refl)
 
-number_at : (files : List FileNo) (n file : ℕ) → slice_get files n ≡ Some (record { 0 = file }) → slice_get (opened_as files) n ≡ Some file
+pub number_at : (files : List FileNo) (n file : ℕ) → slice_get files n ≡ Some (record { 0 = file }) → slice_get (opened_as files) n ≡ Some file
 number_at [] n file is = absurd (cc)
 number_at (first ∷ files) zero file is = let same : first ≡ record { 0 = file } = cc in ap (λ (x : FileNo). Some x.0) same
 number_at (first ∷ files) (suc n) file is = number_at files n file is
 
-any_at : (xs : List ℕ) (n file : ℕ) → slice_get xs n ≡ Some file → list_any (nat_eq file) xs ≡ true
+pub any_at : (xs : List ℕ) (n file : ℕ) → slice_get xs n ≡ Some file → list_any (nat_eq file) xs ≡ true
 any_at [] n file is = absurd (cc)
 any_at (x ∷ xs) zero file is = let same : x ≡ file = cc in ap (λ t. t || list_any (nat_eq file) xs) (eq-eqb file x (sym same))
 any_at (x ∷ xs) (suc n) file is = ap (λ t. nat_eq file x || t) (any_at xs n file is) ∙ or_true (nat_eq file x)

@@ -8,10 +8,10 @@ use Rattle.morsel_outside.specs.Outside.{Outside}
 use Rattle.morsel_outside.specs.Actions.{Action, Does, event_of, text_by, read_failures, write_failures}
 use Rattle.morsel_scan.specs.Scans.{CsvScan}
 use Rattle.morsel_scan.specs.CsvScans.{csv_scan_rows}
-use Rattle.morsel_scan.specs.StretchRows.{HasFaultWithin}
+use Rattle.morsel_scan.specs.StretchRows.{Gives, HasFaultWithin}
 use Rattle.morsel_scan.specs.Ahead.{asked_up_to}
 use Rattle.morsel_read.specs.ScanReads.{FilesAsked, PiecesRead, sizes_in, IsPiecesFaultOf, HasGivenRows}
-use Rattle.morsel_read.specs.PieceReads.{IsSliceEnd}
+use Rattle.morsel_read.specs.PieceReads.{HaveRowsAtMost, IsSliceEnd}
 use Rattle.morsel_drive.specs.Lines.{Each, IsReading, IsDue}
 use Rattle.morsel_drive.specs.Driving.{is_reading, IsWriting, Stops, IsWriteStop}
 use Rattle.morsel_line.specs.Jobs.{Job}
@@ -22,11 +22,21 @@ use Rattle.morsel_line.specs.ScanSources.{opened_as, AskNextChunks, EndsInFailur
 abbrev pub job_of : CsvScan → PiecesRead → List (List ℕ) → Job
 job_of s r files = record { scan = s; first = r.sources.first; names = r.sources.names; opened = opened_as r.sources.files; files = files }
 
--- the rows are what the scan means, of which so many bytes were asked: all; or the slice keeps none from a place on that was asked, and then they are so where no record from there on has a fault
+-- the places give the rows up to one of them
+abbrev pub JobGives : Job → ℕ → List Row → Type 0
+JobGives job to rows = Gives (job_axis job).gives 0 to rows
+
+-- no record that was not wholly asked has a fault
+abbrev pub IsFaultlessPast : Job → ℕ → Type 0
+IsFaultlessPast job asked = (fault : Fault) → HasFaultWithin (job_axis job).gives asked (length (job_axis job).gives) fault → ⊥
+
+-- the places give the rows, of which so many bytes were asked, and they are what the scan means: all places, where all was asked, and no more rows than are allowed were; or those before the slice's end, and then they are so where no record that was not wholly asked has a fault
 abbrev pub MeansRows : Job → ℕ → List Row → Type 0
-MeansRows job asked rows = ((asked ≡ sum_by length job.files) × (csv_scan_rows job.scan job.first job.names job.files ≡ Ok rows))
-    ⊎ ((given : ℕ) × IsSliceEnd job.scan job.files given asked
-    × (((fault : Fault) → HasFaultWithin (job_axis job).gives given (length (job_axis job).gives) fault → ⊥) → csv_scan_rows job.scan job.first job.names job.files ≡ Ok rows))
+MeansRows job asked rows =
+    ((asked ≡ sum_by length job.files) × JobGives job (length (job_axis job).gives) rows × (csv_scan_rows job.scan job.first job.names job.files ≡ Ok rows)
+    × HaveRowsAtMost job.scan job.files 4294967295)
+    ⊎ ((given : ℕ) × JobGives job given rows × IsSliceEnd job.scan job.files given asked
+    × (IsFaultlessPast job asked → csv_scan_rows job.scan job.first job.names job.files ≡ Ok rows))
 
 -- rows are answered where their text was written, and they are what the scan means
 abbrev pub AnswersRows : Job → List Action → Result ℕ Fault → Type 0

@@ -9,17 +9,19 @@ use Rattle.morsel_scan.specs.CsvScans.{FitsScan}
 use Rattle.morsel_scan.specs.CsvPieces.{HaveRows, IsRowPlace, BeginsStretch, bytes_between, IsPieceOf}
 use Rattle.morsel_scan.specs.CsvAxis.{csv_axis}
 use Rattle.morsel_scan.specs.CsvAxisLaws.{IsAfterPieces}
-use Rattle.morsel_scan.specs.Blocks.{given_to}
+use Rattle.morsel_scan.specs.Blocks.{given_to, IsLastCut}
 use Rattle.morsel_scan.specs.RowBlocks.{RowsRead, RowStretch, HasRowsBeforePlace}
 use Rattle.morsel_scan.proofs.AxisEndLemmas.{gives_nothing_at_end, none_left}
 use Rattle.morsel_scan.proofs.AxisRowLemmas.{has_each_byte}
+use Rattle.morsel_scan.proofs.RowStretchLemmas.{rows_at_end}
 use Rattle.morsel_read.specs.ScanReads.{FilesAsked, PiecesRead, slice_stop, slice_within, files_asked, asked_within, settled_within, size_within, asked_to, settled_to, sizes_in, IsCurrent, AreOpen, AreTold, HasGivenWithin, HasGivenRows}
 use Rattle.morsel_read.specs.PieceReads.{HasMoreRows, IsScanEnd}
 use Rattle.morsel_read.specs.Seeking.{HasFoundRows, FindsStretch, EndsFiles, piece_of, after_piece}
 use Rattle.morsel_read.proofs.HeldLemmas.{sum_take-next, sum_take-within}
 use Rattle.morsel_read.proofs.ReadListLemmas.{same_sizes, same_held}
-use Rattle.morsel_read.proofs.SourceLemmas.{told_len, told_same, told_sum, rows_next, rows_of_all, none_between}
+use Rattle.morsel_read.proofs.SourceLemmas.{told_len, told_same, told_sum, rows_next, rows_of_all, rows_up_to_end, none_between}
 use Rattle.morsel_read.proofs.SliceLemmas.{keeps_alike, past_stop}
+use Rattle.morsel_read.proofs.FaultlessLemmas.{no_fault_asked}
 
 -- no more was asked of the file that is read than it has
 pub asked_within_size : (o : Outside) (r : PiecesRead) → AreOpen o r → asked_to r ≤ r.earlier + size_within r.current
@@ -296,7 +298,39 @@ ends_scan s files before after old r e had =
     let utf8 : (number : ℕ) → IsUtf8 (bytes_between files number r.given (sum_by length files)) = λ number. subst (λ n. IsUtf8 (bytes_between files number r.given n)) settled (now.passed number) in
     let nothing = gives_nothing_at_end s now.fit old.sources.first 0 r.given r.rows old.sources.names files [] (λ rows. [])
     (ap (λ (x : FilesAsked). length x.names) (sym one) ∙ now.one_each) now.after_pieces have utf8 in
-    (inl (asked, nothing), now)
+    (inl (asked, nothing, (r.rows, have, e.passes.opened.few)), now)
+
+-- where all was asked, the rows of all files were given
+all_counted : (s : CsvScan) (files : List (List ℕ)) (o : Outside) (r : PiecesRead) → AreOpen o r → HasGivenRows s files o r → asked_to r ≡ sum_by length files → HaveRows s files r.rows
+all_counted s files o r opened had all = by r.current all (opened.current, had.rows_within)
+  where
+    earlier : r.earlier ≡ sum_by length (take r.source files)
+    earlier = opened.earlier ∙ told_sum o r.sources.files files r.source had.told
+
+    by : (current : Option RowsRead) → r.earlier + asked_within current ≡ sum_by length files
+        → IsCurrent o r.sources r.source current × HasGivenWithin s files r.source had.within current → HaveRows s files r.rows
+    by None all (here, none) =
+        let rows : had.earlier ≡ r.rows = (let a = had.rows_are in omega (arith, a, none)) in
+        rows_up_to_end s files r.source r.rows had.fit (subst (λ n. HaveRows s (take r.source files) n) rows had.rows_before) (omega (arith, all, earlier))
+    by (Some c) all (here, (bytes, is, given)) =
+        let next = sum_take-next files r.source bytes is in
+        let most = sum_take-within files (r.source + 1) in
+        let size = given.read.size_is in
+        let within = here.0.within in
+        let whole : c.blocks.asked ≡ length bytes = omega (arith, all, earlier, next, most, size, within) in
+        rows_up_to_end s files (r.source + 1) r.rows had.fit
+        (subst (λ n. HaveRows s (take (r.source + 1) files) n) (sym had.rows_are)
+        (rows_next s files r.source bytes had.earlier had.within is had.rows_before (rows_here (to_end whole given.cut) given.before)))
+        (omega (arith, all, earlier, next, whole))
+      where
+        to_end : c.blocks.asked ≡ length bytes → IsLastCut s.options bytes c.blocks.asked (given_to c.blocks) → given_to c.blocks ≡ length bytes
+        to_end whole (inl (less, cut)) = absurd (omega (arith, whole, less))
+        to_end whole (inr (asked, cut)) = cut
+
+        rows_here : given_to c.blocks ≡ length bytes → HasRowsBeforePlace s bytes (given_to c.blocks) had.within c.awaits_header
+            ⊎ ((given_to c.blocks ≡ length bytes) × HaveRows s (bytes ∷ []) had.within) → HaveRows s (bytes ∷ []) had.within
+        rows_here end (inl before) = rows_at_end s bytes (given_to c.blocks) had.within c.awaits_header had.fit before end
+        rows_here end (inr (is, have)) = have
 
 -- where the slice keeps no more rows, the scan ends
 pub ends_slice : (s : CsvScan) (files : List (List ℕ)) (o : Outside) (r : PiecesRead) → AreOpen o r → HasGivenRows s files o r → r.sources.stop ≤ r.rows
@@ -307,14 +341,28 @@ ends_slice s files o r opened had past = by had.after_pieces
     cut = past_stop s.scan.asked.slice r.rows (let a : r.sources.stop ≡ slice_stop s.scan.asked.slice = ap (λ (x : FilesAsked). x.stop) had.is in omega (arith, a, past)) opened.few
 
     by : IsAfterPieces s files r.given r.rows → IsScanEnd s r.sources.first r.sources.names files r.given (asked_to r)
-    by (inl begins) = inr (record { slice = cut.0; is = cut.1; rows = r.rows; past = cut.2; begins = begins; within = (let order = opened.order in let settled = settled_within_asked o r opened in omega (arith, order, settled)) })
+    by (inl begins) = inr (record {
+      slice = cut.0;
+      is = cut.1;
+      rows = r.rows;
+      past = cut.2;
+      begins = begins;
+      within = (let order = opened.order in let settled = settled_within_asked o r opened in omega (arith, order, settled));
+      few = opened.few;
+      counted = λ all. (r.rows, all_counted s files o r opened had all, opened.few);
+      faultless = λ first names same. no_fault_asked s files o r first names opened had begins same;
+    })
     by (inr end) =
         let order = opened.order in
         let settled = settled_within_asked o r opened in
         let most = asked_within_files s files o r opened had in
         let asked : asked_to r ≡ sum_by length files = omega (arith, end, order, settled, most) in
         let sized : r.given ≡ length (csv_axis s r.sources.first r.sources.names files [] 0 (λ rows. [])).gives = end ∙ sym (each_byte_gives s files r had) in
-        inl (asked, none_left (csv_axis s r.sources.first r.sources.names files [] 0 (λ rows. [])).gives r.given sized)
+        inl (
+          asked,
+          none_left (csv_axis s r.sources.first r.sources.names files [] 0 (λ rows. [])).gives r.given sized,
+          (r.rows, all_counted s files o r opened had asked, opened.few),
+        )
       where
         each_byte_gives : (s : CsvScan) (files : List (List ℕ)) (r : PiecesRead) → HasGivenRows s files o r
             → length (csv_axis s r.sources.first r.sources.names files [] 0 (λ rows. [])).gives ≡ sum_by length files

@@ -36,7 +36,7 @@ front_record o text front back (r ∷ records) fit some is (line, rest, line_is,
     never r line (rest ++ back) split (subst P (sym split) (stands_whatever_follows o fit front r line rest first line_is (rest ++ back)))
 
 -- so many bytes of two lists, past the first
-take-over : (n : ℕ) (front back : List ℕ) → take (length front + n) (front ++ back) ≡ front ++ take n back
+pub take-over : (n : ℕ) (front back : List ℕ) → take (length front + n) (front ++ back) ≡ front ++ take n back
 take-over n front back = take-add (length front) n (front ++ back) ∙ ap (λ (x : List ℕ). x ++ take n (drop (length front) (front ++ back))) (take-append_seam front back)
     ∙ ap (λ (x : List ℕ). front ++ take n x) (drop-append_seam front back)
 

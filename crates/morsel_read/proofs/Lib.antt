@@ -3,6 +3,7 @@ pub mod ReadListLemmas
 pub mod SourceLemmas
 pub mod BetweenLemmas
 pub mod SliceLemmas
+pub mod FaultlessLemmas
 pub mod StepLemmas
 pub mod GivenLemmas
 pub mod SearchLemmas

@@ -25,7 +25,7 @@ is_after low high q after = ap (λ t. nat_le low q && t) (le-ltb q high after) �
     no_more true = refl
     no_more false = refl
 
-split : (a b : ℕ) → (a < b) ⊎ (b ≤ a)
+pub split : (a b : ℕ) → (a < b) ⊎ (b ≤ a)
 split a zero = inr (omega arith)
 split zero (suc b) = inl (omega arith)
 split (suc a) (suc b) = on (split a b)

@@ -1,10 +1,11 @@
 -- The files of a scan by their numbers: which they are, how many bytes they have, and how many rows come before them.
-use Rattle.std.proofs.Common.{◌≡◌, ℕ, zero, suc, ◌+◌, ◌-◌, ◌<◌, ◌≤◌, ap, sym, subst, refl, ◌∙◌, arith}
+use Rattle.std.proofs.Common.{◌≡◌, ℕ, zero, suc, ◌+◌, ◌-◌, ◌<◌, ◌≤◌, ap, sym, subst, refl, ◌∙◌, inl, arith}
 use Rattle.std.proofs.lemmas.List.{take_all}
 use Rattle.std.proofs.lemmas.List.Sums.{sum_by-cons}
 use Rattle.std.proofs.lemmas.Str.{IsUtf8-nil}
 use Rattle.std.specs.Prelude.{Option, Some, List, [], ◌∷◌, map, length, take, drop, get_or, slice_get, slice_index, IsUtf8}
 use Rattle.std.specs.List.{sum_by}
+use Rattle.morsel_grammar.specs.Dialect.{IsDialect}
 use Rattle.morsel_grammar.specs.Rows.{behind_header}
 use Rattle.morsel_outside.specs.Outside.{Outside}
 use Rattle.morsel_outside.specs.declared.io.FileNo.{FileNo}
@@ -12,6 +13,7 @@ use Rattle.morsel_cut.specs.RowCounts.{row_count}
 use Rattle.morsel_scan.specs.Scans.{CsvScan}
 use Rattle.morsel_scan.specs.CsvPieces.{HaveRows, bytes_between}
 use Rattle.morsel_scan.specs.FileReads.{IsTold}
+use Rattle.morsel_scan.proofs.RowStretchLemmas.{rows_at_end}
 use Rattle.morsel_read.specs.ScanReads.{sizes_in, AreTold}
 
 -- what is there is within the list
@@ -106,6 +108,21 @@ rows_next s (first ∷ files) (suc n) bytes earlier within is (records, split, m
 
 pub rows_of_all : (s : CsvScan) (files : List (List ℕ)) (n rows : ℕ) → length files ≤ n → HaveRows s (take n files) rows → HaveRows s files rows
 rows_of_all s files n rows all have = subst (λ (x : List (List ℕ)). HaveRows s x rows) (take_all n files all) have
+
+-- the rows of files up to one after which there are no bytes
+pub rows_up_to_end : (s : CsvScan) (files : List (List ℕ)) (n rows : ℕ) → IsDialect s.options → HaveRows s (take n files) rows → sum_by length files ≤ sum_by length (take n files) → HaveRows s files rows
+rows_up_to_end s [] zero rows fit have none = have
+rows_up_to_end s [] (suc n) rows fit have none = have
+rows_up_to_end s (first ∷ files) zero rows fit have none =
+    let one = sum_by-cons length first files in
+    let empty : 0 ≡ length first = omega (arith, one, none) in
+    let here = rows_at_end s first 0 0 s.options.has_header fit (inl (refl, refl, refl)) empty in
+    let later = rows_up_to_end s files zero 0 fit refl (omega (arith, one, none)) in
+    (here.0, here.1, 0, later, (let counted = here.4 in omega (arith, have, counted)))
+rows_up_to_end s (first ∷ files) (suc n) rows fit (records, split, more, before, counted) none =
+    let one = sum_by-cons length first files in
+    let two = sum_by-cons length first (take n files) in
+    (records, split, more, rows_up_to_end s files n more fit before (omega (arith, one, two, none)), counted)
 
 -- no bytes are between a place and itself
 pub none_between : (files : List (List ℕ)) (number at : ℕ) → IsUtf8 (bytes_between files number at at)

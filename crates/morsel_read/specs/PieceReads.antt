@@ -13,7 +13,7 @@ use Rattle.morsel_scan.specs.CsvScans.{FitsScan}
 use Rattle.morsel_scan.specs.CsvPieces.{HaveRows, IsRowPlace, BeginsStretch, IsPieceOf}
 use Rattle.morsel_scan.specs.CsvAxis.{csv_axis}
 use Rattle.morsel_scan.specs.Ahead.{EndsNoRow}
-use Rattle.morsel_scan.specs.StretchRows.{Gives}
+use Rattle.morsel_scan.specs.StretchRows.{Gives, HasFaultWithin}
 use Rattle.morsel_scan.specs.FileReads.{IsChunk}
 use Rattle.morsel_scan.specs.RowBlocks.{IsRowsFault}
 use Rattle.morsel_read.specs.ScanReads.{PiecesRead, slice_within, asked_to, sizes_in, HasGivenRows}
@@ -92,7 +92,11 @@ IsPiecesFault s first files asked faults.OutOfMemory = Unit {0}
 IsPiecesFault s first files asked (faults.ComputeError kinds.TooManyRows number at) = HasMoreRows s files asked 4294967295
 IsPiecesFault s first files asked fault = IsFaultOfFile s first files fault
 
--- the slice keeps no row after a place, up to which all was given and asked
+-- the files are records to their ends, and no more than so many count as rows
+abbrev pub HaveRowsAtMost : CsvScan → List (List ℕ) → ℕ → Type 0
+HaveRowsAtMost s files most = (rows : ℕ) × HaveRows s files rows × (rows ≤ most)
+
+-- the slice keeps no row after a place, up to which all was given; from there up to where all was asked no place has a fault, whatever the numbers and names of the files; where that is all bytes, there are no more rows than are allowed
 pub record IsSliceEnd (s : CsvScan) (files : List (List ℕ)) (given asked : ℕ) : Type 0 where
   pub slice : ℤ × ℕ
   pub is : s.scan.asked.slice ≡ Some slice
@@ -100,11 +104,16 @@ pub record IsSliceEnd (s : CsvScan) (files : List (List ℕ)) (given asked : ℕ
   pub past : nat_abs slice.0 + slice.1 ≤ rows
   pub begins : BeginsStretch s files given rows
   pub within : given ≤ asked
+  pub few : rows ≤ 4294967295
+  pub counted : asked ≡ sum_by length files → HaveRowsAtMost s files 4294967295
+  pub faultless : (first : ℕ) (names : List (List ℕ)) → length names ≡ length files
+      → (fault : Fault) → HasFaultWithin (csv_axis s first names files [] 0 (λ rows. [])).gives given asked fault → ⊥
 
--- no place of the files gives anything from this one on: all was asked; or the slice keeps no row after it
+-- no place of the files gives anything from this one on: all was asked, and there are no more rows than are allowed; or the slice keeps no row after it
 abbrev pub IsScanEnd : CsvScan → ℕ → List (List ℕ) → List (List ℕ) → ℕ → ℕ → Type 0
 IsScanEnd s first names files given asked =
-    ((asked ≡ sum_by length files) × (let gives = (csv_axis s first names files [] 0 (λ rows. [])).gives in Gives gives given (length gives) []))
+    ((asked ≡ sum_by length files) × (let gives = (csv_axis s first names files [] 0 (λ rows. [])).gives in Gives gives given (length gives) [])
+    × HaveRowsAtMost s files 4294967295)
     ⊎ IsSliceEnd s files given asked
 
 -- the next piece goes on from the last one, with the next number and the next positions, and is of the file that is read now
