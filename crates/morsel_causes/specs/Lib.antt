@@ -1,0 +1,2 @@
+-- Laws of the faults of CSV files.
+pub mod FileFaults
