@@ -1,22 +1,24 @@
 //! `morsel`: a streaming query engine whose answers are proved.
 //!
 //! It takes the words of the command line, runs them over the files of the system, and answers `--help` and `--version`,
-//! whose texts are in `help`.
+//! whose texts are in `help`. `progress` shows on a terminal how far a run is.
 #![tactic(auto)]
 
 mod help;
+mod progress;
 
 use help::{HELP, VERSION};
 use morsel_meaning::Fault;
 use morsel_outside::OpenGate;
 use morsel_prog::{morsel_main, status_of};
 use morsel_real_io::RealIo;
+use progress::Progress;
 use std::fs::File;
-use std::io::ErrorKind;
+use std::io::{ErrorKind, IsTerminal};
 use std::os::fd::IntoRawFd;
 use std::os::unix::fs::FileExt;
 use std::process::ExitCode;
-use std::rt::{Env, Files};
+use std::rt::{Clock, Env, Files};
 use std::sync::Wait;
 use std::thread::Threads;
 use std::{env, io};
@@ -60,17 +62,20 @@ fn show<R: Print + Eprint>(rt: &R, text: &str) -> u8 {
     status_of(&Fault::WriteFault)
 }
 
-/// Runs the command of the words, and tells the reason of a failure on standard error.
-fn run_command<R: Files + Print + Eprint + AllocGlobal + Threads + Wait + Sync>(
+/// Runs the command of the words, shows how far it is where standard error is a terminal, and tells there the reason of a
+/// failure.
+fn run_command<R: Files + Clock + Print + Eprint + AllocGlobal + Threads + Wait + Sync>(
     rt: &R,
     words: &[String],
+    is_terminal: bool,
 ) -> u8
 where
     R::File: FileExt,
 {
-    let mut io = RealIo::new(rt, rt.alloc());
+    let mut io = Progress::new(rt, RealIo::new(rt, rt.alloc()), is_terminal);
     let status = morsel_main(rt, rt.alloc(), words, &mut io, &OpenGate);
-    if let Some(reason) = io.reason() {
+    io.clear();
+    if let Some(reason) = io.below().reason() {
         let _ = rt.eprintln(reason);
     } else if status == status_of(&Fault::Usage) {
         let _ = rt.eprintln("morsel --help tells the commands");
@@ -79,24 +84,28 @@ where
 }
 
 /// Answers the words, and gives the status.
-fn answer<R: Files + Print + Eprint + AllocGlobal + Threads + Wait + Sync>(
+fn answer<R: Files + Clock + Print + Eprint + AllocGlobal + Threads + Wait + Sync>(
     rt: &R,
     words: &[String],
+    is_terminal: bool,
 ) -> u8
 where
     R::File: FileExt,
 {
     let [word] = words else {
-        return run_command(rt, words);
+        return run_command(rt, words, is_terminal);
     };
     match word.as_str() {
         "--help" => show(rt, HELP),
         "--version" => show(rt, VERSION),
-        _ => run_command(rt, words),
+        _ => run_command(rt, words, is_terminal),
     }
 }
 
-fn run<R: Files + Env + Print + Eprint + AllocGlobal + Threads + Wait + Sync>(rt: &R) -> u8
+fn run<R: Files + Clock + Env + Print + Eprint + AllocGlobal + Threads + Wait + Sync>(
+    rt: &R,
+    is_terminal: bool,
+) -> u8
 where
     R::File: IntoRawFd + FileExt,
 {
@@ -105,11 +114,11 @@ where
         return status_of(&Fault::WriteFault);
     }
     match words_of(rt) {
-        Ok(words) => answer(rt, words.as_slice()),
+        Ok(words) => answer(rt, words.as_slice(), is_terminal),
         Err(_) => status_of(&Fault::OutOfMemory),
     }
 }
 
 fn main(rt: HostRuntime) -> ExitCode {
-    ExitCode::from(run(&rt))
+    ExitCode::from(run(&rt, rt.stderr().is_terminal()))
 }

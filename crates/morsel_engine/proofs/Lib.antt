@@ -1,10 +1,7 @@
-pub mod StageLemmas
-pub mod AskLemmas
-pub mod FileLemmas
-pub mod RunLemmas
-pub mod WriteLemmas
-pub mod PlaceLemmas
-pub mod LimitLemmas
-pub mod GrammarLemmas
-pub mod EndLemmas
-pub mod CompleteLemmas
+mod OpenLemmas
+mod AskLemmas
+mod RunLemmas
+mod ToldLemmas
+mod ScanLemmas
+mod WriteLemmas
+mod PartLemmas

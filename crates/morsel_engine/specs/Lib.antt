@@ -1,8 +1,5 @@
--- What a scan of one CSV file means, and what a run of it may leave.
-pub mod Scan
+-- What a run of a query asks, answers and leaves, and the steps that it is made of.
+pub mod Courses
+pub mod Opened
 pub mod Stages
-pub mod Run
-pub mod Limit
-pub mod FileRows
-pub mod Complete
-pub mod Ends
+pub mod Runs

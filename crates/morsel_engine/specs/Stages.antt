@@ -1,63 +1,70 @@
--- What each stage of a run did to the outside.
-use Rattle.std.specs.Prelude.{◌≡◌, ℕ, Result, Ok, Err, List, [], ◌∷◌, length, take, get_or}
-use Rattle.std.specs.List.{flat_map}
+-- What each step of a run does.
+use Rattle.std.specs.Prelude.{◌≡◌, ◌⊎◌, ℕ, ◌+◌, ◌-◌, ◌*◌, ◌^◌, ◌<◌, ◌≤◌, min, Some, None, Result, Ok, Err, List, [], ◌∷◌, length, slice_get}
 use Rattle.morsel_meaning.specs.declared.fault.Fault.{Fault}
-use Rattle.morsel_meaning.specs.declared.fault.Fault.TheVariants.{OutOfMemory, ReadFault, WriteFault}
-use Rattle.morsel_meaning.specs.Values.{Table, names_of}
+use Rattle.morsel_meaning.specs.declared.fault.Fault.TheVariants as faults
 use Rattle.morsel_outside.specs.declared.io.FileNo.{FileNo}
-use Rattle.morsel_outside.specs.Outside.{Outside}
-use Rattle.morsel_outside.specs.Actions.{Action, FailedOpening, ReadingRange, FailedReadingRange, Making, FailedMaking, Writing, FailedWriting, Rises, Does, text_by}
-use Rattle.morsel_outside.specs.Calls.{Holds, IsNextFile}
-use Rattle.morsel_ndjson.specs.Ndjson.{ndjson}
+use Rattle.morsel_outside.specs.Outside.{Outside, IsSized}
+use Rattle.morsel_outside.specs.Actions.{FailedOpening, Making, FailedMaking, Does}
+use Rattle.morsel_grammar.specs.Dialect.{IsDialect}
+use Rattle.morsel_scan.specs.Scans.{CsvScan}
+use Rattle.morsel_scan.specs.ScanFlaws.{scan_flaw}
+use Rattle.morsel_read.specs.ScanReads.{pieces_at_start, files_asked}
+use Rattle.morsel_line.specs.ScanRuns.{WritesScan}
+use Rattle.morsel_query.specs.RunOptions.{RunOptions, pieces_ahead}
+use Rattle.morsel_query.specs.Queries.{FileScan, scan_asked}
+use Rattle.morsel_query.specs.Plans.{slice_fault}
+use Rattle.morsel_engine.specs.Courses.{openings, file_numbers}
 
--- the file was opened; or could not be; or memory ran out, and nothing changed
-abbrev pub OpensSource : Outside → List ℕ → Result FileNo Fault → Outside → Type 0
-OpensSource old name (Ok file) new = (bytes : List ℕ) × IsNextFile old name file.0 bytes new
-OpensSource old name (Err OutOfMemory) new = new ≡ old
-OpensSource old name (Err (ReadFault number)) new = (number ≡ 0) × Does old (FailedOpening (length old.sizes) name ∷ []) new
-OpensSource old name (Err fault) new = ⊥
+-- files of these names, the first ones, are open, and have these bytes
+pub record HasOpenedFirst (old : Outside) (names files : List (List ℕ)) (new : Outside) : Type 0 where
+  pub few : length files ≤ length names
+  pub does : Does old (openings names files) new
+  pub sized : 0 < length files → IsSized new.held new.sizes
 
--- the sink was made; or could not be; or memory ran out, and nothing changed
+-- all files of these names are open, with these numbers, and have these bytes
+pub record HasOpenedAll (old : Outside) (names : List (List ℕ)) (numbers : List FileNo) (files : List (List ℕ)) (new : Outside) : Type 0 where
+  pub first : HasOpenedFirst old names files new
+  pub all : length files ≡ length names
+  pub numbers_are : numbers ≡ file_numbers (length old.sizes) (length files)
+
+-- files are open; the one of this number could not be opened
+pub record FailsToOpen (old : Outside) (names files : List (List ℕ)) (file : ℕ) (new : Outside) : Type 0 where
+  pub between : Outside
+  pub first : HasOpenedFirst old names files between
+  pub number : file ≡ length files
+  pub within : file < length names
+  pub name : List ℕ
+  pub is_name : slice_get names file ≡ Some name
+  pub fails : Does between (FailedOpening (length old.sizes + file) name ∷ []) new
+
+-- files are opened, all of them; or one could not be; or memory ran out after some
+abbrev pub OpensSources : Outside → List (List ℕ) → Result (List FileNo) Fault → Outside → Type 0
+OpensSources old names (Ok numbers) new = (files : List (List ℕ)) × HasOpenedAll old names numbers files new
+OpensSources old names (Err faults.OutOfMemory) new = (files : List (List ℕ)) × HasOpenedFirst old names files new
+OpensSources old names (Err (faults.ReadFault file)) new = (files : List (List ℕ)) × FailsToOpen old names files file new
+OpensSources old names (Err fault) new = ⊥
+
+-- a sink is made, or could not be
 abbrev pub MakesSink : Outside → List ℕ → Result (Unit {0}) Fault → Outside → Type 0
 MakesSink old name (Ok _) new = Does old (Making name ∷ []) new
-MakesSink old name (Err OutOfMemory) new = new ≡ old
-MakesSink old name (Err WriteFault) new = Does old (FailedMaking name ∷ []) new
+MakesSink old name (Err faults.OutOfMemory) new = new ≡ old
+MakesSink old name (Err faults.WriteFault) new = Does old (FailedMaking name ∷ []) new
 MakesSink old name (Err fault) new = ⊥
 
--- the whole file was read, at once
-pub record ReadsWhole (old : Outside) (file : ℕ) (bytes : List ℕ) (new : Outside) : Type 0 where
-  pub size : length bytes ≡ get_or old.sizes file 0
-  pub held : Holds old.held file 0 bytes
-  pub does : Does old (ReadingRange file 0 (length bytes) ∷ []) new
+-- how many bytes of rows, the longest record not counted, reading may run ahead of writing
+abbrev pub bytes_bound : RunOptions → ℕ
+bytes_bound options = min (pieces_ahead options * options.chunk_bytes) (2 ^ 64 - 1)
 
--- the read failed; or memory ran out, and nothing changed
-abbrev pub ReadFails : Outside → ℕ → Fault → Outside → Type 0
-ReadFails old file OutOfMemory new = new ≡ old
-ReadFails old file (ReadFault number) new = (number ≡ 0) × Does old (FailedReadingRange file 0 (get_or old.sizes file 0) ∷ []) new
-ReadFails old file fault new = ⊥
+-- the rows of a scan's open files were written; or memory ran out before anything was read
+abbrev pub ScansFiles : Outside → CsvScan → List (List ℕ) → List FileNo → RunOptions → Result ℕ Fault → Outside → Type 0
+ScansFiles old s names numbers options result new = ((result ≡ Err faults.OutOfMemory) × (new ≡ old))
+    ⊎ (IsDialect s.options × (0 < bytes_bound options) × WritesScan s (pieces_at_start (files_asked s names numbers 0 options.chunk_bytes)) (bytes_bound options) old result new)
 
--- each action is a write, some of which may have failed
-abbrev pub AreWritings : List Action → Type 0
-AreWritings [] = Unit {0}
-AreWritings (Writing piece ∷ actions) = AreWritings actions
-AreWritings (FailedWriting piece ∷ actions) = AreWritings actions
-AreWritings (action ∷ actions) = ⊥
+-- the numbers are those of open files
+abbrev pub AreOpenIn : Outside → List FileNo → Type 0
+AreOpenIn o numbers = (source : ℕ) (file : FileNo) → slice_get numbers source ≡ Some file → file.0 < length o.sizes
 
--- only writes were done, and together they appended this text
-pub record Gained (old : Outside) (text : List ℕ) (new : Outside) : Type 0 where
-  pub actions : List Action
-  pub writings : AreWritings actions
-  pub text_is : flat_map text_by actions ≡ text
-  pub does : Does old actions new
-
--- the text was written, and no write failed; or, after a failed write or out of memory, its first bytes were
-abbrev pub WritesText : Outside → List ℕ → Result (Unit {0}) Fault → Outside → Type 0
-WritesText old text (Ok _) new = Gained old text new × (new.write_faults ≡ old.write_faults)
-WritesText old text (Err OutOfMemory) new = (n : ℕ) × Gained old (take n text) new
-WritesText old text (Err WriteFault) new = (n : ℕ) × Gained old (take n text) new × Rises old.write_faults new.write_faults
-WritesText old text (Err fault) new = ⊥
-
--- the rows of a table were written as NDJSON, this many; or the first bytes of their text
-abbrev pub WritesTable : Outside → Table → Result ℕ Fault → Outside → Type 0
-WritesTable old table (Ok count) new = (count ≡ length table.rows) × Gained old (ndjson (names_of table.schema) table.rows) new × (new.write_faults ≡ old.write_faults)
-WritesTable old table (Err fault) new = WritesText old (ndjson (names_of table.schema) table.rows) (Err fault) new
+-- a scan's names meet its columns, and its slice counts from the first row
+pub record IsPlannedScan (files : FileScan) : Type 0 where
+  pub flawless : scan_flaw (scan_asked files) ≡ None
+  pub from_first : slice_fault files.asked.slice ≡ None

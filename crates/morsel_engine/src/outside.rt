@@ -1,20 +1,32 @@
-//! The calls to the outside that a run makes, with the faults that it answers.
-ghost use Rattle.std.specs.Prelude.{◌≡◌, ◌<◌, length, MatchResult};
-ghost use Rattle.morsel_engine.specs.Stages.{OpensSource, MakesSink, ReadsWhole, ReadFails, WritesText};
+//! The opening of a query's sources and the making of its sink, with the faults that a run answers.
+ghost use Rattle.std.specs.Prelude.{◌≡◌, ◌≤◌, length, Result};
+ghost use Rattle.morsel_engine.specs.Stages.{OpensSources, MakesSink};
+ghost use Rattle.morsel_engine.specs.Opened.{numbers_seen};
 
-use morsel_meaning::Fault;
+use morsel_meaning::{Fault, Name};
 use morsel_outside::{FileNo, Io, IoErr};
 use std::alloc::Global;
 
-/// Opens the query's one source.
-pub fn open_source<H: Io>(io: &mut H, name: &str) -> Result<FileNo, Fault>
-    ensures { OpensSource (H.seen io.old) name.now result (H.seen io.new) }
+/// Opens the sources of a query, in order.
+pub fn open_sources<H: Io>(alloc: Global, io: &mut H, names: &[Name]) -> Result<Vec<FileNo>, Fault>
+    requires few { length names.now ≤ 65536 }
+    ensures { OpensSources (H.seen io.old) names.now (numbers_seen result) (H.seen io.new) }
 {
-    match io.open_source(name) {
-        Ok(file) => Ok(file),
-        Err(IoErr::OutOfMemory) => Err(Fault::OutOfMemory),
-        Err(IoErr::Failed) => Err(Fault::ReadFault { file: 0 }),
+    let mut files = Vec::new(alloc);
+    let mut number = 0u32;
+    'names: for name in names {
+        match io.open_source(name.as_str()) {
+            Ok(file) => {
+                let Ok(()) = files.push(file) else {
+                    return Err(Fault::OutOfMemory);
+                };
+            }
+            Err(IoErr::OutOfMemory) => return Err(Fault::OutOfMemory),
+            Err(IoErr::Failed) => return Err(Fault::ReadFault { file: number }),
+        }
+        number += 1;
     }
+    Ok(files)
 }
 
 /// Makes the query's sink.
@@ -22,32 +34,6 @@ pub fn make_sink<H: Io>(io: &mut H, name: &str) -> Result<(), Fault>
     ensures { MakesSink (H.seen io.old) name.now result (H.seen io.new) }
 {
     match io.make_sink(name) {
-        Ok(()) => Ok(()),
-        Err(IoErr::OutOfMemory) => Err(Fault::OutOfMemory),
-        Err(IoErr::Failed) => Err(Fault::WriteFault),
-    }
-}
-
-/// Reads a whole file by one read.
-pub fn read_whole<H: Io>(alloc: Global, io: &mut H, file: FileNo) -> Result<Vec<u8>, Fault>
-    requires { file.0 < length (H.seen io.old).sizes }
-    ensures { MatchResult result (λ bytes. ReadsWhole (H.seen io.old) file.0 bytes.items (H.seen io.new)) (λ fault. ReadFails (H.seen io.old) file.0 fault (H.seen io.new)) }
-{
-    let size = io.size(file) as usize;
-    let mut bytes = vec![in alloc; 0u8; size]?;
-    match io.read_range(file, 0, &mut bytes) {
-        Ok(()) => Ok(bytes),
-        Err(IoErr::OutOfMemory) => Err(Fault::OutOfMemory),
-        Err(IoErr::Failed) => Err(Fault::ReadFault { file: 0 }),
-    }
-}
-
-/// Appends a piece to the text of the sink.
-pub fn write_part<H: Io>(io: &mut H, part: &[u8]) -> Result<(), Fault>
-    requires { 0 < (H.seen io.old).sinks }
-    ensures { WritesText (H.seen io.old) part.now result (H.seen io.new) }
-{
-    match io.write(part) {
         Ok(()) => Ok(()),
         Err(IoErr::OutOfMemory) => Err(Fault::OutOfMemory),
         Err(IoErr::Failed) => Err(Fault::WriteFault),

@@ -1,62 +1,61 @@
-//! A scan of one CSV file into an NDJSON file.
-ghost use Rattle.std.specs.Prelude.{◌≡◌, length, IsOkUnless};
-ghost use Rattle.morsel_engine.specs.Run.{Runs};
-ghost use Rattle.morsel_engine.specs.Complete.{IsValid, NoneRises};
+//! A run of a query on one thread.
+ghost use Rattle.std.specs.Prelude.{◌≡◌, None};
+ghost use Rattle.morsel_query.specs.Queries.{query_parts};
+ghost use Rattle.morsel_query.specs.QueryFlaws.{IsSound};
+ghost use Rattle.morsel_query.specs.Plans.{query_fault};
+ghost use Rattle.morsel_engine.specs.Runs.{Runs};
 
-use crate::outside::{make_sink, open_source, read_whole};
-use crate::scan::scan_text;
-use crate::write::write_frame;
-use morsel_frame::Schema;
+use crate::outside::{make_sink, open_sources};
+use crate::scan::scan_files;
 use morsel_meaning::Fault;
-use morsel_outside::Io;
+use morsel_outside::{Gate, Io};
+use morsel_query::{Options, Query, SinkSpec, check};
+use morsel_scan::ScanSpec;
 use std::alloc::Global;
 
-/// Writes the rows of the CSV file as NDJSON into the sink, and answers how many there are.
+/// Runs a query: reads its sources, writes its rows into its sink, and answers how many there are.
 ///
-/// The file has a header, which is skipped, and is read whole before the first row is written. It is opened before the
-/// sink is made. `Malformed` names the first record that is refused: one outside the grammar, with another number of
-/// fields than the schema has columns, not UTF-8, with a field that does not fit its column, or after 4,294,967,295
-/// rows; or place 0 of a file that begins as gzip or zstd files do.
-pub fn run_scan<H: Io>(
+/// It waits for nothing, so it always returns. Its sources are opened in order before the sink is made, and nothing is read
+/// before that. A query whose names do not meet its columns is refused as `check` refuses it, before anything is done. A fault
+/// of a source names it by its number within the query, from 0 on: `Malformed` a record that is none, or has another number of
+/// fields than there are columns; `Unsupported` a compressed file; `ComputeError` a record that is not UTF-8, a field of a used
+/// column that does not fit its type, a row or a number of one past its limit.
+pub fn run_local<H: Io, G: Gate>(
     alloc: Global,
     io: &mut H,
-    file: &str,
-    schema: &Schema,
-    out: &str,
+    query: Query,
+    options: &Options,
+    gate: &G,
 ) -> Result<u64, Fault>
-    ensures runs { Runs (H.seen io.old) (record { file = file.now; schema = schema.now; out = out.now }) result (H.seen io.new) }
-
-    // A valid file gives its rows, unless a count of faults rose or memory was short.
-    ensures complete { IsValid (H.seen io.new).held (length (H.seen io.old).sizes) schema.now
-        → NoneRises (H.seen io.old) (H.seen io.new) → IsOkUnless result Fault.OutOfMemory }
+    ensures { Runs (H.seen io.old) query options.now result (H.seen io.new) }
 {
-    run_stages(alloc, io, file, schema, out)
-}
-
-/// Opens the source, makes the sink, reads the file and writes its rows, each where the one before went well.
-fn run_stages<H: Io>(
-    alloc: Global,
-    io: &mut H,
-    file: &str,
-    schema: &Schema,
-    out: &str,
-) -> Result<u64, Fault>
-    ensures { Runs (H.seen io.old) (record { file = file.now; schema = schema.now; out = out.now }) result (H.seen io.new) }
-{
-    let source = match open_source(io, file) {
-        Ok(source) => source,
-        Err(fault) => return Err(fault),
-    };
-    if let Err(fault) = make_sink(io, out) {
+    // No task is polled yet.
+    let _ = gate;
+    if let Err(fault) = check(alloc, &query) {
         return Err(fault);
     }
-    let bytes = match read_whole(alloc, io, source) {
-        Ok(bytes) => bytes,
+    let (left, sink) = query.into_parts();
+    run_parts(alloc, io, left, sink, options)
+}
+
+/// Runs a query of these parts that has a plan.
+fn run_parts<H: Io>(
+    alloc: Global,
+    io: &mut H,
+    left: ScanSpec,
+    sink: SinkSpec,
+    options: &Options,
+) -> Result<u64, Fault>
+    requires sound { IsSound (query_parts left sink) }
+    requires planned { query_fault (query_parts left sink) ≡ None }
+    ensures { Runs (H.seen io.old) (query_parts left sink) options.now result (H.seen io.new) }
+{
+    let files = match open_sources(alloc, io, &left.sources) {
+        Ok(files) => files,
         Err(fault) => return Err(fault),
     };
-    let frame = match scan_text(alloc, &bytes, schema) {
-        Ok(frame) => frame,
-        Err(fault) => return Err(fault),
-    };
-    write_frame(alloc, io, frame)
+    if let Err(fault) = make_sink(io, sink.name.as_str()) {
+        return Err(fault);
+    }
+    scan_files(alloc, io, left, files, options)
 }

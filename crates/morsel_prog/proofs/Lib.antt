@@ -1,4 +1,9 @@
 pub mod CutLemmas
 pub mod FieldLemmas
+pub mod QueryReadLemmas
+pub mod CommandLemmas
+pub mod ReportLemmas
+pub mod RunLemmas
 pub mod ProgramLemmas
+pub mod AlikeLemmas
 pub mod CompleteLemmas

@@ -1,25 +1,15 @@
 -- What the program does with its words: a run, and then the line that tells its answer.
-use Rattle.std.specs.Prelude.{◌≡◌, ◌⊎◌, ℕ, Option, Some, None, Result, Ok, Err, List, [], ◌∷◌, decimal}
+use Rattle.std.specs.Prelude.{◌≡◌, ◌⊎◌, ℕ, Option, Some, None, Result, Ok, Err, [], ◌∷◌, decimal}
 use Rattle.morsel_meaning.specs.declared.fault.Fault.{Fault}
 use Rattle.morsel_meaning.specs.declared.fault.Fault.TheVariants as faults
-use Rattle.morsel_meaning.specs.declared.value.Field.{Field}
 use Rattle.morsel_meaning.specs.Faults.{fault_line, fault_status}
 use Rattle.morsel_outside.specs.Outside.{Outside, with_last}
 use Rattle.morsel_outside.specs.Actions.{Printing, FailedPrinting, Rises, Does}
-use Rattle.morsel_engine.specs.Complete.{NoneRises}
-use Rattle.morsel_engine.specs.Run.{ScanQuery, Runs, Answers, HasCause, MadeSome, AsksSome, ReadsAtMostOnce, NoReadFailed, Keeps}
+use Rattle.morsel_engine.specs.Runs.{NoneRises}
 use Rattle.morsel_prog.specs.Complete.{IsValidCommand, IsDone}
-use Rattle.morsel_prog.specs.Words.{Command, ScanFile}
-
--- the scan of a command
-abbrev pub query_of : List ℕ → List Field → List ℕ → ScanQuery
-query_of file schema out = record { file = file; schema = schema; out = out }
-
--- the run of a command; words that are no command touch nothing
-abbrev pub RunsWords : Outside → Option Command → Result ℕ Fault → Outside → Type 0
-RunsWords old (Some (ScanFile file schema out)) result new = Runs old (query_of file schema out) result new
-RunsWords old None (Ok count) new = ⊥
-RunsWords old None (Err fault) new = (new ≡ old) × ((fault ≡ faults.Usage) ⊎ (fault ≡ faults.OutOfMemory))
+use Rattle.morsel_prog.specs.Words.{Command}
+use Rattle.morsel_prog.specs.CommandQueries.{NoReadFails}
+use Rattle.morsel_prog.specs.CommandRuns.{RunsWords, HasRun, HasAnswer, HasCauseIn, ReadsOnlyQueries, LeavesInRun, AsksInOrder, IsNotFarAhead, KeepsInOrder}
 
 -- a fault's line was printed; or could not be; or memory ran out
 abbrev pub ReportsFault : Outside → Fault → ℕ → Outside → Type 0
@@ -54,15 +44,10 @@ pub record RunsAndReports (old : Outside) (command : Option Command) (status : �
   pub ran : RunsWords old command result between
   pub report : Reports between result status new
 
--- status 0: the words are a command, the sink has the text of all rows, and their number was printed
+-- status 0: the words are a command, its query was answered, and the number of rows printed
 abbrev pub AnswersWords : Outside → Option Command → Outside → Type 0
 AnswersWords old None new = ⊥
-AnswersWords old (Some (ScanFile file schema out)) new = (count : ℕ) × Answers old (query_of file schema out) count new × (new.printed ≡ with_last old.printed (decimal count))
-
--- when a fault may be answered to words
-abbrev pub HasCauseIn : Outside → Option Command → Fault → Outside → Type 0
-HasCauseIn old (Some (ScanFile file schema out)) fault new = HasCause old (query_of file schema out) fault new
-HasCauseIn old None fault new = (fault ≡ faults.Usage) ⊎ (fault ≡ faults.OutOfMemory)
+AnswersWords old (Some command) new = (count : ℕ) × HasAnswer old command count new × (new.printed ≡ with_last old.printed (decimal count))
 
 -- how a status tells a fault: by its line; without a line where printing failed, or memory ran out
 abbrev pub TellsFault : Outside → Fault → ℕ → Outside → Type 0
@@ -77,39 +62,46 @@ CausesWords old command status new = (fault : Fault) × HasCauseIn old command f
 
 -- another status: no sink, or one whose text is the beginning of the rows' text
 abbrev pub LeavesAfterFault : Outside → Option Command → Outside → Type 0
-LeavesAfterFault old (Some (ScanFile file schema out)) new = MadeSome old (query_of file schema out) new
+LeavesAfterFault old (Some command) new = ReadsOnlyQueries old command new ⊎ LeavesInRun old command new
 LeavesAfterFault old None new = new.made ≡ old.made
 
--- whatever the status, the names asked for are the command's, from the first on, and the sink's only where the file was opened
+-- whatever the status, the names asked for are the command's, from the first on
 abbrev pub AsksNames : Outside → Option Command → Outside → Type 0
-AsksNames old (Some (ScanFile file schema out)) new = AsksSome old (query_of file schema out) new
+AsksNames old (Some command) new = AsksInOrder old command new
 AsksNames old None new = new.asked ≡ old.asked
 
--- whatever the status, no byte of the file is asked twice, none past its size, and none of another file
+-- whatever the status, no byte of a source is asked twice, none past its size, and no other byte but of the query files
 abbrev pub ReadsOnce : Outside → Option Command → Outside → Type 0
-ReadsOnce old (Some (ScanFile file schema out)) new = ReadsAtMostOnce old new
+ReadsOnce old (Some command) new = ReadsOnlyQueries old command new ⊎ HasRun old command new
 ReadsOnce old None new = new.events ≡ old.events
 
--- whatever the status, at most one file more is open, at most one sink more was made, and a read fault can only be of that file; for words that are no command none
+-- whatever the status, no read of a source is far ahead of what was written
+abbrev pub ReadsNotFarAhead : Outside → Option Command → Outside → Type 0
+ReadsNotFarAhead old (Some command) new = ReadsOnlyQueries old command new ⊎ IsNotFarAhead old command new
+ReadsNotFarAhead old None new = new.events ≡ old.events
+
+-- whatever the status, the files that are open are the command's, at most one sink more was made, and a failed read was of one of these files
 abbrev pub KeepsRest : Outside → Option Command → Outside → Type 0
-KeepsRest old (Some (ScanFile file schema out)) new = Keeps old (query_of file schema out) new
-KeepsRest old None new = (new.sizes ≡ old.sizes) × (new.held ≡ old.held) × (new.sinks ≡ old.sinks) × NoReadFailed old new
+KeepsRest old (Some command) new = KeepsInOrder old command new
+KeepsRest old None new = (new.sizes ≡ old.sizes) × (new.held ≡ old.held) × (new.sinks ≡ old.sinks) × NoReadFails old new
 
 -- the query theorem: what a status says of the outside before and after
 pub record QueryTheorem (old : Outside) (command : Option Command) (status : ℕ) (new : Outside) : Type 0 where
-  -- status 0: the sink has the text of all rows of the file, and their number was printed
+  -- status 0: the sink has the text of rows that the query may give, and their number was printed
   pub answers : status ≡ 0 → AnswersWords old command new
   -- every other status tells a fault whose cause holds; `Usage` comes for words that are no command, and for no others
   pub caused : (status ≡ 0 → ⊥) → CausesWords old command status new
-  -- a command over a valid file ends with status 0, unless a count of faults rose or memory ran out
+  -- a command whose query is valid over its files ends with status 0, unless a count of faults rose or memory ran out
   pub complete : IsValidCommand old command new → NoneRises old new → IsDone status
-  -- after a fault no sink was made, or one whose text is the beginning of the text of the rows before the first refused record
+  -- after a fault no sink was made, or one whose text is the beginning of the text of the rows before the first faulty record
   pub after_fault : (status ≡ 0 → ⊥) → LeavesAfterFault old command new
-  -- the names asked for are the command's, from the first on, and the sink's only where the file was opened
+  -- the names asked for are those of the query file, of the sources and of the sink, from the first on, each only where the files before were opened
   pub asks : AsksNames old command new
-  -- no byte of the file is asked twice, and none past its size
+  -- no byte of a source is asked twice, and none past its size
   pub reads : ReadsOnce old command new
-  -- at most one file more is open, at most one sink more was made, and a read fault can only be of that file
+  -- each read of a source is short, and not far ahead of what was written
+  pub reads_ahead : ReadsNotFarAhead old command new
+  -- the files that are open are the command's, at most one sink more was made, and a failed read was of one of these files
   pub keeps : KeepsRest old command new
   -- a run without a failed print, and then its report: where the line of a fault cannot be printed its status still tells it, and where only the printing fails the text is whole
   pub reported : RunsAndReports old command status new

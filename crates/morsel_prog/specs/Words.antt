@@ -1,5 +1,5 @@
 -- The words of a command.
-use Rattle.std.specs.Prelude.{ℕ, not, ◌&&◌, is_none, ◌==◌, nat_le, if◌then◌else◌, Option, Some, None, List, [], ◌∷◌, length, codes}
+use Rattle.std.specs.Prelude.{ℕ, is_none, ◌==◌, if◌then◌else◌, Option, Some, None, List, [], ◌∷◌, codes}
 use Rattle.std.proofs.Common.{Bor}
 use Rattle.morsel_meaning.specs.declared.value.ColType.{ColType}
 use Rattle.morsel_meaning.specs.declared.value.ColType.TheVariants as types
@@ -58,35 +58,32 @@ abbrev pub fields_of : List (List ℕ) → Option (List Field)
 fields_of [] = Some []
 fields_of (part ∷ parts) = with_first_field (field_of part) (fields_of parts)
 
--- the greatest number of columns
-abbrev pub column_limit : ℕ
-column_limit = 65535
-
--- fields that are a schema: few enough, and of distinct names
+-- fields that are a schema: of distinct names
 abbrev pub schema_if : Option (List Field) → Option (List Field)
 schema_if None = None
-schema_if (Some fields) = if nat_le (length fields) column_limit && is_none (first_repeated (names_of fields)) then Some fields else None
+schema_if (Some fields) = if is_none (first_repeated (names_of fields)) then Some fields else None
 
 -- `name:type` joined by commas, the names distinct
 abbrev pub schema_of : List ℕ → Option (List Field)
 schema_of text = schema_if (fields_of (parts_at 44 text))
 
--- a command: one file is scanned into one sink
+-- a command
 pub data Command : Type 0 where
-  ScanFile : List ℕ → List Field → List ℕ → Command  -- file, schema, sink
+  ScanFile : List ℕ → List Field → List ℕ → Command  -- file, schema, sink: one CSV file is scanned
+  AnswerQuery : List ℕ → List ℕ → Command  -- query file, sink: a query is answered
 
 -- the command of a file, a schema and a sink, where there is a schema
 abbrev pub scan_if : List ℕ → Option (List Field) → List ℕ → Option Command
 scan_if file None out = None
 scan_if file (Some schema) out = Some (ScanFile file schema out)
 
--- `scan FILE SCHEMA OUT`
+-- `scan FILE SCHEMA OUT`, or `local QUERY OUT`
 abbrev pub command_of : List (List ℕ) → Option Command
 command_of [] = None
 command_of (a ∷ []) = None
 command_of (a ∷ b ∷ []) = None
-command_of (a ∷ b ∷ c ∷ []) = None
-command_of (a ∷ b ∷ c ∷ d ∷ []) = if same_text a (codes "scan") && not (same_text b d) then scan_if b (schema_of c) d else None
+command_of (a ∷ b ∷ c ∷ []) = if same_text a (codes "local") then Some (AnswerQuery b c) else None
+command_of (a ∷ b ∷ c ∷ d ∷ []) = if same_text a (codes "scan") then scan_if b (schema_of c) d else None
 command_of (a ∷ b ∷ c ∷ d ∷ e ∷ words) = None
 
 -- what an optional reference to a text points to

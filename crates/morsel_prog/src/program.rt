@@ -2,13 +2,16 @@
 ghost use Rattle.std.specs.Prelude.{map};
 ghost use Rattle.std.specs.String.{string_bytes};
 ghost use Rattle.morsel_prog.specs.Words.{command_of};
-ghost use Rattle.morsel_prog.specs.Program.{RunsWords, RunsAndReports, QueryTheorem};
+ghost use Rattle.morsel_prog.specs.Results.{command_of_words};
+ghost use Rattle.morsel_prog.specs.CommandRuns.{RunsCommand, RunsWords};
+ghost use Rattle.morsel_prog.specs.Program.{RunsAndReports, QueryTheorem};
 
+use crate::commands::query_of_command;
 use crate::report::report;
-use crate::words::command;
-use morsel_engine::run_scan;
+use crate::words::{CommandWords, command};
+use morsel_engine::run_local;
 use morsel_meaning::Fault;
-use morsel_outside::{Gate, Io};
+use morsel_outside::{Gate, Io, OpenGate};
 use std::alloc::Global;
 use std::sync::Wait;
 use std::thread::Threads;
@@ -18,9 +21,17 @@ fn run_words<H: Io>(alloc: Global, words: &[String], io: &mut H) -> Result<u64, 
     ensures { RunsWords (H.seen io.old) (command_of (map string_bytes words.now)) result (H.seen io.new) }
 {
     match command(alloc, words) {
-        Ok(command) => run_scan(alloc, io, command.file, &command.schema, command.out),
+        Ok(command) => run_command(alloc, command, io),
         Err(fault) => Err(fault),
     }
+}
+
+/// Runs the query of a command.
+fn run_command<H: Io>(alloc: Global, command: CommandWords<'_>, io: &mut H) -> Result<u64, Fault>
+    ensures { RunsCommand (H.seen io.old) (command_of_words command.entry) result (H.seen io.new) }
+{
+    let (query, options) = query_of_command(alloc, io, command)?;
+    run_local(alloc, io, query, &options, &OpenGate)
 }
 
 /// Runs the command of the words and tells its answer.

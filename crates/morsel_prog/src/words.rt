@@ -1,7 +1,7 @@
 //! The words of the command line, read by hand.
 ghost use Rattle.std.specs.Prelude.{◌≡◌, ◌<◌, ◌+◌, Some, None, length, take, drop, slice_index, map, IfSome, IsUtf8, MatchOption};
 ghost use Rattle.std.specs.String.{string_bytes};
-ghost use Rattle.morsel_prog.specs.Words.{option_text, cut_at, parts_at, kind_named, field_of, fields_of, schema_if, schema_of, command_of};
+ghost use Rattle.morsel_prog.specs.Words.{option_text, cut_at, parts_at, kind_named, field_of, fields_of, schema_if, schema_of, scan_if, command_of};
 ghost use Rattle.morsel_prog.specs.Results.{Finds, items_of, command_seen};
 
 use memchr::memchr;
@@ -79,27 +79,31 @@ fn fields(alloc: Global, text: &str) -> Result<Vec<Field>, Fault>
     }
 }
 
-/// `scan FILE SCHEMA OUT`: one CSV file is scanned into one NDJSON file.
+/// A command, as its words have it.
 #[derive(Drop)]
-pub struct ScanCommand<'a> {
-    /// The name of the file to read.
-    pub file: &'a str,
-    /// Its columns.
-    pub schema: Schema,
-    /// The name of the file to write.
-    pub out: &'a str,
+pub enum CommandWords<'a> {
+    /// `scan FILE SCHEMA OUT`: one CSV file is scanned into one NDJSON file.
+    Scan {
+        /// The name of the file to read.
+        file: &'a str,
+        /// Its columns.
+        schema: Schema,
+        /// The name of the file to write.
+        out: &'a str,
+    },
+    /// `local QUERY OUT`: the query in a file is answered.
+    Local {
+        /// The name of the query file.
+        query: &'a str,
+        /// The name of the file to write.
+        out: &'a str,
+    },
 }
 
-/// The greatest number of columns of a schema.
-const COLUMN_LIMIT: usize = 65535;
-
-/// The schema of these fields, where they are at most 65,535 and their names are distinct.
+/// The schema of these fields, where their names are distinct.
 fn schema_of_fields(alloc: Global, fields: Vec<Field>) -> Result<Schema, Fault>
     ensures { Finds (schema_if (Some fields.items)) result }
 {
-    if fields.len() > COLUMN_LIMIT {
-        return Err(Fault::Usage);
-    }
     match Schema::new(alloc, fields) {
         Ok(schema) => Ok(schema),
         Err(Fault::OutOfMemory) => Err(Fault::OutOfMemory),
@@ -107,7 +111,7 @@ fn schema_of_fields(alloc: Global, fields: Vec<Field>) -> Result<Schema, Fault>
     }
 }
 
-/// The schema of a text: `name:type` joined by commas, the names distinct, at most 65,535 of them.
+/// The schema of a text: `name:type` joined by commas, the names distinct.
 fn schema(alloc: Global, text: &str) -> Result<Schema, Fault>
     ensures { Finds (schema_of text.now) result }
 {
@@ -117,19 +121,33 @@ fn schema(alloc: Global, text: &str) -> Result<Schema, Fault>
     }
 }
 
-/// The command of the words: `Usage` where they are none, also where FILE and OUT are one word.
-pub fn command(alloc: Global, words: &[String]) -> Result<ScanCommand<'_>, Fault>
+/// The command of `scan` with these words.
+fn scan_command<'a>(
+    alloc: Global,
+    file: &'a str,
+    columns: &str,
+    out: &'a str,
+) -> Result<CommandWords<'a>, Fault>
+    ensures { Finds (scan_if file.now (schema_of columns.now) out.now) (command_seen result) }
+{
+    match schema(alloc, columns) {
+        Ok(schema) => Ok(CommandWords::Scan { file, schema, out }),
+        Err(fault) => Err(fault),
+    }
+}
+
+/// The command of the words: `Usage` where they are none.
+pub fn command(alloc: Global, words: &[String]) -> Result<CommandWords<'_>, Fault>
     ensures { Finds (command_of (map string_bytes words.now)) (command_seen result) }
 {
-    let [verb, file, columns, out] = words else {
-        return Err(Fault::Usage);
-    };
-    let (file, out) = (file.as_str(), out.as_str());
-    if verb.as_str() != "scan" || file == out {
-        return Err(Fault::Usage);
-    }
-    match schema(alloc, columns.as_str()) {
-        Ok(schema) => Ok(ScanCommand { file, schema, out }),
-        Err(fault) => Err(fault),
+    match words {
+        [verb, query, out] if verb.as_str() == "local" => Ok(CommandWords::Local {
+            query: query.as_str(),
+            out: out.as_str(),
+        }),
+        [verb, file, columns, out] if verb.as_str() == "scan" => {
+            scan_command(alloc, file.as_str(), columns.as_str(), out.as_str())
+        }
+        _ => Err(Fault::Usage),
     }
 }

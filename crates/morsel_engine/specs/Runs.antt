@@ -1,0 +1,185 @@
+-- What a run of a query answers, why, what it read, and what it leaves.
+use Rattle.std.specs.Prelude.{◌≡◌, ◌⊎◌, ℕ, ◌+◌, ◌*◌, ◌<◌, ◌≤◌, IfOk, IfErr, IsOkUnless, Some, None, Result, Ok, Err, List, [], ◌∷◌, ◌++◌, map, length}
+use Rattle.std.specs.List.{sum_by}
+use Rattle.morsel_meaning.specs.declared.fault.Fault.{Fault}
+use Rattle.morsel_meaning.specs.declared.fault.Fault.TheVariants as faults
+use Rattle.morsel_meaning.specs.declared.fault.ComputeKind.TheVariants as kinds
+use Rattle.morsel_meaning.specs.Values.{Row}
+use Rattle.morsel_outside.specs.declared.events.Asked.{Asked}
+use Rattle.morsel_outside.specs.declared.events.IoEvent.{IoEvent}
+use Rattle.morsel_outside.specs.Outside.{Outside, with_more, with_sink}
+use Rattle.morsel_outside.specs.Actions.{Rises, Making, Does}
+use Rattle.morsel_scan.specs.Ahead.{Axis, ReadsAhead}
+use Rattle.morsel_scan.specs.StretchRows.{Gives, before_fault, HasFaultWithin}
+use Rattle.morsel_scan.specs.CsvPieces.{HaveRows}
+use Rattle.morsel_scan.specs.CsvAxis.{csv_axis}
+use Rattle.morsel_read.specs.PieceReads.{IsSliceEnd}
+use Rattle.morsel_line.specs.ScanSources.{opened_as}
+use Rattle.morsel_drive.specs.Lines.{Each}
+use Rattle.morsel_query.specs.RunOptions.{RunOptions, pieces_ahead}
+use Rattle.morsel_query.specs.Queries.{QueryParts}
+use Rattle.morsel_query.specs.QueryFlaws.{sources_of}
+use Rattle.morsel_query.specs.Plans.{query_fault}
+use Rattle.morsel_query.specs.Meanings.{csv_scan, Meaning, AreOfFormat, text_of, IsValid}
+use Rattle.morsel_query.specs.CsvCauses.{CsvCause}
+use Rattle.morsel_engine.specs.Courses.{openings, file_numbers, names_asked, AsksUpTo, IsShort}
+
+-- what the opened files contain is told
+abbrev pub TellsBytes : Outside → Type 0
+TellsBytes o = (held : List (List ℕ)) × (o.held ≡ Some held)
+
+-- what each byte of the sources gives the sink, where they have these bytes, and their numbers as they were opened go on from the first
+abbrev pub axis_of : QueryParts → ℕ → List (List ℕ) → Axis
+axis_of query number files = csv_axis (csv_scan query.left) 0 query.left.sources files (opened_as (file_numbers number (length files))) 0 (text_of query)
+
+-- the rows whose records stand before the first record that is faulty: outside the grammar, not UTF-8, with a bad cell of a used column within the slice, or
+-- with a row or an index past its limit
+abbrev pub rows_before_fault : QueryParts → List (List ℕ) → List Row
+rows_before_fault query files = before_fault (axis_of query 0 files).gives
+
+-- no record that was not wholly asked, where so many bytes were, and none after it is faulty
+abbrev pub AreFineFrom : QueryParts → ℕ → List (List ℕ) → Type 0
+AreFineFrom query asked files = let gives = (axis_of query 0 files).gives in (fault : Fault) → HasFaultWithin gives asked (length gives) fault → ⊥
+
+-- the bytes of the sources before a place give these rows, and none of their records is faulty
+abbrev pub GivesRowsTo : QueryParts → List (List ℕ) → ℕ → List Row → Type 0
+GivesRowsTo query files place rows = Gives (axis_of query 0 files).gives 0 place rows
+
+-- the files are records to their ends, and not too many of them count as rows
+abbrev pub HaveFewRows : QueryParts → List (List ℕ) → Type 0
+HaveFewRows query files = (rows : ℕ) × HaveRows (csv_scan query.left) files rows × (rows ≤ 4294967295)
+
+-- all bytes of the sources were asked and give these rows; the sources are of their format, and these are the rows that the query means
+pub record MeansAll (query : QueryParts) (asked : ℕ) (files : List (List ℕ)) (rows : List Row) : Type 0 where
+  pub all : asked ≡ sum_by length files
+  pub gives : GivesRowsTo query files (length (axis_of query 0 files).gives) rows
+  pub of_format : AreOfFormat query.left.format files
+  pub few : HaveFewRows query files
+  pub means : Meaning query files rows
+
+-- the slice of a scan keeps no row after a place up to which the bytes were asked and give these rows; they are the rows that the query means, if nothing after them is faulty
+pub record MeansSlice (query : QueryParts) (asked : ℕ) (files : List (List ℕ)) (rows : List Row) : Type 0 where
+  pub given : ℕ
+  pub gives : GivesRowsTo query files given rows
+  pub ends : IsSliceEnd (csv_scan query.left) files given asked
+  pub means : AreFineFrom query asked files → Meaning query files rows
+
+-- the rows are what the query means, as far as its sources were asked: all of them, or up to the end of its slice
+abbrev pub MeansAsked : QueryParts → ℕ → List (List ℕ) → List Row → Type 0
+MeansAsked query asked files rows = MeansAll query asked files rows ⊎ MeansSlice query asked files rows
+
+-- the first sources of a query are open, and have these bytes
+pub record HasOpened (old : Outside) (query : QueryParts) (files : List (List ℕ)) (new : Outside) : Type 0 where
+  pub few : length files ≤ length (sources_of query)
+  pub sizes : new.sizes ≡ old.sizes ++ map length files
+  pub held : new.held ≡ with_more old.held files
+
+-- all sources were opened, and then the sink was made, before anything was read or written
+pub record HasBegun (old : Outside) (query : QueryParts) (files : List (List ℕ)) (new : Outside) : Type 0 where
+  pub all : length files ≡ length (sources_of query)
+  pub between : Outside  -- the outside then
+  pub begins : Does old (openings (sources_of query) files ++ Making query.sink.name ∷ []) between
+  pub events : List IoEvent
+  pub gained : new.events ≡ with_more between.events events
+  pub asked : new.asked ≡ old.asked ++ names_asked query
+  pub one_sink : new.sinks ≡ old.sinks + 1
+
+-- the sink was not made: nothing was read or written, and the names asked for are the first of the query's, each only where the sources before it were opened; only the one after these may have failed
+pub record HasNotBegun (old : Outside) (query : QueryParts) (files : List (List ℕ)) (new : Outside) : Type 0 where
+  pub sinks : new.sinks ≡ old.sinks
+  pub made : new.made ≡ old.made
+  pub events : new.events ≡ old.events
+  pub asked : List Asked
+  pub later : List Asked
+  pub gained : new.asked ≡ old.asked ++ asked
+  pub front : names_asked query ≡ asked ++ later
+  pub in_order : length asked ≤ length files + 1
+  pub failed : ((new.read_faults ≡ old.read_faults) × (new.failed ≡ old.failed)) ⊎ (new.failed ≡ length old.sizes + length files)
+
+-- the sink has the text of rows that the query may give, as many as are answered
+pub record HasText (old : Outside) (query : QueryParts) (files : List (List ℕ)) (asked count : ℕ) (new : Outside) : Type 0 where
+  pub rows : List Row
+  pub counted : count ≡ length rows
+  pub means : MeansAsked query asked files rows
+  pub made : new.made ≡ with_sink old.made query.sink.name (text_of query rows)
+
+-- rows are answered: no call failed, each byte was asked, unless there is a slice, and the sink has their text, where the files' bytes are told
+pub record Answers (old : Outside) (query : QueryParts) (files : List (List ℕ)) (asked : ℕ) (new : Outside) (count : ℕ) : Type 0 where
+  pub begun : HasBegun old query files new
+  pub read_well : (new.read_faults ≡ old.read_faults) × (new.failed ≡ old.failed)
+  pub write_well : new.write_faults ≡ old.write_faults
+  pub whole : query.left.asked.slice ≡ None → asked ≡ sum_by length files
+  pub text : TellsBytes new → HasText old query files asked count new
+
+-- what a fault of the files says of the query alone: it is of one of its sources, or of none
+abbrev pub IsOfFiles : QueryParts → Fault → Type 0
+IsOfFiles query (faults.Malformed file at) = Unit {0}
+IsOfFiles query (faults.Unsupported file code) = (file < length (sources_of query)) × ((code ≡ 31) ⊎ (code ≡ 40))
+IsOfFiles query (faults.ComputeError kinds.NotUtf8 file at) = Unit {0}
+IsOfFiles query (faults.ComputeError kinds.IllTyped file at) = Unit {0}
+IsOfFiles query (faults.ComputeError kinds.TooManyRows file at) = (file ≡ 4294967295) × (at ≡ 0)
+IsOfFiles query (faults.ComputeError kinds.IndexTooLarge file at) = Unit {0}
+IsOfFiles query fault = ⊥
+
+-- a fault of the files, told after the sink was made; where their bytes are told, they have its cause
+pub record HasCauseInFiles (old : Outside) (query : QueryParts) (files : List (List ℕ)) (new : Outside) (fault : Fault) : Type 0 where
+  pub kind : IsOfFiles query fault
+  pub begun : HasBegun old query files new
+  pub cause : TellsBytes new → CsvCause (csv_scan query.left) 0 query.left.sources files fault
+
+-- when a run that has begun may answer a fault: a call to the outside failed, as a count of faults says; or it is one of the files
+abbrev pub HasCauseInRun : Outside → QueryParts → List (List ℕ) → Outside → Fault → Type 0
+HasCauseInRun old query files new faults.OutOfMemory = Unit {0}
+HasCauseInRun old query files new (faults.ReadFault file) = (file < length (sources_of query)) × (file ≤ length files)
+    × Rises old.read_faults new.read_faults × (new.failed ≡ length old.sizes + file)
+HasCauseInRun old query files new faults.WriteFault = (length files ≡ length (sources_of query)) × Rises old.write_faults new.write_faults
+HasCauseInRun old query files new fault = HasCauseInFiles old query files new fault
+
+-- when a fault may be answered: the query has no plan, and nothing was done; or there is a cause in the run
+abbrev pub HasCause : Outside → QueryParts → List (List ℕ) → Outside → Fault → Type 0
+HasCause old query files new fault = ((query_fault query ≡ Some fault) × (new ≡ old)) ⊎ HasCauseInRun old query files new fault
+
+-- the text is the beginning of that of the rows before the first faulty record, and of all rows of a query over valid files
+pub record IsFrontOfText (query : QueryParts) (files : List (List ℕ)) (text : List ℕ) : Type 0 where
+  pub later : List ℕ
+  pub front : text ++ later ≡ text_of query (rows_before_fault query files)
+  pub valid : (is : IsValid query files) → (rest : List ℕ) × (text ++ rest ≡ text_of query is.rows)
+
+-- no sink was made; or the query's, with a beginning of the rows' text
+abbrev pub Leaves : Outside → QueryParts → List (List ℕ) → Outside → Type 0
+Leaves old query files new = HasNotBegun old query files new
+    ⊎ (HasBegun old query files new × (text : List ℕ) × (new.made ≡ with_sink old.made query.sink.name text) × (TellsBytes new → IsFrontOfText query files text))
+
+-- no count of faults rose
+pub record NoneRises (old new : Outside) : Type 0 where
+  pub reads : Rises old.read_faults new.read_faults → ⊥
+  pub writes : Rises old.write_faults new.write_faults → ⊥
+
+-- a query without a plan is refused before anything is done, by its fault, unless memory is out
+abbrev pub IsRefusedFirst : Outside → Fault → Result ℕ Fault → Outside → Type 0
+IsRefusedFirst old fault (Ok count) new = ⊥
+IsRefusedFirst old fault (Err found) new = (new ≡ old) × ((found ≡ fault) ⊎ (found ≡ faults.OutOfMemory))
+
+-- how many bytes of rows reading may run ahead of writing
+abbrev pub bytes_ahead : RunOptions → Axis → ℕ
+bytes_ahead options axis = pieces_ahead options * (options.chunk_bytes + axis.longest)
+
+-- what a run answers, why, what it read, and what it leaves
+pub record Runs (old : Outside) (query : QueryParts) (options : RunOptions) (result : Result ℕ Fault) (new : Outside) : Type 0 where
+  pub files : List (List ℕ)  -- the bytes of the sources that were opened
+  pub opened : HasOpened old query files new
+  pub asked : ℕ  -- how many bytes of them were asked
+  pub events : List IoEvent
+  pub gained : new.events ≡ with_more old.events events
+  pub once : AsksUpTo (length old.sizes) (map length files) asked events
+  pub short : Each (IsShort options.chunk_bytes) events
+  pub ahead : TellsBytes new → (let axis = axis_of query (length old.sizes) files in ReadsAhead axis (bytes_ahead options axis) options.chunk_bytes 0 axis.head events)
+  pub answers : IfOk result (Answers old query files asked new)
+  pub caused : IfErr result (HasCause old query files new)
+  pub leaves : Leaves old query files new
+  pub complete : TellsBytes new → IsValid query files → NoneRises old new → IsOkUnless result faults.OutOfMemory
+  pub refused : (fault : Fault) → query_fault query ≡ Some fault → IsRefusedFirst old fault result new
+  pub reads_fail : ((new.read_faults ≡ old.read_faults) × (new.failed ≡ old.failed)) ⊎ ((file : ℕ) × (file < length (sources_of query)) × Rises old.read_faults new.read_faults × (new.failed ≡ length old.sizes + file))
+  pub printed : new.printed ≡ old.printed
+  pub print_faults : new.print_faults ≡ old.print_faults
+  pub no_lower : old.write_faults ≤ new.write_faults
