@@ -1,4 +1,4 @@
-//! Uses of reading, of writing and of scans as a caller has them: tests that take the public calls alone.
+//! Uses of reading and of writing as a caller has them: tests that take the public calls alone.
 #![tactic(auto)]
 
 #[cfg(test)]

@@ -4,7 +4,6 @@
 //! exits has each of them proved.
 mod csv;
 mod ndjson;
-mod scans;
 
 use morsel_frame::Schema;
 use morsel_meaning::{ColType, Field, Name};

@@ -1,38 +1,81 @@
-//! Texts that try each rule of CSV under the standard options, with what the rules make of them.
-use super::{is_malformed, scans};
+//! Texts that try each rule of CSV under the standard options, with what the rules make of them: by `scan`, and by a query that
+//! reads them in chunks of each small size.
+use super::{End, LOCAL, Run, ends, query_of};
 use std::alloc::Global;
+use std::mem::drop;
 use std::process::Abort;
 
-const TWO: &str = "a:int,b:text";
+/// Columns, as the words of `scan` have them and as a query has them.
+type Columns = (&'static str, &'static str);
 
-const NUMBERS: &str = "a:int";
+const TWO: Columns = ("a:int,b:text", r#"["a","int"],["b","text"]"#);
 
-const TEXTS: &str = "a:text";
+const NUMBERS: Columns = ("a:int", r#"["a","int"]"#);
 
-const FLAGS: &str = "a:bool";
+const TEXTS: Columns = ("a:text", r#"["a","text"]"#);
 
-/// A file, its columns, the number of its rows and their text.
-type Rows = (&'static [u8], &'static str, &'static str, &'static str);
+const FLAGS: Columns = ("a:bool", r#"["a","bool"]"#);
 
-/// A file, its columns, and the place of its first record that is refused.
-type Refused = (&'static [u8], &'static str, u64);
+/// A file, its columns, the line that is told, and the text of the rows: of all, or of those before the first faulty record.
+type Row = (&'static [u8], Columns, &'static str, &'static str);
 
-/// Each file of the table has its rows.
-fn all_scan(rt: &impl Abort, alloc: Global, table: &[Rows]) {
-    for (bytes, columns, count, text) in table {
-        scans(rt, alloc, bytes, columns, count, text);
-    }
+/// The sizes of chunks that are tried. The last one is more than any of these files has.
+const CHUNKS: [u32; 10] = [1, 2, 3, 4, 5, 6, 7, 8, 9, 1000];
+
+/// A scan of the file ends so.
+fn scan_ends(rt: &impl Abort, alloc: Global, bytes: &[u8], columns: Columns, end: End<'_>) {
+    let line = format!(in alloc; "scan one.csv {} o", columns.0).expect(rt, "memory");
+    let run = Run {
+        line: line.as_str(),
+        ..LOCAL
+    };
+    ends(rt, alloc, run, bytes, b"", end);
+    drop(line);
 }
 
-/// Each file of the table is refused at its place.
-fn all_are_refused(rt: &impl Abort, alloc: Global, table: &[Refused]) {
-    for (bytes, columns, at) in table {
-        is_malformed(rt, alloc, bytes, columns, *at);
+/// A query of the file, read in chunks of this size, ends so.
+fn query_ends(
+    rt: &impl Abort,
+    alloc: Global,
+    bytes: &[u8],
+    columns: Columns,
+    chunk: u32,
+    end: End<'_>,
+) {
+    let query = chunked(rt, alloc, columns, chunk);
+    ends(rt, alloc, LOCAL, bytes, query.as_bytes(), end);
+    drop(query);
+}
+
+/// The query of the file by chunks.
+fn chunked(rt: &impl Abort, alloc: Global, columns: Columns, chunk: u32) -> String {
+    let scan = format!(in alloc; "\"files\":[\"one.csv\"],\"schema\":[{}]", columns.1).expect(
+        rt, "memory",
+    );
+    let options = format!(in alloc; "\"chunk_bytes\":{chunk}").expect(rt, "memory");
+    let query = query_of(rt, alloc, scan.as_str(), options.as_str());
+    drop(scan);
+    drop(options);
+    query
+}
+
+/// Each file of the table ends with this status.
+fn all_end(rt: &impl Abort, alloc: Global, status: u8, table: &[Row]) {
+    for (bytes, columns, told, text) in table {
+        let end = End {
+            status,
+            told,
+            text: Some(text),
+        };
+        scan_ends(rt, alloc, bytes, *columns, end);
+        for chunk in CHUNKS {
+            query_ends(rt, alloc, bytes, *columns, chunk, end);
+        }
     }
 }
 
 /// Files without a row.
-const WITHOUT_ROWS: &[Rows] = &[
+const WITHOUT_ROWS: &[Row] = &[
     (b"", TWO, "0", ""),
     (b"a,b\n", TWO, "0", ""),
     (b"a,b", TWO, "0", ""),
@@ -46,11 +89,11 @@ const WITHOUT_ROWS: &[Rows] = &[
 
 #[test]
 fn files_without_rows(rt: HostRuntime) {
-    all_scan(&rt, rt.alloc(), WITHOUT_ROWS);
+    all_end(&rt, rt.alloc(), 0, WITHOUT_ROWS);
 }
 
 /// Line feeds, returns and byte order marks.
-const LINE_ENDS: &[Rows] = &[
+const LINE_ENDS: &[Row] = &[
     (b"\na,b\n1,x\n", TWO, "1", "{\"a\":1,\"b\":\"x\"}\n"),
     (b"a,b\n1,x", TWO, "1", "{\"a\":1,\"b\":\"x\"}\n"),
     (b"a,b\r\n1,x\r\n", TWO, "1", "{\"a\":1,\"b\":\"x\"}\n"),
@@ -73,11 +116,11 @@ const LINE_ENDS: &[Rows] = &[
 
 #[test]
 fn line_ends_of_each_kind(rt: HostRuntime) {
-    all_scan(&rt, rt.alloc(), LINE_ENDS);
+    all_end(&rt, rt.alloc(), 0, LINE_ENDS);
 }
 
 /// Quotes around fields, within them, and outside.
-const QUOTES: &[Rows] = &[
+const QUOTES: &[Row] = &[
     (b"a,b\n1,\"x\r\"\n", TWO, "1", "{\"a\":1,\"b\":\"x\\r\"}\n"),
     (b"a,b\n1,\"x\"\r\n", TWO, "1", "{\"a\":1,\"b\":\"x\"}\n"),
     (b"a,b\n1,\"x\"\r", TWO, "1", "{\"a\":1,\"b\":\"x\"}\n"),
@@ -108,11 +151,11 @@ const QUOTES: &[Rows] = &[
 
 #[test]
 fn quotes_of_each_kind(rt: HostRuntime) {
-    all_scan(&rt, rt.alloc(), QUOTES);
+    all_end(&rt, rt.alloc(), 0, QUOTES);
 }
 
 /// Empty fields, which are nulls, and fields that only look empty.
-const NULLS: &[Rows] = &[
+const NULLS: &[Row] = &[
     (b"a,b\n1,\"\"\n", TWO, "1", "{\"a\":1,\"b\":\"\"}\n"),
     (b"a,b\n1,\n", TWO, "1", "{\"a\":1,\"b\":null}\n"),
     (b"a,b\n,x\n", TWO, "1", "{\"a\":null,\"b\":\"x\"}\n"),
@@ -131,11 +174,11 @@ const NULLS: &[Rows] = &[
 
 #[test]
 fn nulls_and_what_is_none(rt: HostRuntime) {
-    all_scan(&rt, rt.alloc(), NULLS);
+    all_end(&rt, rt.alloc(), 0, NULLS);
 }
 
 /// Values of each type.
-const VALUES: &[Rows] = &[
+const VALUES: &[Row] = &[
     (b"a,b\n\"1\",x\n", TWO, "1", "{\"a\":1,\"b\":\"x\"}\n"),
     (
         b"a\n+1\n-0\n007\n",
@@ -178,96 +221,236 @@ const VALUES: &[Rows] = &[
 
 #[test]
 fn values_of_each_type(rt: HostRuntime) {
-    all_scan(&rt, rt.alloc(), VALUES);
+    all_end(&rt, rt.alloc(), 0, VALUES);
 }
 
 /// Quotes that stay open, and quotes with something after them.
-const BROKEN_QUOTES: &[Refused] = &[
-    (b"\"a", TEXTS, 0),
-    (b"a,b\n\"1,x\n", TWO, 4),
-    (b"a,b\n1,x\n2,\"y\n", TWO, 8),
-    (b"a,b\n1,\"", TWO, 4),
-    (b"a,b\n1,\"x\"\"\n", TWO, 4),
-    (b"a,b\n1,\"x\"y\n", TWO, 4),
-    (b"a,b\n1,\"x\" \n", TWO, 4),
-    (b"a,b\n1,\"x\"\r\r\n", TWO, 4),
-    (b"a,b\n1,\"x\"\rz\n", TWO, 4),
-    (b"a\"b\n\"c\"d\n", TEXTS, 4),
+const BROKEN_QUOTES: &[Row] = &[
+    (b"\"a", TEXTS, "error 5: malformed file 0 at 0", ""),
+    (b"a,b\n\"1,x\n", TWO, "error 5: malformed file 0 at 4", ""),
+    (
+        b"a,b\n1,x\n2,\"y\n",
+        TWO,
+        "error 5: malformed file 0 at 8",
+        "{\"a\":1,\"b\":\"x\"}\n",
+    ),
+    (b"a,b\n1,\"", TWO, "error 5: malformed file 0 at 4", ""),
+    (
+        b"a,b\n1,\"x\"\"\n",
+        TWO,
+        "error 5: malformed file 0 at 4",
+        "",
+    ),
+    (
+        b"a,b\n1,\"x\"y\n",
+        TWO,
+        "error 5: malformed file 0 at 4",
+        "",
+    ),
+    (
+        b"a,b\n1,\"x\" \n",
+        TWO,
+        "error 5: malformed file 0 at 4",
+        "",
+    ),
+    (
+        b"a,b\n1,\"x\"\r\r\n",
+        TWO,
+        "error 5: malformed file 0 at 4",
+        "",
+    ),
+    (
+        b"a,b\n1,\"x\"\rz\n",
+        TWO,
+        "error 5: malformed file 0 at 4",
+        "",
+    ),
+    (
+        b"a\"b\n\"c\"d\n",
+        TEXTS,
+        "error 5: malformed file 0 at 4",
+        "",
+    ),
 ];
 
 #[test]
 fn open_and_broken_quotes_are_refused(rt: HostRuntime) {
-    all_are_refused(&rt, rt.alloc(), BROKEN_QUOTES);
+    all_end(&rt, rt.alloc(), 15, BROKEN_QUOTES);
 }
 
 /// Records of another number of fields.
-const OTHER_WIDTHS: &[Refused] = &[
-    (b"a,b\n1\n", TWO, 4),
-    (b"a,b\n1,x,y\n", TWO, 4),
-    (b"a,b\n1,x\n2\n3,z\n", TWO, 8),
-    (b"a,b\n1,x\n2,y\n3", TWO, 12),
-    (b"a\n1,2\n", NUMBERS, 2),
-    (b"a\n,\n", NUMBERS, 2),
-    (b"a,b\n\"\"\n", TWO, 4),
+const OTHER_WIDTHS: &[Row] = &[
+    (b"a,b\n1\n", TWO, "error 5: malformed file 0 at 4", ""),
+    (b"a,b\n1,x,y\n", TWO, "error 5: malformed file 0 at 4", ""),
+    (
+        b"a,b\n1,x\n2\n3,z\n",
+        TWO,
+        "error 5: malformed file 0 at 8",
+        "{\"a\":1,\"b\":\"x\"}\n",
+    ),
+    (
+        b"a,b\n1,x\n2,y\n3",
+        TWO,
+        "error 5: malformed file 0 at 12",
+        "{\"a\":1,\"b\":\"x\"}\n{\"a\":2,\"b\":\"y\"}\n",
+    ),
+    (b"a\n1,2\n", NUMBERS, "error 5: malformed file 0 at 2", ""),
+    (b"a\n,\n", NUMBERS, "error 5: malformed file 0 at 2", ""),
+    (b"a,b\n\"\"\n", TWO, "error 5: malformed file 0 at 4", ""),
 ];
 
 #[test]
 fn another_number_of_fields_is_refused(rt: HostRuntime) {
-    all_are_refused(&rt, rt.alloc(), OTHER_WIDTHS);
+    all_end(&rt, rt.alloc(), 15, OTHER_WIDTHS);
 }
 
 /// Fields that are no value of their type.
-const MISFITS: &[Refused] = &[
-    (b"a,b\nx,y\n", TWO, 4),
-    (b"a,b\n1,x\nx,y\n3,z\n", TWO, 8),
-    (b"a\n9223372036854775808\n", NUMBERS, 2),
-    (b"a\n-9223372036854775809\n", NUMBERS, 2),
-    (b"a\n+\n", NUMBERS, 2),
-    (b"a\n-\n", NUMBERS, 2),
-    (b"a\n1.0\n", NUMBERS, 2),
-    (b"a\n 1\n", NUMBERS, 2),
-    (b"a\n1 \n", NUMBERS, 2),
-    (b"a\n--1\n", NUMBERS, 2),
-    (b"a\n\"\"\n", NUMBERS, 2),
-    (b"a\ntRUE\n", FLAGS, 2),
-    (b"a\n1\n", FLAGS, 2),
-    (b"a\ntrue\ntrue \n", FLAGS, 7),
-    (b"\xEF\xBB\xBFa\nx", NUMBERS, 5),
+const MISFITS: &[Row] = &[
+    (b"a,b\nx,y\n", TWO, "error 10: ill typed, file 0, at 4", ""),
+    (
+        b"a,b\n1,x\nx,y\n3,z\n",
+        TWO,
+        "error 10: ill typed, file 0, at 8",
+        "{\"a\":1,\"b\":\"x\"}\n",
+    ),
+    (
+        b"a\n9223372036854775808\n",
+        NUMBERS,
+        "error 10: ill typed, file 0, at 2",
+        "",
+    ),
+    (
+        b"a\n-9223372036854775809\n",
+        NUMBERS,
+        "error 10: ill typed, file 0, at 2",
+        "",
+    ),
+    (b"a\n+\n", NUMBERS, "error 10: ill typed, file 0, at 2", ""),
+    (b"a\n-\n", NUMBERS, "error 10: ill typed, file 0, at 2", ""),
+    (
+        b"a\n1.0\n",
+        NUMBERS,
+        "error 10: ill typed, file 0, at 2",
+        "",
+    ),
+    (b"a\n 1\n", NUMBERS, "error 10: ill typed, file 0, at 2", ""),
+    (b"a\n1 \n", NUMBERS, "error 10: ill typed, file 0, at 2", ""),
+    (
+        b"a\n--1\n",
+        NUMBERS,
+        "error 10: ill typed, file 0, at 2",
+        "",
+    ),
+    (
+        b"a\n\"\"\n",
+        NUMBERS,
+        "error 10: ill typed, file 0, at 2",
+        "",
+    ),
+    (b"a\ntRUE\n", FLAGS, "error 10: ill typed, file 0, at 2", ""),
+    (b"a\n1\n", FLAGS, "error 10: ill typed, file 0, at 2", ""),
+    (
+        b"a\ntrue\ntrue \n",
+        FLAGS,
+        "error 10: ill typed, file 0, at 7",
+        "{\"a\":true}\n",
+    ),
+    (
+        b"\xEF\xBB\xBFa\nx",
+        NUMBERS,
+        "error 10: ill typed, file 0, at 5",
+        "",
+    ),
 ];
 
 #[test]
 fn fields_that_do_not_fit_are_refused(rt: HostRuntime) {
-    all_are_refused(&rt, rt.alloc(), MISFITS);
+    all_end(&rt, rt.alloc(), 20, MISFITS);
 }
 
 /// Bytes that are no UTF-8.
-const NO_TEXTS: &[Refused] = &[
-    (b"\xFF,b\n", TWO, 0),
-    (b"a,b\n1,\xFF\n", TWO, 4),
-    (b"a,b\n1,x\n2,\xC3\n3,y\n", TWO, 8),
-    (b"a,b\n1,x\n2,\xE2\x82", TWO, 8),
-    (b"a\n\xED\xA0\x80\n", TEXTS, 2),
-    (b"a\n\xC0\x80\n", TEXTS, 2),
-    (b"a,b\n1,\"\xFF\"\n", TWO, 4),
-    (b"\x28\xB5", TEXTS, 0),
-    (b"\xEF\xBB", TEXTS, 0),
-    (b"a\nx\n\xF4\x90\x80\x80", TEXTS, 4),
+const NO_TEXTS: &[Row] = &[
+    (b"\xFF,b\n", TWO, "error 10: not utf8, file 0, at 0", ""),
+    (
+        b"a,b\n1,\xFF\n",
+        TWO,
+        "error 10: not utf8, file 0, at 4",
+        "",
+    ),
+    (
+        b"a,b\n1,x\n2,\xC3\n3,y\n",
+        TWO,
+        "error 10: not utf8, file 0, at 8",
+        "{\"a\":1,\"b\":\"x\"}\n",
+    ),
+    (
+        b"a,b\n1,x\n2,\xE2\x82",
+        TWO,
+        "error 10: not utf8, file 0, at 8",
+        "{\"a\":1,\"b\":\"x\"}\n",
+    ),
+    (
+        b"a\n\xED\xA0\x80\n",
+        TEXTS,
+        "error 10: not utf8, file 0, at 2",
+        "",
+    ),
+    (
+        b"a\n\xC0\x80\n",
+        TEXTS,
+        "error 10: not utf8, file 0, at 2",
+        "",
+    ),
+    (
+        b"a,b\n1,\"\xFF\"\n",
+        TWO,
+        "error 10: not utf8, file 0, at 4",
+        "",
+    ),
+    (b"\x28\xB5", TEXTS, "error 10: not utf8, file 0, at 0", ""),
+    (b"\xEF\xBB", TEXTS, "error 10: not utf8, file 0, at 0", ""),
+    (
+        b"a\nx\n\xF4\x90\x80\x80",
+        TEXTS,
+        "error 10: not utf8, file 0, at 4",
+        "{\"a\":\"x\"}\n",
+    ),
 ];
 
 #[test]
 fn bytes_that_are_no_text_are_refused(rt: HostRuntime) {
-    all_are_refused(&rt, rt.alloc(), NO_TEXTS);
+    all_end(&rt, rt.alloc(), 20, NO_TEXTS);
 }
 
 /// Files that begin as compressed ones do.
-const COMPRESSED: &[Refused] = &[
-    (b"\x1F\x8B", TEXTS, 0),
-    (b"\x1F\x8B\x08a\n", TEXTS, 0),
-    (b"\x28\xB5\x2F\xFD", TEXTS, 0),
-    (b"\x28\xB5\x2F\xFDa\n", TEXTS, 0),
+const COMPRESSED: &[Row] = &[
+    (
+        b"\x1F\x8B",
+        TEXTS,
+        "error 6: unsupported code 31 in file 0",
+        "",
+    ),
+    (
+        b"\x1F\x8B\x08a\n",
+        TEXTS,
+        "error 6: unsupported code 31 in file 0",
+        "",
+    ),
+    (
+        b"\x28\xB5\x2F\xFD",
+        TEXTS,
+        "error 6: unsupported code 40 in file 0",
+        "",
+    ),
+    (
+        b"\x28\xB5\x2F\xFDa\n",
+        TEXTS,
+        "error 6: unsupported code 40 in file 0",
+        "",
+    ),
 ];
 
 #[test]
 fn compressed_files_are_refused(rt: HostRuntime) {
-    all_are_refused(&rt, rt.alloc(), COMPRESSED);
+    all_end(&rt, rt.alloc(), 16, COMPRESSED);
 }
