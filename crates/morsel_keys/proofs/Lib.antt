@@ -1,0 +1,11 @@
+pub mod GroupLemmas
+pub mod BoundLemmas
+pub mod ReductionLemmas
+pub mod SlotLemmas
+pub mod TextLemmas
+pub mod HeldLemmas
+pub mod ColumnKeyLemmas
+pub mod FitLemmas
+pub mod RowKeyLemmas
+pub mod FoundLemmas
+pub mod NumberLemmas

@@ -1,0 +1,7 @@
+use Rattle.std.proofs.Common.{take}
+use Rattle.morsel_keys.specs.Slots.{IsIndexed}
+use Rattle.morsel_keys.specs.Keyed.{row_home}
+use Rattle.morsel_keys.proofs.table.rebuilt.Given as goal
+
+abbrev pub invariant-loop-place : goal.invariant-loop-place
+invariant-loop-place l = IsIndexed (row_home l.seed l.mask) l.mask l.slots.items (take l.place l.keys)

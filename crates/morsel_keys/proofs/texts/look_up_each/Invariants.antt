@@ -1,0 +1,6 @@
+use Rattle.std.proofs.Common.{◌≡◌, ◌<◌, ℕ, List, slice_get, get_or, Some}
+use Rattle.morsel_keys.specs.Slots.{IsFound}
+use Rattle.morsel_keys.proofs.texts.look_up_each.Given as goal
+
+abbrev pub invariant-loop-i : goal.invariant-loop-i
+invariant-loop-i l = (k : ℕ) (v : List ℕ) → k < l.i → slice_get l.column k ≡ Some v → IsFound l.texts v (get_or l.out k 0)
