@@ -6,6 +6,7 @@ mod cuts;
 mod expr;
 mod facts;
 mod lane;
+mod merge;
 mod scans;
 mod table;
 mod timing;
@@ -33,6 +34,7 @@ fn rows_asked<R: Env + AllocGlobal>(rt: &R) -> io::Result<Option<usize>> {
 fn run<R: Clock + Print + AllocGlobal>(rt: &R, timing: Timing, rows: usize) -> Result<(), Fault> {
     expr::run(rt, timing, rows)?;
     lane::run(rt, timing, rows)?;
+    merge::run(rt, timing, rows)?;
     cuts::run(rt, timing)?;
     scans::run(rt, timing, rows)
 }

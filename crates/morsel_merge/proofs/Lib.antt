@@ -1,0 +1,4 @@
+pub mod MergeLemmas
+pub mod AskLemmas
+pub mod LogSteps
+pub mod SpreadLemmas

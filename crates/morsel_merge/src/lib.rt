@@ -1,0 +1,16 @@
+//! Several lanes as one: what merges them by the order of what they carry, and what spreads one over many.
+//!
+//! Both stand on the traits of lanes alone, and work over any lanes.
+#![tactic(auto)]
+
+mod ask;
+mod choose;
+mod greatest;
+mod inserter;
+mod linearizer;
+mod log;
+mod make;
+mod spread;
+
+pub use inserter::Inserter;
+pub use linearizer::{Got, Linearizer};
