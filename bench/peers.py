@@ -1,4 +1,5 @@
-"""What else turns the facts file into NDJSON: each peer with its words, or why it is missing."""
+"""What else answers the queries over the facts file: each peer with its words for a query, or why it is missing."""
+import functools
 import os
 import re
 import shutil
@@ -12,18 +13,33 @@ SQLITE = """create table f(id int, g int, v int, name text);
 .import --csv --skip 1 {facts} f
 .mode list
 .once {out}
-select json_object('id', id, 'g', g, 'v', nullif(v, ''), 'name', name) from f;
+{select};
 """
+
+SELECTS = {
+    "q1": "select json_object('id', id, 'g', g, 'v', nullif(v, ''), 'name', name) from f",
+    "q2": "select json_object('id', id, 'name', name) from f where nullif(v, '') > 900",
+}
 
 PANDAS = """
 import sys, pandas
 facts = pandas.read_csv(sys.argv[1], dtype={"v": "Int64", "name": str}, keep_default_na=False, na_values={"v": [""]})
+if sys.argv[3] == "q2":
+    facts = facts.loc[facts.v > 900, ["id", "name"]]
 facts.to_json(sys.argv[2], orient="records", lines=True, force_ascii=False)
 """
 
-MAWK = r"""NR > 1 { print "{\"id\":" $1 ",\"g\":" $2 ",\"v\":" ($3 == "" ? "null" : $3) ",\"name\":\"" $4 "\"}" }"""
+MAWK = {
+    "q1": r"""NR > 1 { print "{\"id\":" $1 ",\"g\":" $2 ",\"v\":" ($3 == "" ? "null" : $3) ",\"name\":\"" $4 "\"}" }""",
+    "q2": r"""NR > 1 && $3 > 900 { print "{\"id\":" $1 ",\"name\":\"" $4 "\"}" }""",
+}
 
-CLICKHOUSE = "SELECT id, g, v, name FROM {table} FORMAT JSONEachRow"
+MILLER = {"q1": ["cat"], "q2": ["filter", 'is_not_empty($v) && $v > 900', "then", "cut", "-f", "id,name"]}
+
+CLICKHOUSE = {
+    "q1": "SELECT id, g, v, name FROM {table} FORMAT JSONEachRow",
+    "q2": "SELECT id, name FROM {table} WHERE v > 900 FORMAT JSONEachRow",
+}
 COLUMNS = "id Int64, g Int64, v Nullable(Int64), name String"
 
 
@@ -36,6 +52,7 @@ def said(words):
     return ran.stdout.strip() if ran.returncode == 0 else None
 
 
+@functools.cache
 def build_csv_crate(folder):
     """The Rust program over the crate csv, built without a network: from cargo's own store, or from Debian's packages."""
     words = ["cargo", "build", "--release", "--offline", "--manifest-path", f"{folder}/csv_crate/Cargo.toml"]
@@ -60,50 +77,51 @@ def with_nulls(folder, facts):
     return path
 
 
-def csv_crate(folder, facts, out):
+def csv_crate(folder, facts, query, out):
     if not shutil.which("cargo"):
         return "Rust, crate csv", None, "no cargo"
     program = build_csv_crate(folder)
-    return "Rust, crate csv", program and [program, facts, out], "cargo has no package csv"
+    return "Rust, crate csv", program and [program, query, facts, out], "cargo has no package csv"
 
 
-def sqlite(folder, facts, out):
+def sqlite(folder, facts, query, out):
     version = said(["sqlite3", "--version"])
-    script = f"{folder}/scan.sql"
+    script = f"{folder}/{query}.sql"
     with open(script, "w", encoding="utf-8") as it:
-        it.write(SQLITE.format(facts=facts, out=out))
+        it.write(SQLITE.format(facts=facts, out=out, select=SELECTS[query]))
     return f"sqlite3 {(version or '').partition(' ')[0]}, in memory", version and ["sh", "-c", 'exec sqlite3 :memory: < "$1"', "", script], "no sqlite3"
 
 
-def miller(folder, facts, out):
+def miller(folder, facts, query, out):
     version = (said(["mlr", "--version"]) or "").split(" ")[-1]
-    return f"Miller {version}", version and ["sh", "-c", 'exec mlr --icsv --ojsonl cat "$1" > "$2"', "", facts, out], "no mlr"
+    script = 'facts="$1"; out="$2"; shift 2; exec mlr --icsv --ojsonl "$@" "$facts" > "$out"'
+    return f"Miller {version}", version and ["sh", "-c", script, "", facts, out, *MILLER[query]], "no mlr"
 
 
-def pandas(folder, facts, out):
+def pandas(folder, facts, query, out):
     for python in (os.environ.get("PANDAS_PYTHON", "python3"), "/usr/bin/python3"):
         version = said([python, "-c", "import pandas; print(pandas.__version__)"])
         if version:
-            return f"pandas {version}", [python, "-c", PANDAS, facts, out], None
+            return f"pandas {version}", [python, "-c", PANDAS, facts, out, query], None
     return "pandas", None, "no python3 with pandas; PANDAS_PYTHON names one"
 
 
-def mawk(folder, facts, out):
+def mawk(folder, facts, query, out):
     is_there = shutil.which("mawk")
-    return "mawk, splitting at each comma", is_there and ["sh", "-c", 'exec mawk -F, "$1" "$2" > "$3"', "", MAWK, facts, out], "no mawk"
+    return "mawk, splitting at each comma", is_there and ["sh", "-c", 'exec mawk -F, "$1" "$2" > "$3"', "", MAWK[query], facts, out], "no mawk"
 
 
-def clickhouse_local(folder, facts, out):
+def clickhouse_local(folder, facts, query, out):
     for words in (["clickhouse", "local"], ["clickhouse-local"]):
         version = said([*words, "--version"])
         if version:
-            words += ["--structure", COLUMNS, "--input-format", "CSVWithNames", "--query", CLICKHOUSE.format(table="table")]
+            words += ["--structure", COLUMNS, "--input-format", "CSVWithNames", "--query", CLICKHOUSE[query].format(table="table")]
             facts = with_nulls(folder, facts)
             return "ClickHouse, local", ["sh", "-c", 'facts="$1"; out="$2"; shift 2; exec "$@" < "$facts" > "$out"', "", facts, out, *words], None
     return "ClickHouse, local", None, "no clickhouse-local"
 
 
-def clickhouse_server(folder, facts, out):
+def clickhouse_server(folder, facts, query, out):
     """The server that CLICKHOUSE names, as http://127.0.0.1:8123. It reads a copy of the file in its own folder for users' files, which
     CLICKHOUSE_FILES names; where that is not set, the file is sent with the query, which takes longer."""
     url, files = os.environ.get("CLICKHOUSE"), os.environ.get("CLICKHOUSE_FILES")
@@ -119,17 +137,17 @@ def clickhouse_server(folder, facts, out):
         shutil.copy(facts, files)
     else:
         words, table, more = ["-F", f"f=@{facts}"], "f", {"f_structure": COLUMNS, "f_format": "CSVWithNames"}
-    query = {"query": CLICKHOUSE.format(table=table), "output_format_json_quote_64bit_integers": "0", **more}
+    query = {"query": CLICKHOUSE[query].format(table=table), "output_format_json_quote_64bit_integers": "0", **more}
     url += "/?" + "&".join(f"{it}={quote(text)}" for it, text in query.items())
     name = f"ClickHouse {version}, a server that {'reads the file' if files else 'is sent the file'}"
     return name, ["curl", "-sf", *words, "-o", out, url], None
 
 
-def plain_read(folder, facts, out):
+def plain_read(folder, facts, query, out):
     return "dd, a plain read", ["dd", f"if={facts}", "of=/dev/null", "bs=1M", "status=none"], None
 
 
-def all_peers(folder, facts, out):
-    """Each peer's name, its words, or None and the reason; the plain read last."""
+def all_peers(folder, facts, query, out):
+    """Each peer's name, its words for the query, or None and the reason; the plain read last."""
     makers = (csv_crate, sqlite, miller, pandas, mawk, clickhouse_local, clickhouse_server, plain_read)
-    return [make(folder, facts, out) for make in makers]
+    return [make(folder, facts, query, out) for make in makers]

@@ -1,12 +1,15 @@
 #!/usr/bin/env python3
-"""Makes the data, builds the program, and times its scan of CSV to NDJSON beside each peer that is installed.
+"""Makes the data and the queries, builds the program, and times it beside each peer that is installed.
 
-usage: python3 bench/run.py [--size MEGABYTES] [--rounds N] [--folder FOLDER] [--program FILE]
+usage: python3 bench/run.py [--size MEGABYTES] [--rounds N] [--folder FOLDER] [--program FILE] [--memory]
+
+The queries are q1, all rows of a CSV file as NDJSON, and q2, two columns of the rows whose v is above 900. They are written into FOLDER as
+query files, and run by `morsel local`.
 
 The data and the outputs lie in FOLDER (none: morsel-bench in the folder for temporary files; best one in memory, as /dev/shm/morsel-bench).
 The program is the one that `rt ci` or `rt run` has built, if it is newer than its sources; else `rt run` proves and builds it first, which
 takes long from nothing. --program names another. Each round runs each of them once, in turn, on the same file; one that takes more than
-5 seconds runs three times at most. CLICKHOUSE names the URL of a server of ClickHouse, CLICKHOUSE_FILES its folder of users' files,
+5 seconds runs three times at most. With --memory no peer is run, but morsel on files that are hard on memory, once each. CLICKHOUSE names the URL of a server of ClickHouse, CLICKHOUSE_FILES its folder of users' files,
 CLICKHOUSE_PID its process.
 
 Printed: which peers are missing, and a table in Markdown: the median and the best time by the clock, the processor's time, MB of the
@@ -16,6 +19,7 @@ same lines in another order.
 import argparse
 import datetime
 import hashlib
+import json
 import math
 import os
 import re
@@ -33,8 +37,21 @@ import gen
 import peers
 import program
 
-SCHEMA = "id:int,g:int,v:int,name:text"
+SCHEMA = [["id", "int"], ["g", "int"], ["v", "int"], ["name", "text"]]
+QUERIES = {
+    "q1": ("CSV to NDJSON", {}),
+    "q2": ("two columns of the rows with v > 900", {"filter": ["gt", "v", {"lit": 900}], "columns": ["id", "name"]}),
+}
 SLOW = 5
+
+
+def query_file(folder, name, files, schema, **parts):
+    """The path of a query file over these files, with further parts of its scan."""
+    path = f"{folder}/{name}.json"
+    left = {"format": "csv", "files": files, "schema": schema, **parts}
+    with open(path, "w", encoding="utf-8") as it:
+        json.dump({"left": left, "sink": {"format": "ndjson"}}, it)
+    return path
 
 
 def build():
@@ -139,29 +156,57 @@ def table(seen, wrote, size):
         print(f"| {name} | {wall:.2f} | {best:.2f} | {known(processor, '.2f')} | {size / wall:.0f} | {known(peak, '.0f')} | {wall / ours:.2f} | {text} |")
 
 
+def time_query(morsel, query, facts, given):
+    """Runs one query beside the peers, and prints its table."""
+    says, parts = QUERIES[query]
+    out = f"{given.folder}/out.ndjson"
+    runs = [("morsel", [morsel, "local", query_file(given.folder, query, [facts], SCHEMA, **parts), out])]
+    for name, words, why in peers.all_peers(given.folder, facts, query, out):
+        if words:
+            runs.append((name, words))
+        else:
+            print(f"missing: {name} ({why})", flush=True)
+    size = os.path.getsize(facts) / 1e6
+    print(f"\n{query}: {says}; {size:.0f} MB, {given.rounds} rounds; {machine()}\n", flush=True)
+    seen, wrote = measure(runs, out, given.folder, given.rounds)
+    if "morsel" not in seen:
+        sys.exit("morsel itself failed")
+    table(seen, wrote, size)
+
+
+def measure_memory(morsel, given):
+    """Runs morsel on files that are hard on memory, and prints the peak of each beside the longest record."""
+    print("| file | MB | longest record, bytes | peak MB | s | answer |")
+    print("|---|---:|---:|---:|---:|---|")
+    for name, path, schema in gen.hard_files(given.folder, given.size):
+        words = [morsel, "local", query_file(given.folder, "hard", [path], schema), "/dev/null"]
+        told = f"{given.folder}/times"
+        began = time.monotonic()
+        ran = subprocess.run([shutil.which("time"), "-q", "-o", told, "-f", "%M", *words], stdin=subprocess.DEVNULL, capture_output=True, text=True)
+        wall = time.monotonic() - began
+        with open(told, encoding="utf-8") as it:
+            peak = int(it.read()) / 1024
+        print(f"| {name} | {os.path.getsize(path) / 1e6:.0f} | {gen.longest_record(path):,} | {peak:.0f} | {wall:.2f} | {ran.stdout.strip()} |", flush=True)
+
+
 def main():
     wanted = argparse.ArgumentParser(description=__doc__, formatter_class=argparse.RawDescriptionHelpFormatter)
     wanted.add_argument("--size", type=int, default=100)
     wanted.add_argument("--rounds", type=int, default=5)
     wanted.add_argument("--folder", default=f"{tempfile.gettempdir()}/morsel-bench")
     wanted.add_argument("--program")
+    wanted.add_argument("--memory", action="store_true")
     given = wanted.parse_args()
     if not shutil.which("time"):
         sys.exit("GNU time is not installed: it tells the memory")
+    given.folder = os.path.abspath(given.folder)
+    morsel = os.path.abspath(given.program) if given.program else build()
     facts = gen.make(given.folder, given.size)
-    out = f"{given.folder}/out.ndjson"
-    runs = [("morsel", [os.path.abspath(given.program) if given.program else build(), "scan", facts, SCHEMA, out])]
-    for name, words, why in peers.all_peers(given.folder, facts, out):
-        if words:
-            runs.append((name, words))
-        else:
-            print(f"missing: {name} ({why})", flush=True)
-    size = os.path.getsize(facts) / 1e6
-    print(f"\n{size:.0f} MB, CSV to NDJSON, {given.rounds} rounds; {machine()}\n", flush=True)
-    seen, wrote = measure(runs, out, given.folder, given.rounds)
-    if "morsel" not in seen:
-        sys.exit("morsel itself failed")
-    table(seen, wrote, size)
+    if given.memory:
+        measure_memory(morsel, given)
+        return
+    for query in QUERIES:
+        time_query(morsel, query, facts, given)
 
 
 if __name__ == "__main__":

@@ -1,6 +1,6 @@
 //! What a Rust programmer would write with the crate csv in an hour: the facts file as NDJSON, one record at a time.
 //!
-//! usage: csv_crate FACTS OUT
+//! usage: csv_crate q1|q2 FACTS OUT      q1: all rows; q2: id and name of the rows whose v is above 900
 use std::error::Error;
 use std::fs::File;
 use std::io::{BufWriter, Write};
@@ -30,19 +30,30 @@ fn put_text(out: &mut impl Write, text: &str) -> std::io::Result<()> {
 
 fn main() -> Result<(), Box<dyn Error>> {
     let words: Vec<String> = env::args().collect();
-    let [_, facts, to] = words.as_slice() else {
-        return Err("usage: csv_crate FACTS OUT".into());
+    let [_, query, facts, to] = words.as_slice() else {
+        return Err("usage: csv_crate q1|q2 FACTS OUT".into());
     };
+    let is_all = query == "q1";
     let mut reader = csv::Reader::from_path(facts)?;
     let mut out = BufWriter::with_capacity(1 << 16, File::create(to)?);
     let mut record = csv::ByteRecord::new();
     while reader.read_byte_record(&mut record)? {
         let text = |at: usize| str::from_utf8(&record[at]);
         let (id, g): (i64, i64) = (text(0)?.parse()?, text(1)?.parse()?);
-        write!(out, "{{\"id\":{id},\"g\":{g},\"v\":")?;
-        match text(2)? {
-            "" => out.write_all(b"null")?,
-            v => write!(out, "{}", v.parse::<i64>()?)?,
+        let v: Option<i64> = match text(2)? {
+            "" => None,
+            v => Some(v.parse()?),
+        };
+        if !is_all && v.is_none_or(|v| v <= 900) {
+            continue;
+        }
+        write!(out, "{{\"id\":{id}")?;
+        if is_all {
+            write!(out, ",\"g\":{g},\"v\":")?;
+            match v {
+                None => out.write_all(b"null")?,
+                Some(v) => write!(out, "{v}")?,
+            }
         }
         out.write_all(b",\"name\":")?;
         put_text(&mut out, text(3)?)?;
