@@ -1,5 +1,5 @@
 //! Accumulators: what a reduction says of values that come in parts.
-ghost use Rattle.std.specs.Prelude.{◌≡◌, ◌+◌, ℕ, OnOk, OnErr, IfOk, Some, None};
+ghost use Rattle.std.specs.Prelude.{◌≡◌, ◌+◌, ℕ, OnOk, OnErr, IfOk, IsOkUnless, Some, None};
 ghost use Rattle.morsel_meaning.specs.Values.{IsOfType};
 ghost use Rattle.morsel_frame.specs.Cells.{value_of};
 ghost use Rattle.morsel_frame.specs.Refusals.{Refuses};
@@ -75,12 +75,13 @@ impl Acc {
         Ok(())
     }
 
-    /// The other's values too. A group of more than `i64::MAX` values is refused.
+    /// The other's values too. A group of more than `i64::MAX` values is refused. It takes no memory.
     pub fn combine(&mut self, other: Acc) -> Result<(), Fault>
         requires same_op { other.op ≡ self.old.op }
         requires same_kind { other.kind ≡ self.old.kind }
         ensures ok { OnOk result (self.new ≡ record self.old { entry = both_parts (plus_entries self.old.op) self.old.entry other.entry }) }
         ensures refused { Refuses (len_fault (entry_len self.old.entry + entry_len other.entry)) result }
+        ensures too_long { IsOkUnless result (Fault.ComputeError ComputeKind.LenTooLarge 4294967295 0) }
         ensures err { OnErr result (self.new ≡ self.old) }
     {
         let (more, kept) = other.into_parts();
@@ -100,11 +101,12 @@ impl Acc {
         Ok(())
     }
 
-    /// What the reduction says of the values. A sum is refused where the whole total is outside 64 bits.
+    /// What the reduction says of the values. A sum is refused where the whole total is outside 64 bits. It takes no memory.
     pub fn finish(self) -> Result<Value, Fault>
         ensures ok { IfOk result (λ value. value ≡ finished self.op self.entry) }
         ensures of_type { IfOk result (λ value. IsOfType (reduced_kind self.op self.kind) value) }
         ensures refused { Refuses (total_fault self.op self.entry) result }
+        ensures too_large { IsOkUnless result (Fault.ComputeError ComputeKind.SumTooLarge 4294967295 0) }
     {
         match self.kept {
             Kept::Len => Ok(Value::Int(self.len as i64)),

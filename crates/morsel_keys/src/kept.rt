@@ -159,6 +159,7 @@ pub fn join(kind: ColType, len: u64, kept: &mut Kept, more: u64, other: Kept)
 pub fn whole(total: i128) -> Result<Value, Fault>
     ensures ok { IfOk result (λ value. value ≡ Value.Int total) }
     ensures refused { Refuses (sum_fault total) result }
+    ensures too_large { IsOkUnless result (Fault.ComputeError ComputeKind.SumTooLarge 4294967295 0) }
 {
     match i64::try_from(total) {
         Ok(number) => Ok(Value::Int(number)),
