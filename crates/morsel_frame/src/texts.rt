@@ -1,6 +1,6 @@
 //! A text buffer: texts one after another in one allocation, and the place where each ends.
 ghost use Rattle.std.specs.Prelude.{◌≡◌, ◌+◌, ◌-◌, ◌<◌, ◌≤◌, [], ◌∷◌, ◌++◌, List, ℕ, length, take, map, slice_range, get_or, OnOk, OnErr, IfOk, IsOkUnless, vec_len, vec_capacity, slice_index, ◌^◌, replicate, string_bytes};
-ghost use Rattle.morsel_frame.specs.Pieces.{ArePieces, moved};
+ghost use Rattle.morsel_frame.specs.Pieces.{pieces, ArePieces, moved};
 
 use morsel_meaning::Fault;
 use std::alloc::Global;
@@ -34,6 +34,14 @@ impl Texts {
             bytes: String::new(alloc),
             ends: Vec::new(alloc),
         }
+    }
+
+    /// The texts that have these bytes and end at these places.
+    pub fn from_parts(bytes: String, ends: Vec<usize>) -> Texts
+        requires { ArePieces 0 ends.items (string_bytes bytes) }
+        ensures { result ≡ pieces 0 ends.items (string_bytes bytes) }
+    {
+        Texts { bytes, ends }
     }
 
     /// So many empty texts.

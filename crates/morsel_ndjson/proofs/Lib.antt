@@ -1,5 +1,4 @@
 -- Lemmas on what is before a cursor, on members and on escapes.
 pub mod PutLemmas
 pub mod MemberLemmas
-pub mod PaddedLemmas
 pub mod EscapeLemmas

@@ -1,16 +1,17 @@
--- Members after their beginnings, made column by column, are the lines of NDJSON.
-use Rattle.std.proofs.Common.{◌≡◌, ℕ, zero, suc, ◌+◌, ◌<◌, ◌≤◌, Bool, if◌then◌else◌, false, Some, List, [], ◌∷◌, ◌++◌, length, get_or, slice_get, take, drop, map, refl, ap, sym, ◌∙◌, append_assoc, arith}
-use Rattle.std.proofs.lemmas.List.{append-nil, drop_more, take_more, take_all, get_or-map, length-map}
+-- Values after their beginnings are the lines of NDJSON.
+use Rattle.std.proofs.Common.{◌≡◌, ℕ, zero, suc, ◌+◌, ◌<◌, ◌≤◌, Bool, if◌then◌else◌, false, Some, List, [], ◌∷◌, ◌++◌, length, get_or, slice_get, drop, map, refl, ap, sym, ◌∙◌, append_assoc, arith}
+use Rattle.std.proofs.lemmas.List.{append-nil, drop_more, get_or-map, length-map}
 use Rattle.std.proofs.lemmas.Option.{get_or_from_slice_get}
 use Rattle.morsel_meaning.specs.declared.value.Value.{Value}
 use Rattle.morsel_meaning.specs.declared.value.Value.TheVariants as values
 use Rattle.morsel_meaning.specs.declared.value.Field.{Field}
 use Rattle.morsel_meaning.specs.declared.value.ColType.{ColType}
 use Rattle.morsel_meaning.specs.Values.{Row, names_of, kinds_of, FitsRow, FitsRows}
-use Rattle.morsel_frame.specs.Columns.{masked}
+use Rattle.morsel_frame.specs.Columns.{value_at, masked}
 use Rattle.morsel_frame.specs.Tables.{cell_at}
+use Rattle.morsel_ndjson.specs.declared.members.Lent.{Lent}
 use Rattle.morsel_ndjson.specs.Ndjson.{json_string, json_value, json_member, json_members, json_line, ndjson}
-use Rattle.morsel_ndjson.specs.Members.{beginning, beginnings, begun, column_members, members_from, members_at, HaveRow, line_end}
+use Rattle.morsel_ndjson.specs.Members.{beginning, beginnings, begun, members_from, members_at, members_room, HaveRow, lent_values, line_end}
 
 -- a beginning and its value are a member after its mark
 pub member_begun : (mark : ℕ) (name : List ℕ) (v : Value) → beginning mark name ++ json_value v ≡ mark ∷ json_member name v
@@ -77,31 +78,37 @@ one_item {A} done now item rest whole left push next so_far =
 
 -- the next column
 pub columns_more : (begins : List (List ℕ)) (rows : List Row) (at : ℕ) → at < length begins
-    → members_from at (drop at begins) rows ≡ column_members (get_or begins at []) (map (cell_at at) rows) ∷ members_from (at + 1) (drop (at + 1) begins) rows
+    → members_from at (drop at begins) rows ≡ (get_or begins at [], map (cell_at at) rows) ∷ members_from (at + 1) (drop (at + 1) begins) rows
 columns_more begins rows at within = rw (drop_more begins at [] within) refl
 
--- each column has as many members as there are rows
+-- each column has as many values as there are rows
 pub have_row : (at : ℕ) (begins : List (List ℕ)) (rows : List Row) (row : ℕ) → row < length rows → HaveRow row (members_from at begins rows)
 have_row at [] rows row within = tt
-have_row at (begin ∷ begins) rows row within =
-    (omega (arith, length-map (map (cell_at at) rows) (λ (v : Value). begin ++ json_value v), length-map rows (cell_at at)), have_row (at + 1) begins rows row within)
+have_row at (begin ∷ begins) rows row within = (omega (arith, length-map rows (cell_at at)), have_row (at + 1) begins rows row within)
 
-pub have_row_at : (columns : List (List (List ℕ))) (row at : ℕ) → at < length columns → HaveRow row columns → row < length (get_or columns at [])
+pub have_row_at : (members : List (List ℕ × List Value)) (row at : ℕ) → at < length members → HaveRow row members → row < length (get_or members at ([], [])).1
 have_row_at [] row at within have = absurd (omega arith)
-have_row_at (column ∷ columns) row zero within have = have.0
-have_row_at (column ∷ columns) row (suc at) within have = have_row_at columns row at (omega arith) have.1
+have_row_at (m ∷ members) row zero within have = have.0
+have_row_at (m ∷ members) row (suc at) within have = have_row_at members row at (omega arith) have.1
 
 -- the next member of a row
-pub members_more : (columns : List (List (List ℕ))) (row at : ℕ) → at < length columns
-    → members_at row (drop at columns) ≡ get_or (get_or columns at []) row [] ++ members_at row (drop (at + 1) columns)
-members_more columns row at within = rw (drop_more columns at [] within) refl
+pub members_more : (members : List (List ℕ × List Value)) (row at : ℕ) → at < length members
+    → members_at row (drop at members) ≡ ((get_or members at ([], [])).0 ++ json_value (value_at (get_or members at ([], [])).1 row)) ++ members_at row (drop (at + 1) members)
+members_more members row at within = rw (drop_more members at ([], []) within) refl
 
-member_of_row : (begin : List ℕ) (rows : List Row) (at row : ℕ) → row < length rows
-    → get_or (column_members begin (map (cell_at at) rows)) row [] ≡ begin ++ json_value (get_or (get_or rows row []) at values.Null)
-member_of_row begin rows at row within =
-    let within_column : row < length (map (cell_at at) rows) = omega (arith, length-map rows (cell_at at)) in
-    get_or-map (λ (v : Value). begin ++ json_value v) (map (cell_at at) rows) row values.Null [] within_column
-    ∙ ap (λ (v : Value). begin ++ json_value v) (get_or-map (cell_at at) rows row [] values.Null within)
+-- the room that it takes
+pub room_more : (members : List (List ℕ × List Value)) (at : ℕ) → at < length members
+    → members_room (drop at members) ≡ length (get_or members at ([], [])).0 + 20 + members_room (drop (at + 1) members)
+room_more members at within = rw (drop_more members at ([], []) within) refl
+
+pub room_least : (members : List (List ℕ × List Value)) → 3 ≤ members_room members
+room_least [] = omega arith
+room_least (m ∷ members) = omega (arith, room_least members)
+
+pub room_within : (members : List (List ℕ × List Value)) (at : ℕ) → members_room (drop at members) ≤ members_room members
+room_within members zero = omega arith
+room_within [] (suc at) = omega arith
+room_within (m ∷ members) (suc at) = omega (arith, room_within members at)
 
 -- the members of a row are its values after their beginnings
 members_begin : (at : ℕ) (begins : List (List ℕ)) (rows : List Row) (row : ℕ) → row < length rows → at + length begins ≤ length (get_or rows row [])
@@ -110,7 +117,7 @@ members_begin at [] rows row within wide = refl
 members_begin at (begin ∷ begins) rows row within wide =
     let cells : Row = get_or rows row [] in
     let here : at < length cells = omega arith in
-    ap (λ (s : List ℕ). s ++ members_at row (members_from (at + 1) begins rows)) (member_of_row begin rows at row within)
+    ap (λ (v : Value). (begin ++ json_value v) ++ members_at row (members_from (at + 1) begins rows)) (get_or-map (cell_at at) rows row [] values.Null within)
     ∙ (ap (λ (s : List ℕ). (begin ++ json_value (get_or cells at values.Null)) ++ s) (members_begin (at + 1) begins rows row within (omega arith))
     ∙ ap (λ (vs : Row). begun (begin ∷ begins) vs) (sym (drop_more cells at values.Null here)))
 
@@ -129,53 +136,36 @@ members_line names rows row within same =
 
 -- a value under its mark
 masked_at : (valid : List Bool) (vs : List Value) (row : ℕ) → row < length valid → length valid ≡ length vs
-    → get_or (masked valid vs) row values.Null ≡ (if get_or valid row false then get_or vs row values.Null else values.Null)
+    → value_at (masked valid vs) row ≡ (if get_or valid row false then value_at vs row else values.Null)
 masked_at [] vs row within same = absurd (omega arith)
 masked_at (b ∷ valid) [] row within same = absurd (omega arith)
 masked_at (b ∷ valid) (v ∷ vs) zero within same = refl
 masked_at (b ∷ valid) (v ∷ vs) (suc row) within same = masked_at valid vs row (omega arith) (omega arith)
 
-length_masked : (valid : List Bool) (vs : List Value) → length valid ≡ length vs → length (masked valid vs) ≡ length vs
+pub length_masked : (valid : List Bool) (vs : List Value) → length valid ≡ length vs → length (masked valid vs) ≡ length vs
 length_masked [] [] same = refl
 length_masked [] (v ∷ vs) same = absurd (omega arith)
 length_masked (b ∷ valid) [] same = absurd (omega arith)
 length_masked (b ∷ valid) (v ∷ vs) same = ap suc (length_masked valid vs (omega arith))
 
--- there is a member for each value
-pub length_members : (begin : List ℕ) (valid : List Bool) (vs : List Value) → length valid ≡ length vs → length (column_members begin (masked valid vs)) ≡ length vs
-length_members begin valid vs same = length-map (masked valid vs) (λ (v : Value). begin ++ json_value v) ∙ length_masked valid vs same
+-- a value that is lent
+pub value_lent : {X : Type 0} (make : X → Value) (valid : List Bool) (items : List X) (row : ℕ) (d : X) → row < length items → length valid ≡ length (map make items)
+    → value_at (masked valid (map make items)) row ≡ (if get_or valid row false then make (get_or items row d) else values.Null)
+value_lent make valid items row d within same =
+    masked_at valid (map make items) row (omega (arith, length-map items make)) same
+    ∙ ap (λ (v : Value). if get_or valid row false then v else values.Null) (get_or-map make items row d values.Null within)
 
--- one more member of a column
-pub members_of_more : (begin : List ℕ) (valid : List Bool) (vs : List Value) (row : ℕ) (cell : Value) → row < length vs → length valid ≡ length vs
-    → cell ≡ (if get_or valid row false then get_or vs row values.Null else values.Null)
-    → take (row + 1) (column_members begin (masked valid vs)) ≡ take row (column_members begin (masked valid vs)) ++ (begin ++ json_value cell) ∷ []
-members_of_more begin valid vs row cell within same is =
-    let member = λ (v : Value). begin ++ json_value v in
-    let values_within : row < length (masked valid vs) = omega (arith, length_masked valid vs same) in
-    let here : row < length (column_members begin (masked valid vs)) = omega (arith, length-map (masked valid vs) member) in
-    take_more (column_members begin (masked valid vs)) row [] here
-    ∙ ap (λ (m : List ℕ). take row (column_members begin (masked valid vs)) ++ m ∷ [])
-    (get_or-map member (masked valid vs) row values.Null [] values_within
-    ∙ ap member (masked_at valid vs row (omega arith) same ∙ sym is))
+-- there is a mark for each value
+pub lent_within : (self : List ℕ × List Value) (begin : List ℕ) (valid : List Bool) (lent : Lent) (row : ℕ) → (let seen : List ℕ × List Value = (begin, masked valid (lent_values lent)) in seen ≡ self)
+    → length valid ≡ length (lent_values lent) → row < length self.1 → row < length valid
+lent_within self begin valid lent row is same within =
+    let count : length (masked valid (lent_values lent)) ≡ length self.1 = ap (λ (m : List ℕ × List Value). length m.1) is in
+    omega (arith, count, length_masked valid (lent_values lent) same, within)
 
--- a turn of the loop over a column's items puts one member more
-pub member_put : {X : Type 0} (make : X → Value) (begin : List ℕ) (valid : List Bool) (items : List X) (row : ℕ) (d : X) (cell : Value) (members next : List (List ℕ)) → row < length items → length valid ≡ length items
-    → cell ≡ (if get_or valid row false then make (get_or items row d) else values.Null)
-    → members ≡ take row (column_members begin (masked valid (map make items)))
-    → next ≡ members ++ (begin ++ json_value cell) ∷ []
-    → next ≡ take (row + 1) (column_members begin (masked valid (map make items)))
-member_put make begin valid items row d cell members next within same is so_far put =
-    let long = length-map items make in
-    let value : make (get_or items row d) ≡ get_or (map make items) row values.Null = sym (get_or-map make items row d values.Null within) in
-    put
-    ∙ (ap (λ (ms : List (List ℕ)). ms ++ (begin ++ json_value cell) ∷ []) so_far
-    ∙ sym (members_of_more begin valid (map make items) row cell (omega arith) (omega arith) (is ∙ ap (λ (v : Value). if get_or valid row false then v else values.Null) value)))
-
--- at its end there is a member for each item
-pub members_all : {X : Type 0} (make : X → Value) (begin : List ℕ) (valid : List Bool) (items : List X) (row : ℕ) (members : List (List ℕ)) → length items ≤ row → length valid ≡ length items
-    → members ≡ take row (column_members begin (masked valid (map make items)))
-    → members ≡ column_members begin (masked valid (map make items))
-members_all make begin valid items row members past same so_far =
-    let long = length-map items make in
-    let count : length (column_members begin (masked valid (map make items))) ≡ length (map make items) = length_members begin valid (map make items) (omega arith) in
-    so_far ∙ take_all row (column_members begin (masked valid (map make items))) (omega arith)
+-- the member of a row
+pub member_lent : (self : List ℕ × List Value) (begin : List ℕ) (valid : List Bool) (lent : Lent) (vs : List Value) (row : ℕ) (cell : Value)
+    → (let seen : List ℕ × List Value = (begin, masked valid (lent_values lent)) in seen ≡ self) → lent_values lent ≡ vs → cell ≡ value_at (masked valid vs) row
+    → begin ++ json_value cell ≡ self.0 ++ json_value (value_at self.1 row)
+member_lent self begin valid lent vs row cell is lends value =
+    ap (λ (v : Value). begin ++ json_value v) (value ∙ ap (λ (ws : List Value). value_at (masked valid ws) row) (sym lends))
+    ∙ ap (λ (m : List ℕ × List Value). m.0 ++ json_value (value_at m.1 row)) is

@@ -4,7 +4,10 @@ use Rattle.std.specs.List.{flat_map}
 use Rattle.morsel_meaning.specs.declared.value.Value.{Value}
 use Rattle.morsel_meaning.specs.declared.value.Value.TheVariants as values
 use Rattle.morsel_meaning.specs.Values.{Row}
+use Rattle.morsel_frame.specs.Columns.{value_at}
 use Rattle.morsel_frame.specs.Tables.{cell_at}
+use Rattle.morsel_ndjson.specs.declared.members.Lent.{Lent}
+use Rattle.morsel_ndjson.specs.declared.members.Lent.TheVariants as lents
 use Rattle.morsel_ndjson.specs.Ndjson.{json_string, json_value}
 
 -- whether a byte within a string is escaped
@@ -24,29 +27,40 @@ abbrev pub beginnings : ℕ → List (List ℕ) → List (List ℕ)
 beginnings mark [] = []
 beginnings mark (name ∷ names) = beginning mark name ∷ beginnings 44 names
 
+-- the values that a column lends
+abbrev pub lent_values : Lent → List Value
+lent_values (lents.Ints numbers) = map values.Int numbers.now
+lent_values (lents.Bools flags) = map values.Bool flags.now
+lent_values (lents.Texts texts) = map values.Text texts.now
+
+-- what a column's member begins with, and the column's values
+abbrev pub BegunValues : Type 0
+BegunValues = List ℕ × List Value
+
+-- what each column's member begins with, and the column's values; the first column is at this place
+abbrev pub members_from : ℕ → List (List ℕ) → List Row → List (List ℕ × List Value)
+members_from at [] rows = []
+members_from at (begin ∷ begins) rows = (begin, map (cell_at at) rows) ∷ members_from (at + 1) begins rows
+
+-- a row's members, one from each column
+abbrev pub members_at : ℕ → List (List ℕ × List Value) → List ℕ
+members_at row members = flat_map (λ m. m.0 ++ json_value (value_at m.1 row)) members
+
+-- each column has a value for this row
+abbrev pub HaveRow : ℕ → List (List ℕ × List Value) → Type 0
+HaveRow row [] = Unit {0}
+HaveRow row (m ∷ members) = (row < length m.1) × HaveRow row members
+
+-- how many bytes a row takes at most, but for its texts
+abbrev pub members_room : List (List ℕ × List Value) → ℕ
+members_room [] = 3
+members_room (m ∷ members) = length m.0 + 20 + members_room members
+
 -- values, each after its beginning
 abbrev pub begun : List (List ℕ) → Row → List ℕ
 begun [] row = []
 begun (begin ∷ begins) [] = []
 begun (begin ∷ begins) (v ∷ row) = begin ++ json_value v ++ begun begins row
-
--- the members of a column: each value after what it begins with
-abbrev pub column_members : List ℕ → List Value → List (List ℕ)
-column_members begin vs = map (λ v. begin ++ json_value v) vs
-
--- those of all columns, the first of which is at this place
-abbrev pub members_from : ℕ → List (List ℕ) → List Row → List (List (List ℕ))
-members_from at [] rows = []
-members_from at (begin ∷ begins) rows = column_members begin (map (cell_at at) rows) ∷ members_from (at + 1) begins rows
-
--- a row's members, one from each column
-abbrev pub members_at : ℕ → List (List (List ℕ)) → List ℕ
-members_at row columns = flat_map (λ column. get_or column row []) columns
-
--- each column has a member for this row
-abbrev pub HaveRow : ℕ → List (List (List ℕ)) → Type 0
-HaveRow row [] = Unit {0}
-HaveRow row (column ∷ columns) = (row < length column) × HaveRow row columns
 
 -- the end of each line: an object without members has no beginning
 abbrev pub line_end : {A : Type 0} → List A → List ℕ
@@ -57,11 +71,6 @@ line_end (begin ∷ begins) = codes "}\n"
 abbrev pub text_room : Value → ℕ
 text_room (values.Text text) = 6 * length text
 text_room v = 0
-
--- the ends do not fall, and after the last there is room for a word but one byte
-abbrev pub ArePadded : ℕ → List ℕ → List ℕ → Type 0
-ArePadded from [] padded = from + 15 ≤ length padded
-ArePadded from (end ∷ ends) padded = (from ≤ end) × ArePadded end ends padded
 
 -- the text is there from place `at` to place `end`, after what was there before
 pub record Put (old : List ℕ) (at : ℕ) (text : List ℕ) (end : ℕ) (new : List ℕ) : Type 0 where

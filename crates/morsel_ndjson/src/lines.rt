@@ -3,14 +3,17 @@ ghost use Rattle.std.specs.Prelude.{◌≡◌, ◌+◌, ◌≤◌, ◌++◌, len
 ghost use Rattle.morsel_meaning.specs.declared.fault.Fault.TheVariants as faults;
 ghost use Rattle.morsel_meaning.specs.Values.{names_of};
 ghost use Rattle.morsel_ndjson.specs.Ndjson.{ndjson};
-ghost use Rattle.morsel_ndjson.specs.Members.{beginnings, members_from, members_at, line_end, HaveRow, Puts};
+ghost use Rattle.morsel_ndjson.specs.Members.{beginnings, members_from, members_at, members_room, line_end, HaveRow, Puts};
 
 use crate::beginning::{Beginning, make_beginnings};
 use crate::cursor::{make_room, put_byte, put_bytes};
-use crate::members::{Members, make_members};
+use crate::members::{Member, make_members, row_room};
 use morsel_frame::Frame;
 use morsel_meaning::Fault;
-use std::alloc::{AllocError, Global};
+use std::alloc::AllocError;
+
+/// How many bytes most values have at most: an estimate.
+const USUAL_LEN: usize = 10;
 
 /// Appends the rows of the frame as JSON, one object a line; appends nothing where memory runs out.
 pub fn write_ndjson(out: &mut Vec<u8>, frame: &Frame) -> Result<(), Fault>
@@ -38,40 +41,41 @@ fn put_rows(out: &mut Vec<u8>, at: usize, frame: &Frame) -> Result<usize, Fault>
     ensures out_of_memory { IsOkUnless result Fault.OutOfMemory }
 {
     let begins = make_beginnings(*out.allocator(), frame.schema())?;
-    let columns = make_columns(*out.allocator(), &begins, frame)?;
-    Ok(put_lines(out, at, &columns, frame)?)
+    let members = make_members(*out.allocator(), &begins, frame)?;
+    make_usual_room(out, at, &begins, frame.height());
+    Ok(put_lines(out, at, &members, frame)?)
 }
 
-/// The members of each column, with the beginnings at hand.
-fn make_columns(
-    alloc: Global,
-    begins: &[Beginning],
-    frame: &Frame,
-) -> Result<Vec<Members>, AllocError>
-    requires { begins.now ≡ beginnings 123 (names_of frame.now.schema) }
-    ensures { IfOk result (λ columns. columns.items ≡ members_from 0 begins.now frame.now.rows) }
+/// Makes room for lines of a usual length, where there is so much memory.
+fn make_usual_room(out: &mut Vec<u8>, at: usize, begins: &[Beginning], rows: usize)
+    requires { at ≤ length out.old.items }
+    ensures within { at ≤ length out.new.items }
+    ensures same_front { take at out.new.items ≡ take at out.old.items }
 {
-    let mut columns = Vec::with_capacity(alloc, begins.len())?;
-    for at in 0..begins.len() {
-        columns.push(make_members(alloc, &begins[at], frame.column(at))?)?;
+    let mut each: usize = 2;
+    for begin in begins {
+        each = each.saturating_add(begin.len()).saturating_add(USUAL_LEN);
     }
-    Ok(columns)
+    let _ = make_room(out, at, rows.saturating_mul(each));
 }
 
 /// Puts each row as a line, with the members of each column at hand.
 fn put_lines(
     out: &mut Vec<u8>,
     at: usize,
-    columns: &[Members],
+    members: &[Member<'_>],
     frame: &Frame,
 ) -> Result<usize, AllocError>
     requires within { at ≤ length out.old.items }
-    requires columns { columns.now ≡ members_from 0 (beginnings 123 (names_of frame.now.schema)) frame.now.rows }
+    requires members { members.now ≡ members_from 0 (beginnings 123 (names_of frame.now.schema)) frame.now.rows }
     ensures { Puts out.old.items at (ndjson (names_of frame.now.schema) frame.now.rows) result out.new.items }
 {
+    let Some(room) = row_room(members) else {
+        return Err(AllocError)
+    };
     let mut to = at;
     for row in 0..frame.height() {
-        match put_line(out, to, columns, row) {
+        match put_line(out, to, members, row, room) {
             Ok(end) => to = end,
             Err(error) => return Err(error),
         }
@@ -84,35 +88,40 @@ fn put_lines(
 fn put_line(
     out: &mut Vec<u8>,
     at: usize,
-    columns: &[Members],
+    members: &[Member<'_>],
     row: usize,
+    room: usize,
 ) -> Result<usize, AllocError>
     requires within { at ≤ length out.old.items }
-    requires row { HaveRow row columns.now }
-    ensures { Puts out.old.items at (members_at row columns.now ++ line_end columns.now) result out.new.items }
+    requires row { HaveRow row members.now }
+    requires whole { members_room members.now ≤ room }
+    ensures { Puts out.old.items at (members_at row members.now ++ line_end members.now) result out.new.items }
 {
-    let end = put_members(out, at, columns, row)?;
-    let Ok(()) = make_room(out, end, 3) else {
+    let Ok(()) = make_room(out, at, room) else {
         return Err(AllocError)
     };
-    Ok(put_end(out.as_mut_slice(), end, columns.is_empty()))
+    let end = put_members(out, at, members, row, room)?;
+    Ok(put_end(out.as_mut_slice(), end, members.is_empty()))
 }
 
-/// Puts the members of one row.
+/// Puts the members of one row, and leaves room for the end of its line.
 #[inline(always)]
 fn put_members(
     out: &mut Vec<u8>,
     at: usize,
-    columns: &[Members],
+    members: &[Member<'_>],
     row: usize,
+    room: usize,
 ) -> Result<usize, AllocError>
-    requires within { at ≤ length out.old.items }
-    requires row { HaveRow row columns.now }
-    ensures { Puts out.old.items at (members_at row columns.now) result out.new.items }
+    requires row { HaveRow row members.now }
+    requires whole { members_room members.now ≤ room }
+    requires room { at + members_room members.now ≤ length out.old.items }
+    ensures put { Puts out.old.items at (members_at row members.now) result out.new.items }
+    ensures left { IfOk result (λ end. end + 3 ≤ length out.new.items) }
 {
     let mut to = at;
-    for column in 0..columns.len() {
-        match columns[column].put(out, to, row) {
+    for column in 0..members.len() {
+        match members[column].put(out, to, row, room) {
             Ok(end) => to = end,
             Err(error) => return Err(error),
         }

@@ -1,129 +1,186 @@
-//! The members of a column: all its values, each after what it begins with, made before the rows are put together. So the
-//! column's type is asked once, and not for each value.
-ghost use Rattle.std.specs.Prelude.{◌≡◌, ◌+◌, ◌≤◌, ◌<◌, ◌++◌, ◌∷◌, [], length, map, take, drop, get_or, if◌then◌else◌, IfOk, IfSome, OnOk};
+//! Columns as rows are written from them: each value after what its column's member begins with. A column is found in the
+//! frame once, and what it lends is known by its type.
+ghost use Rattle.std.specs.Prelude.{◌≡◌, ◌+◌, ◌≤◌, ◌<◌, ◌++◌, ℕ, pos, false, length, take, get_or, IfOk, IfSome, if◌then◌else◌};
+ghost use Rattle.morsel_meaning.specs.Values.{names_of};
 ghost use Rattle.morsel_frame.specs.Cells.{value_of};
-ghost use Rattle.morsel_frame.specs.Columns.{masked};
+ghost use Rattle.morsel_frame.specs.Columns.{value_at};
 ghost use Rattle.morsel_ndjson.specs.Ndjson.{json_value};
-ghost use Rattle.morsel_frame.specs.Pieces.{pieces};
-ghost use Rattle.morsel_ndjson.specs.Members.{column_members, text_room, ArePadded, Puts};
+ghost use Rattle.morsel_ndjson.specs.Members.{beginnings, members_from, members_room, text_room, Puts};
 
 use crate::beginning::Beginning;
-use crate::cursor::{make_room, put_words};
+use crate::cursor::make_room;
 use crate::values::put_value;
-use morsel_frame::{Cell, Column, Texts};
+use morsel_frame::{Cell, Column, Frame, Texts};
 use morsel_meaning::{ColType, Value};
 use std::alloc::{AllocError, Global};
 use std::marker::Model;
 
-/// Members one after another, and the place where each ends, with room for whole words after the last.
+/// The values that a column lends.
+#[derive(Clone, Copy, Drop)]
+pub enum Lent<'a> {
+    Ints(&'a [i64]),
+    Bools(&'a [bool]),
+    Texts(&'a Texts),
+}
+
+/// What a column's member begins with, which of its values are there, and all its values.
 #[derive(Drop)]
-pub struct Members {
-    padded: Vec<u8>,
-    ends: Vec<usize>,
+pub struct Member<'a> {
+    begin: &'a Beginning,
+    valid: &'a [bool],
+    lent: Lent<'a>,
 }
 
-impl Model for Members {
-    ghost use Rattle.std.specs.Prelude.{ℕ, List};
-    ghost use Rattle.morsel_frame.specs.Pieces.{pieces};
-    ghost use Rattle.morsel_ndjson.specs.Members.{ArePadded};
+impl<'a> Model for Member<'a> {
+    ghost use Rattle.std.specs.Prelude.{◌≡◌, length};
+    ghost use Rattle.morsel_frame.specs.Columns.{masked};
+    ghost use Rattle.morsel_ndjson.specs.Members.{lent_values, BegunValues};
 
-    ghost Value = { List (List ℕ) };
+    ghost Value = { BegunValues };
 
-    ghost view = { λ members. pieces 0 members.ends.items members.padded.items };
+    ghost view = { λ member. (member.begin.now, masked member.valid.now (lent_values member.lent)) };
 
-    ghost invariant = { λ members. ArePadded 0 members.ends.items members.padded.items };
+    ghost invariant = { λ member. length member.valid.now ≡ length (lent_values member.lent) };
 }
 
-impl Members {
-    /// No members, and memory for `count` of them with `each` bytes where there is that much.
-    fn new(alloc: Global, count: usize, each: usize) -> Result<Members, AllocError>
-        ensures { IfOk result (λ members. members ≡ []) }
+impl<'a> Member<'a> {
+    /// The values of a column, each after this beginning.
+    fn new(begin: &'a Beginning, column: &'a Column) -> Member<'a>
+        ensures { result ≡ (begin.now, column.now.values) }
     {
-        let mut padded = Vec::new(alloc);
-        let mut ends = Vec::new(alloc);
-        let _ = make_room(&mut padded, 0, count.saturating_mul(each));
-        let _ = ends.reserve(count);
-        make_room(&mut padded, 0, 15)?;
-        Ok(Members { padded, ends })
+        match column.kind() {
+            ColType::Int => {
+                let (valid, numbers) = column.ints().unwrap();
+                Member {
+                    begin,
+                    valid,
+                    lent: Lent::Ints(numbers),
+                }
+            }
+            ColType::Bool => {
+                let (valid, flags) = column.bools().unwrap();
+                Member {
+                    begin,
+                    valid,
+                    lent: Lent::Bools(flags),
+                }
+            }
+            ColType::Text => {
+                let (valid, texts) = column.texts().unwrap();
+                Member {
+                    begin,
+                    valid,
+                    lent: Lent::Texts(texts),
+                }
+            }
+        }
     }
 
-    /// Puts a column's beginning and a value last, for which `room` is enough unless it is a text.
-    #[inline(always)]
-    fn push(&mut self, begin: &Beginning, room: usize, cell: Cell<'_>) -> Result<(), AllocError>
-        requires { length begin.now + 35 ≤ room }
-        ensures ok { OnOk result (self.new ≡ self.old ++ (begin.now ++ json_value (value_of cell.entry)) ∷ []) }
+    /// The room for a value and what it begins with, where the value is no text.
+    fn room(&self) -> Option<usize>
+        ensures { IfSome result (λ room. room ≡ length self.now.0 + 20) }
     {
-        let at = last_end(self.ends.as_slice());
-        let Some(more) = with_text_room(room, cell) else {
-            return Err(AllocError)
+        self.begin.len().checked_add(20)
+    }
+
+    /// Puts the member of a row. As much room as there was after it, up to `room`, there is again.
+    #[inline(always)]
+    pub fn put(
+        &self,
+        out: &mut Vec<u8>,
+        at: usize,
+        row: usize,
+        room: usize,
+    ) -> Result<usize, AllocError>
+        requires row { row < length self.now.1 }
+        requires room { at + (length self.now.0 + 20) ≤ length out.old.items }
+        ensures put { Puts out.old.items at (self.now.0 ++ json_value (value_at self.now.1 row)) result out.new.items }
+        ensures left { IfOk result (λ end. (more : ℕ) → more ≤ room →
+            at + (length self.now.0 + 20) + more ≤ length out.old.items → end + more ≤ length out.new.items) }
+    {
+        let valid = self.valid[row];
+        match self.lent {
+            Lent::Ints(numbers) => {
+                let cell = int_at(valid, numbers, row);
+                Ok(put_member_at(out, at, self.begin, cell))
+            }
+            Lent::Bools(flags) => {
+                let cell = bool_at(valid, flags, row);
+                Ok(put_member_at(out, at, self.begin, cell))
+            }
+            Lent::Texts(texts) => {
+                let cell = text_cell(valid, texts.get(row));
+                put_text_member(out, at, self.begin, cell, room)
+            }
+        }
+    }
+}
+
+/// The members of all columns, with the beginnings at hand.
+pub fn make_members<'a>(
+    alloc: Global,
+    begins: &'a [Beginning],
+    frame: &'a Frame,
+) -> Result<Vec<Member<'a>>, AllocError>
+    requires { begins.now ≡ beginnings 123 (names_of frame.now.schema) }
+    ensures { IfOk result (λ members. members.items ≡ members_from 0 begins.now frame.now.rows) }
+{
+    let mut members = Vec::with_capacity(alloc, begins.len())?;
+    for at in 0..begins.len() {
+        members.push(Member::new(&begins[at], frame.column(at)))?;
+    }
+    Ok(members)
+}
+
+/// The room for a row, but for its texts.
+pub fn row_room(members: &[Member<'_>]) -> Option<usize>
+    ensures { IfSome result (λ room. room ≡ members_room members.now) }
+{
+    let mut room: usize = 3;
+    for at in 0..members.len() {
+        let Some(more) = members[at].room() else {
+            return None;
         };
-        make_room(&mut self.padded, at, more)?;
-        let end = put_member_at(&mut self.padded, at, begin, cell);
-        self.ends.push(end)?;
-        Ok(())
+        let Some(sum) = room.checked_add(more) else {
+            return None;
+        };
+        room = sum;
     }
+    Some(room)
+}
 
-    /// Puts the member of a row.
-    #[inline(always)]
-    pub fn put(&self, out: &mut Vec<u8>, at: usize, row: usize) -> Result<usize, AllocError>
-        requires within { at ≤ length out.old.items }
-        requires row { row < length self.now }
-        ensures { Puts out.old.items at (get_or self.now row []) result out.new.items }
-    {
-        put_piece(out, at, self.padded.as_slice(), self.ends.as_slice(), row)
+/// The number at a place, under its mark.
+#[inline(always)]
+fn int_at(valid: bool, numbers: &[i64], at: usize) -> Cell<'static>
+    requires { at < length numbers.now }
+    ensures { value_of result ≡ (if valid then Value.Int (get_or numbers.now at (pos 0)) else Value.Null) }
+{
+    if valid {
+        Cell::Int(numbers[at])
+    } else {
+        Cell::Null
     }
 }
 
-/// Puts one of the pieces that end at these places.
+/// The truth value at a place, under its mark.
 #[inline(always)]
-fn put_piece(
-    out: &mut Vec<u8>,
-    at: usize,
-    padded: &[u8],
-    ends: &[usize],
-    row: usize,
-) -> Result<usize, AllocError>
-    requires within { at ≤ length out.old.items }
-    requires row { row < length ends.now }
-    requires padded { ArePadded 0 ends.now padded.now }
-    ensures { Puts out.old.items at (get_or (pieces 0 ends.now padded.now) row []) result out.new.items }
+fn bool_at(valid: bool, flags: &[bool], at: usize) -> Cell<'static>
+    requires { at < length flags.now }
+    ensures { value_of result ≡ (if valid then Value.Bool (get_or flags.now at false) else Value.Null) }
 {
-    let from = start(ends, row);
-    put_part(out, at, padded, from, ends[row] - from)
+    if valid {
+        Cell::Bool(flags[at])
+    } else {
+        Cell::Null
+    }
 }
 
-/// Puts `len` bytes from place `from` on.
+/// A text under its mark.
 #[inline(always)]
-fn put_part(
-    out: &mut Vec<u8>,
-    at: usize,
-    padded: &[u8],
-    from: usize,
-    len: usize,
-) -> Result<usize, AllocError>
-    requires within { at ≤ length out.old.items }
-    requires padded { from + len + 15 ≤ length padded.now }
-    ensures { Puts out.old.items at (take len (drop from padded.now)) result out.new.items }
+fn text_cell(valid: bool, text: &str) -> Cell<'_>
+    ensures { value_of result ≡ (if valid then Value.Text text.now else Value.Null) }
 {
-    make_room(out, at, len + 15)?;
-    Ok(put_words(out.as_mut_slice(), at, &padded[from..], len))
-}
-
-/// The place where a member begins: where the one before it ends.
-#[inline(always)]
-fn start(ends: &[usize], at: usize) -> usize
-    requires { at ≤ length ends.now }
-    ensures { result ≡ get_or (0 ∷ ends.now) at 0 }
-{
-    if at == 0 { 0 } else { ends[at - 1] }
-}
-
-/// The place where the last member ends.
-#[inline(always)]
-fn last_end(ends: &[usize]) -> usize
-    ensures { result ≡ get_or (0 ∷ ends.now) (length ends.now) 0 }
-{
-    start(ends, ends.len())
+    if valid { Cell::Text(text) } else { Cell::Null }
 }
 
 /// The room, and more of it for a text.
@@ -140,28 +197,38 @@ fn with_text_room(room: usize, cell: Cell<'_>) -> Option<usize>
     most.checked_add(room)
 }
 
-/// A number under its mark.
+/// The room for a member, and so much after it.
 #[inline(always)]
-fn int_cell(valid: bool, number: i64) -> Cell<'static>
-    ensures { value_of result ≡ (if valid then Value.Int number else Value.Null) }
+fn member_room(begin: &Beginning, cell: Cell<'_>, room: usize) -> Option<usize>
+    ensures { IfSome result (λ more. more ≡ length begin.now + 20 + room + text_room (value_of cell.entry)) }
 {
-    if valid { Cell::Int(number) } else { Cell::Null }
+    let Some(own) = begin.len().checked_add(20) else {
+        return None;
+    };
+    let Some(all) = own.checked_add(room) else {
+        return None;
+    };
+    with_text_room(all, cell)
 }
 
-/// A truth value under its mark.
+/// Puts a beginning and a text, with so much room after it.
 #[inline(always)]
-fn bool_cell(valid: bool, flag: bool) -> Cell<'static>
-    ensures { value_of result ≡ (if valid then Value.Bool flag else Value.Null) }
+fn put_text_member(
+    out: &mut Vec<u8>,
+    at: usize,
+    begin: &Beginning,
+    cell: Cell<'_>,
+    room: usize,
+) -> Result<usize, AllocError>
+    requires { at ≤ length out.old.items }
+    ensures put { Puts out.old.items at (begin.now ++ json_value (value_of cell.entry)) result out.new.items }
+    ensures left { IfOk result (λ end. end + room ≤ length out.new.items) }
 {
-    if valid { Cell::Bool(flag) } else { Cell::Null }
-}
-
-/// A text under its mark.
-#[inline(always)]
-fn text_cell(valid: bool, text: &str) -> Cell<'_>
-    ensures { value_of result ≡ (if valid then Value.Text text.now else Value.Null) }
-{
-    if valid { Cell::Text(text) } else { Cell::Null }
+    let Some(more) = member_room(begin, cell, room) else {
+        return Err(AllocError)
+    };
+    make_room(out, at, more)?;
+    Ok(put_member_at(out, at, begin, cell))
 }
 
 /// Puts a beginning and a value, for which there is room.
@@ -171,6 +238,7 @@ fn put_member_at(out: &mut Vec<u8>, at: usize, begin: &Beginning, cell: Cell<'_>
     ensures rises { at ≤ result }
     ensures within { result ≤ at + (length begin.now + (20 + text_room (value_of cell.entry))) }
     ensures same_len { length out.new.items ≡ length out.old.items }
+    ensures inside { result ≤ length out.new.items }
     ensures written { take result out.new.items ≡ take at out.old.items ++ (begin.now ++ json_value (value_of cell.entry)) }
 {
     put_member(out.as_mut_slice(), at, begin, cell)
@@ -186,90 +254,4 @@ fn put_member(out: &mut [u8], at: usize, begin: &Beginning, cell: Cell<'_>) -> u
 {
     let at = begin.put(out, at);
     put_value(out, at, cell)
-}
-
-/// The members of a column, each with this beginning.
-pub fn make_members(
-    alloc: Global,
-    begin: &Beginning,
-    column: &Column,
-) -> Result<Members, AllocError>
-    ensures { IfOk result (λ members. members ≡ column_members begin.now column.now.values) }
-{
-    let Some(room) = begin.len().checked_add(35) else {
-        return Err(AllocError)
-    };
-    match column.kind() {
-        ColType::Int => {
-            let (valid, numbers) = column.ints().unwrap();
-            int_members(alloc, begin, room, valid, numbers)
-        }
-        ColType::Bool => {
-            let (valid, flags) = column.bools().unwrap();
-            bool_members(alloc, begin, room, valid, flags)
-        }
-        ColType::Text => {
-            let (valid, texts) = column.texts().unwrap();
-            text_members(alloc, begin, room, valid, texts)
-        }
-    }
-}
-
-/// The members of numbers.
-fn int_members(
-    alloc: Global,
-    begin: &Beginning,
-    room: usize,
-    valid: &[bool],
-    numbers: &[i64],
-) -> Result<Members, AllocError>
-    requires room { length begin.now + 35 ≤ room }
-    requires valid { length valid.now ≡ length numbers.now }
-    ensures { IfOk result (λ members. members ≡ column_members begin.now (masked valid.now (map Value.Int numbers.now))) }
-{
-    // Most numbers have at most ten digits: an estimate.
-    let mut members = Members::new(alloc, numbers.len(), room - 25)?;
-    for row in 0..numbers.len() {
-        members.push(begin, room, int_cell(valid[row], numbers[row]))?;
-    }
-    Ok(members)
-}
-
-/// The members of truth values.
-fn bool_members(
-    alloc: Global,
-    begin: &Beginning,
-    room: usize,
-    valid: &[bool],
-    flags: &[bool],
-) -> Result<Members, AllocError>
-    requires room { length begin.now + 35 ≤ room }
-    requires valid { length valid.now ≡ length flags.now }
-    ensures { IfOk result (λ members. members ≡ column_members begin.now (masked valid.now (map Value.Bool flags.now))) }
-{
-    let mut members = Members::new(alloc, flags.len(), room - 30)?;
-    for row in 0..flags.len() {
-        members.push(begin, room, bool_cell(valid[row], flags[row]))?;
-    }
-    Ok(members)
-}
-
-/// The members of texts.
-fn text_members(
-    alloc: Global,
-    begin: &Beginning,
-    room: usize,
-    valid: &[bool],
-    texts: &Texts,
-) -> Result<Members, AllocError>
-    requires room { length begin.now + 35 ≤ room }
-    requires valid { length valid.now ≡ length texts.now }
-    ensures { IfOk result (λ members. members ≡ column_members begin.now (masked valid.now (map Value.Text texts.now))) }
-{
-    // Most texts are short: an estimate.
-    let mut members = Members::new(alloc, texts.len(), room - 15)?;
-    for row in 0..texts.len() {
-        members.push(begin, room, text_cell(valid[row], texts.get(row)))?;
-    }
-    Ok(members)
 }

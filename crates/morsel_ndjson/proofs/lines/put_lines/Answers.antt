@@ -8,7 +8,7 @@ use Rattle.morsel_ndjson.proofs.lines.put_lines.Goals as goal
 
 pub put_line-requires-clause-row : goal.put_line-requires-clause-row
 put_line-requires-clause-row c =
-    rw c.requires.columns (have_row 0 (beginnings 123 (names_of c.args.frame.now.schema)) c.args.frame.now.rows c.loop-row.row (omega (arith, c.loop-row-test.true, c.height-row-end.ensures.len)))
+    rw c.requires.members (have_row 0 (beginnings 123 (names_of c.args.frame.now.schema)) c.args.frame.now.rows c.loop-row.row (omega (arith, c.loop-row-test.true, c.height-row-end.ensures.len)))
 
 pub loop-row-preserved : goal.loop-row-preserved
 loop-row-preserved c =
@@ -23,9 +23,9 @@ loop-row-preserved c =
       rises = omega (arith, c.in-Ok.ensures.rises);
       within = c.in-Ok.ensures.within;
       written = one_more c.args.out.now.items c.loop-row.out.items c.put_line.new.out.items c.args.at c.loop-row.to c.in-Ok.end
-          (members_at c.loop-row.row c.args.columns.now ++ line_end c.args.columns.now) (ndjson names (drop (c.loop-row.row + 1) rows)) _
+          (members_at c.loop-row.row c.args.members.now ++ line_end c.args.members.now) (ndjson names (drop (c.loop-row.row + 1) rows)) _
           c.in-Ok.ensures.written
-          (rw c.requires.columns (rw line (rw next at c.loop-row.invariant.written)));
+          (rw c.requires.members (rw line (rw next at c.loop-row.invariant.written)));
     }
 
 pub returns-in-Err : goal.returns-in-Err
