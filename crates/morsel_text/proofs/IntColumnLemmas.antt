@@ -12,7 +12,7 @@ use Rattle.morsel_text.specs.RawFields.{shown}
 use Rattle.morsel_text.specs.Batches.{IsColumnOf}
 use Rattle.morsel_text.specs.declared.raw_field.RawField.{RawField}
 
-masked_more : (valid : List Bool) (vs : List Value) (b : Bool) (v : Value) → length valid ≡ length vs → masked (valid ++ b ∷ []) (vs ++ v ∷ []) ≡ masked valid vs ++ (if b then v else values.Null) ∷ []
+pub masked_more : (valid : List Bool) (vs : List Value) (b : Bool) (v : Value) → length valid ≡ length vs → masked (valid ++ b ∷ []) (vs ++ v ∷ []) ≡ masked valid vs ++ (if b then v else values.Null) ∷ []
 masked_more [] [] b v same = refl
 masked_more [] (w ∷ vs) b v same = absurd (omega arith)
 masked_more (a ∷ valid) [] b v same = absurd (omega arith)

@@ -13,3 +13,8 @@ pub mod BatchStepLemmas
 pub mod TurnLemmas
 pub mod PlainLemmas
 pub mod IntColumnLemmas
+pub mod MarkedLemmas
+pub mod MarkedReadLemmas
+pub mod KeptLemmas
+pub mod TextRoomLemmas
+pub mod MarkedTextLemmas

@@ -11,14 +11,12 @@ use Rattle.morsel_meaning.specs.Values.{Row, kinds_of}
 use Rattle.morsel_frame.specs.Columns.{Values}
 use Rattle.morsel_frame.specs.Frames.{with_column, rows_of, Fit}
 use Rattle.morsel_grammar.specs.Dialect.{Dialect}
-use Rattle.morsel_grammar.specs.Grammar.{CsvRecord, Fields}
+use Rattle.morsel_grammar.specs.Grammar.{CsvRecord}
 use Rattle.morsel_grammar.specs.Cells.{CsvCell}
 use Rattle.morsel_grammar.specs.Rows.{RowOf, IsRow, row_of, is_header}
 use Rattle.morsel_grammar.specs.Split.{record_at}
 use Rattle.morsel_grammar.specs.Reading.{Reading, Read, Refusal, NotUtf8, refuses, row_then, record_then, split_then, reading_up_to, read_of, used_values, chosen}
 use Rattle.morsel_grammar.specs.Results.{IsRefused}
-use Rattle.morsel_text.specs.RawFields.{shown}
-use Rattle.morsel_text.specs.declared.raw_field.RawField.{RawField}
 use Rattle.morsel_text.specs.Pushes.{column_kinds, with_row}
 use Rattle.morsel_text.specs.Steps.{left, row_first, GainsRow, AreHigh, empty_columns}
 
@@ -59,11 +57,6 @@ pub row_step : (n : ℕ) (o : Dialect) (ks : List ColType) (used : List Bool) (a
     → record_at o text ≡ Some (r, rest) → is_utf8 (take (length text - length rest) text) ≡ true
     → left (suc n) o ks used false at text ≡ read_of used (row_then false at (row_of o ks r) (reading_up_to n o ks false (at + (length text - length rest)) rest))
 row_step n o ks used at text rest r some is utf8 = ap (read_of used) (row_reading n o ks at text rest r some is utf8)
-
-pub shown_record : (o : Dialect) (text rest : List ℕ) (raws slice : List RawField) → slice ≡ raws → record_at o text ≡ Some (Fields (map shown raws), rest)
-    → record_at o text ≡ Some (Fields (map shown slice), rest)
-shown_record o text rest raws slice same is =
-    is ∙ ap (λ (fs : List RawField). let p : CsvRecord × List ℕ = (Fields (map shown fs), rest) in Some p) (sym same)
 
 pub row_steps : (n : ℕ) (o : Dialect) (ks : List ColType) (used : List Bool) (head : Bool) (at : ℕ) (text rest : List ℕ) (r : CsvRecord) (row : Option Row) → 0 < length text
     → record_at o text ≡ Some (r, rest) → is_utf8 (take (length text - length rest) text) ≡ true → head ≡ false

@@ -6,3 +6,5 @@ pub mod RowPlaces
 pub mod Steps
 pub mod Batches
 pub mod Plain
+pub mod MarkedColumns
+pub mod MarkedReads

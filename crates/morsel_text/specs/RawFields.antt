@@ -63,17 +63,26 @@ with_front front (Some found) = Some (front ++ found.0, found.1)
 abbrev pub AreRawFields : Dialect → List ℕ → List RawField → List ℕ → Type 0
 AreRawFields o text fields rest = fields_up_to (length text + 1) o text ≡ Some (map shown fields, rest)
 
--- the fields that a text begins with, and what follows them
-abbrev pub FieldsAre : Dialect → List ℕ → List RawField → Split → Type 0
-FieldsAre o text fields (splits.Fields rest) = AreRawFields o text fields rest.now
-FieldsAre o text fields (splits.Comment rest) = ⊥
-FieldsAre o text fields splits.Broken = fields_up_to (length text + 1) o text ≡ None
+-- of all fields of a record these are kept: a front of them, which is all or at least `limit` fields, and never many more
+pub record AreKept (limit : ℕ) (kept all : List CsvField) : Type 0 where
+  pub passed : List CsvField
+  pub front : all ≡ kept ++ passed
+  pub enough : 0 < length passed → limit ≤ length kept
+  pub few : length kept ≤ limit + 64
 
--- the record that a text begins with, and what follows it
-abbrev pub SplitsInto : Dialect → List ℕ → List RawField → Split → Type 0
-SplitsInto o text fields (splits.Fields rest) = record_at o text ≡ Some (Fields (map shown fields), rest.now)
-SplitsInto o text fields (splits.Comment rest) = (body : List ℕ) × (record_at o text ≡ Some (Comment body, rest.now))
-SplitsInto o text fields splits.Broken = record_at o text ≡ None
+-- the fields that a text begins with, of which these are kept, and what follows all of them
+abbrev pub FieldsAre : Dialect → ℕ → List ℕ → List RawField → Split → Type 0
+FieldsAre o limit text fields (splits.Fields rest) = (all : List CsvField)
+    × (fields_up_to (length text + 1) o text ≡ Some (all, rest.now)) × AreKept limit (map shown fields) all
+FieldsAre o limit text fields (splits.Comment rest) = ⊥
+FieldsAre o limit text fields splits.Broken = fields_up_to (length text + 1) o text ≡ None
+
+-- the record that a text begins with, of whose fields these are kept, and what follows it
+abbrev pub SplitsInto : Dialect → ℕ → List ℕ → List RawField → Split → Type 0
+SplitsInto o limit text fields (splits.Fields rest) = (all : List CsvField)
+    × (record_at o text ≡ Some (Fields all, rest.now)) × AreKept limit (map shown fields) all
+SplitsInto o limit text fields (splits.Comment rest) = (body : List ℕ) × (record_at o text ≡ Some (Comment body, rest.now))
+SplitsInto o limit text fields splits.Broken = record_at o text ≡ None
 
 -- how many bytes are left
 abbrev pub split_len : Split → ℕ

@@ -100,12 +100,13 @@ fn split_rows<'a>(
     ensures texts { OnOk result (AreTextColumns batch.new.items) }
     ensures out_of_memory { IsOkUnless result Fault.OutOfMemory }
 {
+    let limit = batch.len() + 2;
     let mut rest = text;
     for row in 0..BATCH_ROWS {
         if rest.is_empty() {
             return Ok((rest, row));
         }
-        match split_record(rest, options, fields)? {
+        match split_record(rest, options, limit, fields)? {
             Split::Fields(after) => {
                 if is_empty(fields.as_slice()) || fields.len() != batch.len() {
                     return Ok((rest, row));
@@ -192,7 +193,7 @@ fn made_columns(
 }
 
 /// Puts the values of each column that was made below those of its column.
-fn append_columns(columns: &mut Vec<Column>, made: &[Column]) -> Result<(), Fault>
+pub fn append_columns(columns: &mut Vec<Column>, made: &[Column]) -> Result<(), Fault>
     requires kinds { column_kinds made.now ≡ column_kinds columns.old.items }
     requires width { length made.now ≡ length columns.old.items }
     ensures ok { OnOk result (columns.new.items ≡ appended columns.old.items made.now) }

@@ -44,7 +44,7 @@ fn number_cell(text: &str, options: &CsvOptions) -> IntCell
 ///
 /// Its fault is the small `AllocError`, since it is called for each cell.
 #[inline(always)]
-fn int_cell(
+pub fn int_cell(
     field: RawField<'_>,
     options: &CsvOptions,
     content: &mut Vec<u8>,

@@ -69,7 +69,8 @@ fn skip_record<'a>(
     ensures within { IfOk result (λ skip. skip_len skip ≤ length text.now) }
     ensures out_of_memory { IsOkUnless result Fault.OutOfMemory }
 {
-    match split_record(text, options, fields)? {
+    let width = schema.fields().len();
+    match split_record(text, options, width + 2, fields)? {
         Split::Fields(rest) => {
             if !is_text(&text[..text.len() - rest.len()]) {
                 return Ok(Skip::Refused);
@@ -77,7 +78,7 @@ fn skip_record<'a>(
             if head {
                 return Ok(Skip::Other(rest, is_empty(fields.as_slice())));
             }
-            match row_kind(fields.as_slice(), schema.len()) {
+            match row_kind(fields.as_slice(), width) {
                 RowKind::Row => Ok(Skip::Row(rest)),
                 RowKind::NoRow => Ok(Skip::Other(rest, false)),
                 RowKind::Misfit => Ok(Skip::Refused),

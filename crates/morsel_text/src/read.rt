@@ -1,5 +1,5 @@
 //! Reading whole records into a frame.
-ghost use Rattle.std.specs.Prelude.{◌≡◌, ◌+◌, ◌<◌, ◌≤◌, ◌^◌, length, map, IfOk, IsTrue, IsUtf8};
+ghost use Rattle.std.specs.Prelude.{◌≡◌, ◌+◌, ◌<◌, ◌≤◌, ◌^◌, [], length, map, IfOk, IsTrue, IsUtf8};
 ghost use Rattle.morsel_meaning.specs.Values.{kinds_of};
 ghost use Rattle.morsel_grammar.specs.Dialect.{IsDialect};
 ghost use Rattle.morsel_grammar.specs.Grammar.{Fields};
@@ -14,8 +14,10 @@ ghost use Rattle.morsel_text.specs.Batches.{TurnsTo};
 
 use crate::batch::read_batch;
 use crate::choice::{chosen_columns, chosen_schema, columns_of};
+use crate::marked::read_marked;
 use crate::raw_field::RawField;
 use crate::reader::{Reader, Step};
+use crate::room::ReadRoom;
 use crate::rows::{RowPushed, is_empty, push_record};
 use crate::split::{Split, split_record};
 use crate::text::is_text;
@@ -64,7 +66,7 @@ fn read_record<'a>(
     ensures shorter { IfOk result (λ step. length step.rest.now < length text.now) }
     ensures utf8 { IfOk result (λ step. IsUtf8 text.now → IsUtf8 step.rest.now) }
 {
-    match split_record(text, reader.options, fields)? {
+    match split_record(text, reader.options, columns.len() + 2, fields)? {
         Split::Fields(rest) => {
             if !is_text(&text[..text.len() - rest.len()]) {
                 return Err(reader.not_computed(ComputeKind::NotUtf8, at));
@@ -141,6 +143,75 @@ fn read_turn<'a>(
     }
 }
 
+/// What follows a text within it: nothing.
+fn end_of(text: &[u8]) -> &[u8]
+    ensures { result.now ≡ [] }
+{
+    &text[text.len()..]
+}
+
+/// Reads all rows of a text by their marks, or where that is not to be, what one turn reads. It is tried once.
+fn read_more<'a>(
+    reader: &Reader<'_>,
+    text: &'a [u8],
+    at: u64,
+    head: bool,
+    is_utf8: bool,
+    tries_marks: &mut bool,
+    columns: &mut Vec<Column>,
+    fields: &mut Vec<RawField<'a>>,
+    room: &mut ReadRoom,
+) -> Result<Step<'a>, Fault>
+    requires some { 0 < length text.now }
+    requires used { length reader.now.used.now ≡ length columns.old.items }
+    requires fit { IsDialect reader.now.options.now }
+    requires utf8 { IsTrue is_utf8 → IsUtf8 text.now }
+    ensures turns { TurnsTo reader.now.options.now reader.now.used.now reader.now.file head at text.now
+        columns.old.items result columns.new.items }
+    ensures shorter { IfOk result (λ step. length step.rest.now < length text.now) }
+    ensures room { IfOk result (λ step. step.rows + length step.rest.now ≤ length text.now) }
+    ensures utf8 { IfOk result (λ step. IsUtf8 text.now → IsUtf8 step.rest.now) }
+{
+    if head || !is_utf8 || !*tries_marks {
+        return read_turn(
+            reader,
+            text,
+            at,
+            head,
+            is_utf8,
+            columns,
+            fields,
+            &mut room.content,
+        );
+    }
+    *tries_marks = false;
+    match read_marked(
+        reader.alloc,
+        text,
+        columns,
+        reader.used,
+        reader.options,
+        &mut room.places,
+        &mut room.content,
+    )? {
+        Some(rows) => Ok(Step {
+            rest: end_of(text),
+            head: false,
+            rows,
+        }),
+        None => read_turn(
+            reader,
+            text,
+            at,
+            head,
+            is_utf8,
+            columns,
+            fields,
+            &mut room.content,
+        ),
+    }
+}
+
 /// Reads record after record, and says how many rows they gave and whether the header is still to come.
 fn read_all(
     reader: &Reader<'_>,
@@ -148,6 +219,7 @@ fn read_all(
     at: u64,
     head: bool,
     columns: &mut Vec<Column>,
+    room: &mut ReadRoom,
 ) -> Result<(usize, bool), Fault>
     requires places { at + length bytes.now < 2 ^ 64 }
     requires used { length reader.now.used.now ≡ length columns.old.items }
@@ -160,8 +232,8 @@ fn read_all(
 {
     // Most texts are UTF-8: then their records are read many at once, and are not tested one by one.
     let is_utf8 = is_text(bytes);
+    let mut tries_marks = true;
     let mut fields = Vec::new(reader.alloc);
-    let mut content = Vec::new(reader.alloc);
     let mut rest = bytes;
     let mut place = at;
     let mut awaits_header = head;
@@ -170,15 +242,16 @@ fn read_all(
         if rest.is_empty() {
             return Ok((height, awaits_header));
         }
-        let step = read_turn(
+        let step = read_more(
             reader,
             rest,
             place,
             awaits_header,
             is_utf8,
+            &mut tries_marks,
             columns,
             &mut fields,
-            &mut content,
+            room,
         )?;
         place += (rest.len() - step.rest.len()) as u64;
         rest = step.rest;
@@ -204,6 +277,7 @@ fn read_columns(
     bytes: &[u8],
     at: u64,
     head: bool,
+    room: &mut ReadRoom,
 ) -> Result<ColumnsRead, Fault>
     requires places { at + length bytes.now < 2 ^ 64 }
     requires used { length reader.now.used.now ≡ length reader.now.schema.now }
@@ -213,7 +287,7 @@ fn read_columns(
         (reading reader.now.options.now (kinds_of reader.now.schema.now) head at bytes.now)) result }
 {
     let mut columns = columns_of(reader.alloc, reader.schema)?;
-    let (height, awaits_header) = read_all(reader, bytes, at, head, &mut columns)?;
+    let (height, awaits_header) = read_all(reader, bytes, at, head, &mut columns, room)?;
     let kept = chosen_columns(reader.alloc, &mut columns, reader.used)?;
     Ok(ColumnsRead {
         columns: kept,
@@ -228,6 +302,7 @@ fn read_frame(
     bytes: &[u8],
     at: u64,
     head: bool,
+    room: &mut ReadRoom,
 ) -> Result<(Frame, bool), Fault>
     requires places { at + length bytes.now < 2 ^ 64 }
     requires used { length reader.now.used.now ≡ length reader.now.schema.now }
@@ -236,7 +311,7 @@ fn read_frame(
         (read_of reader.now.used.now
         (reading reader.now.options.now (kinds_of reader.now.schema.now) head at bytes.now)) result }
 {
-    let read = read_columns(reader, bytes, at, head)?;
+    let read = read_columns(reader, bytes, at, head, room)?;
     let ColumnsRead {
         columns,
         height,
@@ -266,6 +341,30 @@ pub fn read_records(
         (read_of used.now (reading options.now (kinds_of schema.now) head at bytes.now)) result }
     ensures grammar { ReadsOfGrammar file options.now schema.now used.now head at bytes.now result }
 {
+    let mut room = ReadRoom::new(alloc);
+    read_records_with(
+        alloc, bytes, at, file, schema, used, head, options, &mut room,
+    )
+}
+
+/// Reads whole records as `read_records` does, with room that is kept from one text to the next.
+pub fn read_records_with(
+    alloc: Global,
+    bytes: &[u8],
+    at: u64,
+    file: u32,
+    schema: &Schema,
+    used: &[bool],
+    head: bool,
+    options: &CsvOptions,
+    room: &mut ReadRoom,
+) -> Result<(Frame, bool), Fault>
+    requires places { at + length bytes.now < 2 ^ 64 }
+    requires used { length used.now ≡ length schema.now }
+    ensures reading { ReadsRecords file schema.now used.now
+        (read_of used.now (reading options.now (kinds_of schema.now) head at bytes.now)) result }
+    ensures grammar { ReadsOfGrammar file options.now schema.now used.now head at bytes.now result }
+{
     // Only the proof needs this call: its clause says that these options do not contradict each other.
     let _comment = options.comment();
     let reader = Reader {
@@ -275,5 +374,5 @@ pub fn read_records(
         used,
         options,
     };
-    read_frame(&reader, bytes, at, head)
+    read_frame(&reader, bytes, at, head, room)
 }

@@ -2,11 +2,12 @@
 //!
 //! Out of memory is an `AllocError` here and for each number (`ints`): it has no content, where a `Fault` may own a name,
 //! which would make the loops over records and cells pass more on.
-ghost use Rattle.std.specs.Prelude.{◌≡◌, ◌==◌, ◌+◌, not, ◌≤◌, length, take, drop, IfSome, IfOk, IsOkUnless, option_copied, OnOk};
+ghost use Rattle.std.specs.Prelude.{◌≡◌, ◌==◌, ◌+◌, ◌++◌, ◌∷◌, [], not, ◌≤◌, List, length, map, take, drop, IfSome, IfOk, option_copied, OnOk};
 ghost use Rattle.std.specs.List.{prefix_len};
 ghost use Rattle.morsel_grammar.specs.Dialect.{IsDialect};
+ghost use Rattle.morsel_grammar.specs.Grammar.{CsvField};
 ghost use Rattle.morsel_grammar.specs.Split.{plain_at, quoted_at, in_quotes, field_at, line_at};
-ghost use Rattle.morsel_text.specs.RawFields.{IsRun, PassedTo, content_of, shown_found, rest_of, FieldsAre, SplitsInto, split_len};
+ghost use Rattle.morsel_text.specs.RawFields.{IsRun, PassedTo, content_of, shown, shown_found, rest_of, AreKept, FieldsAre, SplitsInto, split_len};
 
 mod line;
 
@@ -45,7 +46,7 @@ fn lane_len(lane: u8x16, byte: u8) -> usize
 
 /// How many of the 16 bytes from a place come before the first separator or eol.
 #[inline(always)]
-fn run_len(text: &[u8], at: usize, separator: u8, eol: u8) -> usize
+pub fn run_len(text: &[u8], at: usize, separator: u8, eol: u8) -> usize
     requires { at + LANES ≤ length text.now }
     ensures { IsRun separator eol text.now at result }
 {
@@ -159,7 +160,7 @@ fn quoted(text: &[u8], quote: u8) -> Option<(RawField<'_>, &[u8])>
 
 /// The field that the text begins with.
 #[inline(always)]
-fn field<'a>(text: &'a [u8], options: &CsvOptions) -> Option<(RawField<'a>, &'a [u8])>
+pub fn field<'a>(text: &'a [u8], options: &CsvOptions) -> Option<(RawField<'a>, &'a [u8])>
     ensures value { shown_found result ≡ field_at options.now text.now }
     ensures within { IfSome result (λ found. length found.1.now ≤ length text.now) }
 {
@@ -173,13 +174,30 @@ fn field<'a>(text: &'a [u8], options: &CsvOptions) -> Option<(RawField<'a>, &'a 
     Some((RawField::Plain(&text[..len]), &text[len..]))
 }
 
-/// Splits the record that the text begins with into its fields.
+/// Puts the field that follows all up to here last, where fewer fields than the limit are kept.
+#[inline(always)]
+fn keep<'a>(
+    field: RawField<'a>,
+    limit: usize,
+    fields: &mut Vec<RawField<'a>>,
+) -> Result<(), AllocError>
+    ensures { OnOk result ((all : List CsvField) → AreKept limit (map shown fields.old.items) all →
+        AreKept limit (map shown fields.new.items) (all ++ shown field.entry ∷ [])) }
+{
+    if fields.len() < limit {
+        fields.push(field)?;
+    }
+    Ok(())
+}
+
+/// Splits the record that the text begins with into its fields, of which it keeps no more than the limit.
 fn split_fields<'a>(
     text: &'a [u8],
     options: &CsvOptions,
+    limit: usize,
     fields: &mut Vec<RawField<'a>>,
 ) -> Result<Split<'a>, AllocError>
-    ensures value { IfOk result (λ split. FieldsAre options.now text.now fields.new.items split) }
+    ensures value { IfOk result (λ split. FieldsAre options.now limit text.now fields.new.items split) }
     ensures within { IfOk result (λ split. split_len split ≤ length text.now) }
 {
     fields.clear();
@@ -190,11 +208,11 @@ fn split_fields<'a>(
         };
         match following(after, options) {
             Next::Field(next) => {
-                fields.push(raw)?;
+                keep(raw, limit, fields)?;
                 rest = next;
             }
             Next::End(next) => {
-                fields.push(last(raw, options))?;
+                keep(last(raw, options), limit, fields)?;
                 return Ok(Split::Fields(next));
             }
             Next::Broken => return Ok(Split::Broken),
@@ -215,13 +233,16 @@ fn behind_line(text: &[u8], eol: u8) -> &[u8]
 }
 
 /// Splits off the record that the text begins with.
+///
+/// Of its fields at least `limit` are kept, where it has so many, and few more: a record may have as many as bytes.
 #[inline(always)]
 pub fn split_record<'a>(
     text: &'a [u8],
     options: &CsvOptions,
+    limit: usize,
     fields: &mut Vec<RawField<'a>>,
 ) -> Result<Split<'a>, AllocError>
-    ensures value { IfOk result (λ split. SplitsInto options.now text.now fields.new.items split) }
+    ensures value { IfOk result (λ split. SplitsInto options.now limit text.now fields.new.items split) }
     ensures within { IfOk result (λ split. split_len split ≤ length text.now) }
     ensures fit { IsDialect options.now }
 {
@@ -233,5 +254,5 @@ pub fn split_record<'a>(
     if let Some(rest) = split_short(text, options, fields) {
         return Ok(Split::Fields(rest));
     }
-    split_fields(text, options, fields)
+    split_fields(text, options, limit, fields)
 }

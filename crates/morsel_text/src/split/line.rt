@@ -1,5 +1,5 @@
 //! A record without quotes that ends within 64 bytes, split by one look at them.
-ghost use Rattle.std.specs.Prelude.{◌≡◌, ◌==◌, ◌<◌, ◌≤◌, ◌+◌, IfSome, length, drop};
+ghost use Rattle.std.specs.Prelude.{◌≡◌, ◌==◌, ◌<◌, ◌≤◌, ◌+◌, IfSome, OnSome, length, drop};
 ghost use Rattle.morsel_grammar.specs.Dialect.{IsDialect};
 ghost use Rattle.morsel_grammar.specs.Split.{is_quote};
 ghost use Rattle.morsel_text.specs.RawFields.{AreRawFields};
@@ -23,6 +23,7 @@ pub fn split_short<'a>(
 ) -> Option<&'a [u8]>
     requires { IsDialect options.now }
     ensures value { IfSome result (λ rest. AreRawFields options.now text.now fields.new.items rest.now) }
+    ensures few { OnSome result (length fields.new.items ≤ LANES) }
     ensures within { IfSome result (λ rest. length rest.now ≤ length text.now) }
 {
     if text.len() < LANES {
@@ -73,6 +74,7 @@ fn split_line<'a>(
     requires line { IsPlainLine options.now text.now len }
     requires marked { Marks (λ b. b == options.now.separator) text.now LANES separators }
     ensures value { IfSome result (λ rest. AreRawFields options.now text.now fields.new.items rest.now) }
+    ensures few { OnSome result (length fields.new.items ≤ LANES) }
     ensures within { IfSome result (λ rest. length rest.now ≤ length text.now) }
 {
     fields.clear();

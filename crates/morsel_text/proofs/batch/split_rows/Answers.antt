@@ -1,9 +1,11 @@
-use Rattle.std.proofs.Common.{◌≡◌, ◌<◌, ◌∙◌, sym, ap, refl, arith, rules, length, map}
+use Rattle.std.proofs.Common.{◌≡◌, ◌+◌, ◌<◌, ◌∙◌, List, ℕ, Some, sym, ap, refl, arith, rules, length, map}
+use Rattle.std.proofs.lemmas.List.{length-map}
 use Rattle.std.proofs.lemmas.Str.{IsUtf8-from_is_utf8}
-use Rattle.morsel_grammar.specs.Grammar.{Fields}
+use Rattle.morsel_grammar.specs.Grammar.{CsvField, CsvRecord, Fields}
 use Rattle.morsel_grammar.specs.Rows.{is_empty}
 use Rattle.morsel_text.specs.RawFields.{shown}
-use Rattle.morsel_text.proofs.StepLemmas.{shown_record}
+use Rattle.morsel_grammar.specs.Split.{record_at}
+use Rattle.morsel_text.proofs.KeptLemmas.{kept_slice, kept_whole}
 use Rattle.morsel_text.proofs.TextLemmas.{record_texts}
 use Rattle.morsel_text.proofs.BatchLemmas.{text_behind, spread_texts, length-spread, some_bytes}
 use Rattle.morsel_text.proofs.BatchStepLemmas.{batch_more}
@@ -16,7 +18,20 @@ loop-row-preserved c =
     let after = c.in-Fields.after.now in
     let o = c.args.options.now in
     let fit = c.split_record.ensures.fit in
-    let found = shown_record o rest after _ fields c.as_slice-in-Fields.ensures.value (rw c.in-Fields.is at c.in_ok-after.ensures.value) in
+    let split = rw c.in-Fields.is at c.in_ok-after.ensures.value in
+    let limit = c.len-limit.result + 2 in
+    let few : length (map shown fields) < limit = omega (
+      arith,
+      length-map fields shown,
+      ap length c.as_slice-in-Fields.ensures.value,
+      c.if-len.false,
+      c.len-else-is_empty-2.ensures,
+      c.len.ensures,
+      c.loop-row.invariant.width,
+      c.len-limit.ensures,
+    ) in
+    let all = kept_whole limit (map shown fields) split.0 few (kept_slice limit _ fields split.0 c.as_slice-in-Fields.ensures.value split.2) in
+    let found : record_at o rest ≡ Some (Fields (map shown fields), after) = split.1 ∙ ap (λ (fs : List CsvField). let p : CsvRecord × List ℕ = (Fields fs, after) in Some p) all in
     let some : 0 < length rest = search rules in
     let cut = text_behind o rest after (Fields (map shown fields)) fit (some_bytes rest 0 some) found c.loop-row.invariant.utf8 in
     let columns = c.loop-row.batch.items in

@@ -32,7 +32,7 @@ loop-preserved c =
     let ks = column_kinds c.args.columns.now.items in
     record {
       so_far = after_turn _ c.args.reader.now.used.now ks c.args.reader.now.options.now c.args.reader.now.file c.loop.height c.loop.place c.loop.awaits_header c.loop.rest.now
-          c.loop.columns.items c.read_turn.new.columns.items c.in_ok-step.step c.requires.fit c.in_ok-step.ensures.shorter c.loop.invariant.so_far c.in_ok-step.ensures.turns;
+          c.loop.columns.items c.read_more.new.columns.items c.in_ok-step.step c.requires.fit c.in_ok-step.ensures.shorter c.loop.invariant.so_far c.in_ok-step.ensures.turns;
       places = omega (arith, c.in_ok-step.ensures.shorter);
       height = omega (arith, c.in_ok-step.ensures.room);
       short = omega (arith, c.in_ok-step.ensures.shorter);

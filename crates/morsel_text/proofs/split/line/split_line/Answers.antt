@@ -19,6 +19,7 @@ loop-at-preserved c =
     let pushed : length c.push.new.self.items ≡ length items + 1 = omega (arith, simp length-append at (ap length c.in-Ok.ensures.items)) in
     record {
       short = omega arith;
+      few = omega (arith, pushed);
       line = rw c.rest_after-rest.ensures (line_behind o rest c.loop-at.left (at + 1) c.loop-at.invariant.line (omega arith));
       marked = rw c.rest_after-rest.ensures (marks_behind (λ b. b == o.separator) rest c.loop-at.left c.loop-at.marks (at + 1) c.loop-at.invariant.marked (omega arith));
       lowest = refl;

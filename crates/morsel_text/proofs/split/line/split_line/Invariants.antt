@@ -8,6 +8,7 @@ use Rattle.morsel_text.proofs.split.line.split_line.Given as goal
 abbrev pub invariant-loop-at : goal.invariant-loop-at
 invariant-loop-at l = record {
   short : l.left < 64;
+  few : length l.fields.items + l.left < 64;
   line : IsPlainLine l.options l.rest l.left;
   marked : Marks (λ b. b == l.options.separator) l.rest l.left l.marks;
   lowest : l.at ≡ trailing_zeros w64 l.marks;

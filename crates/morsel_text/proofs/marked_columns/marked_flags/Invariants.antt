@@ -1,0 +1,12 @@
+use Rattle.std.proofs.Common.{◌≡◌, ◌+◌, ◌*◌}
+use Rattle.morsel_meaning.specs.declared.value.ColType.TheVariants as types
+use Rattle.morsel_text.specs.MarkedColumns.{column_fields}
+use Rattle.morsel_text.proofs.MarkedLemmas.{HasCells}
+use Rattle.morsel_text.proofs.marked_columns.marked_flags.Given as goal
+
+abbrev pub invariant-loop : goal.invariant-loop
+invariant-loop l = record {
+  cells : HasCells l.marked.options.now types.Bool
+      (column_fields l.marked.options.now l.is_last l.marked.text.now l.marked.marks.now l.first l.width l.counter) l.column;
+  place : l.j ≡ l.counter * l.width + l.first;
+}
