@@ -13,6 +13,7 @@ use morsel_outside::OpenGate;
 use morsel_prog::{morsel_main, status_of};
 use morsel_real_io::RealIo;
 use progress::Progress;
+use std::alloc::{AllocError, Global};
 use std::fs::File;
 use std::io::{ErrorKind, IsTerminal};
 use std::os::fd::IntoRawFd;
@@ -22,6 +23,9 @@ use std::rt::{Clock, Env, Files};
 use std::sync::Wait;
 use std::thread::Threads;
 use std::{env, io};
+
+/// How large a block the C library is to keep.
+const KEPT: usize = 8 << 20;
 
 /// Takes the descriptors of standard input, output and error where they are closed, so that no file which the program
 /// opens gets one of them, and no line lands in a data file.
@@ -37,6 +41,15 @@ where
         }
     }
     Ok(())
+}
+
+/// Asks for a large block of memory, and gives it back at once.
+///
+/// The C library gives no block back to the system that is smaller than the largest one it was given back itself, so from here on
+/// it keeps what each piece of a file gives back for the next piece (`M_MMAP_THRESHOLD` in mallopt(3)).
+fn keep_memory(alloc: Global) {
+    let block: Result<Vec<u8>, AllocError> = Vec::with_capacity(alloc, KEPT);
+    drop(block);
 }
 
 /// The words after the program's name: none where one of them is not UTF-8.
@@ -113,6 +126,7 @@ where
         let _ = eprintln!(rt; "/dev/null: {error}");
         return status_of(&Fault::WriteFault);
     }
+    keep_memory(rt.alloc());
     match words_of(rt) {
         Ok(words) => answer(rt, words.as_slice(), is_terminal),
         Err(_) => status_of(&Fault::OutOfMemory),

@@ -11,6 +11,7 @@ use morsel_meaning::{ComputeKind, Fault};
 use morsel_ndjson::write_ndjson;
 use morsel_pipe::{Encoded, RawPiece};
 use morsel_scan::CsvSourceNode;
+use morsel_text::ReadRoom;
 use std::alloc::Global;
 
 /// The rows of a frame as NDJSON.
@@ -63,16 +64,21 @@ fn of_piece(fault: Fault) -> Fault
     }
 }
 
-/// The text of the rows that a piece has.
+/// The text of the rows that a piece has. The room for reading it is kept from one piece to the next.
 #[tactic(auto, using(crate::proofs::LineLemmas::kept_fault))]
-pub fn encode_piece(alloc: Global, node: &CsvSourceNode, piece: RawPiece) -> Result<Encoded, Fault>
+pub fn encode_piece(
+    alloc: Global,
+    node: &CsvSourceNode,
+    piece: RawPiece,
+    room: &mut ReadRoom,
+) -> Result<Encoded, Fault>
     requires fits { FitsScan piece }
     ensures made { EncodesPiece node.now piece result }
     ensures kind { IfErr result IsPieceKind }
 {
     let from = piece.from;
     let to = piece.to;
-    match node.decode(alloc, piece) {
+    match node.decode_with(alloc, piece, room) {
         Ok(frame) => part_of(alloc, &frame, from, to),
         Err(fault) => Err(of_piece(fault)),
     }

@@ -12,6 +12,7 @@ use morsel_drive::{Line, Taken};
 use morsel_meaning::Fault;
 use morsel_pipe::{Encoded, RawPiece};
 use morsel_scan::CsvSourceNode;
+use morsel_text::ReadRoom;
 use std::alloc::Global;
 
 /// A line from the pieces of a scan to the NDJSON of its rows. It holds one piece at a time, and makes one part of it.
@@ -21,6 +22,8 @@ pub struct ScanLine {
     held: Option<RawPiece>,
     part: Option<Encoded>,
     closed: bool,
+    /// For the next piece.
+    room: ReadRoom,
     alloc: Global,
     ghost fits: { ForSome held (λ piece. FitsScan piece) },
 }
@@ -35,6 +38,7 @@ impl ScanLine {
             held: None,
             part: None,
             closed: false,
+            room: ReadRoom::new(alloc),
             alloc,
         }
     }
@@ -78,7 +82,7 @@ impl Line for ScanLine {
         let Some(piece) = self.held.take() else {
             return Ok(());
         };
-        match encode_piece(self.alloc, &self.node, piece) {
+        match encode_piece(self.alloc, &self.node, piece, &mut self.room) {
             Ok(part) => {
                 self.part = Some(part);
                 Ok(())

@@ -15,7 +15,7 @@ use morsel_frame::{Frame, Schema};
 use morsel_grammar::CsvOptions;
 use morsel_meaning::{Fault, Name};
 use morsel_pipe::RawPiece;
-use morsel_text::{place_of_row, read_records};
+use morsel_text::{ReadRoom, place_of_row, read_records, read_records_with};
 use std::alloc::Global;
 use std::marker::Model;
 use std::mem::drop;
@@ -100,7 +100,21 @@ impl CsvSourceNode {
         requires fits { FitsScan piece }
         ensures { Decodes self.now piece result }
     {
-        match self.read_kept(alloc, &piece) {
+        let mut room = ReadRoom::new(alloc);
+        self.decode_with(alloc, piece, &mut room)
+    }
+
+    /// The rows of the scan that a piece has, as `decode` gives them, with room that is kept from one piece to the next.
+    pub fn decode_with(
+        &self,
+        alloc: Global,
+        piece: RawPiece,
+        room: &mut ReadRoom,
+    ) -> Result<Frame, Fault>
+        requires fits { FitsScan piece }
+        ensures { Decodes self.now piece result }
+    {
+        match self.read_kept(alloc, &piece, room) {
             Ok(read) => {
                 let position = piece.first_row + u64::from(piece.slice.0);
                 self.finish(alloc, read, position, &piece.source)
@@ -110,7 +124,12 @@ impl CsvSourceNode {
     }
 
     /// Reads the rows that a piece's slice keeps into the used columns.
-    fn read_kept(&self, alloc: Global, piece: &RawPiece) -> Result<Frame, Fault>
+    fn read_kept(
+        &self,
+        alloc: Global,
+        piece: &RawPiece,
+        room: &mut ReadRoom,
+    ) -> Result<Frame, Fault>
         requires { FitsScan piece.now }
         ensures { ReadsKept self.now piece.now result }
     {
@@ -126,6 +145,7 @@ impl CsvSourceNode {
                 piece.file,
                 piece.slice.1 as usize,
                 piece.slice.0 + piece.slice.1 == piece.rows,
+                room,
             ),
             Err(fault) => Err(fault),
         }
@@ -141,16 +161,17 @@ impl CsvSourceNode {
         file: u32,
         len: usize,
         ends: bool,
+        room: &mut ReadRoom,
     ) -> Result<Frame, Fault>
         requires { at + length text.now < 2 ^ 64 }
         ensures { ReadsFirst self.now file at text.now len result }
     {
         if ends {
-            if let Some(frame) = self.read_whole(alloc, text, at, file, len) {
+            if let Some(frame) = self.read_whole(alloc, text, at, file, len, room) {
                 return Ok(frame);
             }
         }
-        self.read_up_to(alloc, text, at, file, len)
+        self.read_up_to(alloc, text, at, file, len, room)
     }
 
     /// Reads a text into the used columns, where nothing is refused and it has no more rows than so many.
@@ -161,11 +182,12 @@ impl CsvSourceNode {
         at: u64,
         file: u32,
         len: usize,
+        room: &mut ReadRoom,
     ) -> Option<Frame>
         requires { at + length text.now < 2 ^ 64 }
         ensures { IfSome result (λ frame. ReadsFirst self.now file at text.now len (Ok frame)) }
     {
-        match self.read_text(alloc, text, at, file) {
+        match self.read_text(alloc, text, at, file, room) {
             Ok(frame) => {
                 if frame.height() <= len {
                     return Some(frame);
@@ -185,6 +207,7 @@ impl CsvSourceNode {
         at: u64,
         file: u32,
         len: usize,
+        room: &mut ReadRoom,
     ) -> Result<Frame, Fault>
         requires { at + length text.now < 2 ^ 64 }
         ensures { ReadsFirst self.now file at text.now len result }
@@ -192,7 +215,7 @@ impl CsvSourceNode {
         // Only the proof needs this call: its clause says that these options do not contradict each other.
         let _comment = self.options.comment();
         let cut = self.row_at(alloc, text, at, len)?;
-        match self.read_text(alloc, &text[..cut], at, file) {
+        match self.read_text(alloc, &text[..cut], at, file, room) {
             Ok(frame) => match self.check_text(alloc, &text[cut..], at + cut as u64, file) {
                 Ok(()) => Ok(frame),
                 Err(fault) => {
@@ -219,11 +242,18 @@ impl CsvSourceNode {
     }
 
     /// Reads a text into the used columns.
-    fn read_text(&self, alloc: Global, text: &[u8], at: u64, file: u32) -> Result<Frame, Fault>
+    fn read_text(
+        &self,
+        alloc: Global,
+        text: &[u8],
+        at: u64,
+        file: u32,
+        room: &mut ReadRoom,
+    ) -> Result<Frame, Fault>
         requires { at + length text.now < 2 ^ 64 }
         ensures { ReadsText self.now file at text.now result }
     {
-        match read_records(
+        match read_records_with(
             alloc,
             text,
             at,
@@ -232,6 +262,7 @@ impl CsvSourceNode {
             self.used.as_slice(),
             false,
             &self.options,
+            room,
         ) {
             Ok((frame, _head)) => Ok(frame),
             Err(fault) => Err(fault),
