@@ -1,5 +1,6 @@
 //! Texts with the rows that they have, or the place of the record that is refused, worked out by hand.
 mod dialects;
+mod long;
 mod pieces;
 mod plain;
 

@@ -1,6 +1,8 @@
 //! Kinds of options, and every short text of the bytes that matter to them.
 use morsel_grammar::CsvOptions;
 use morsel_meaning::{Fault, Name};
+use rand_core::Rng;
+use rand_xoshiro::Xoshiro256PlusPlus;
 use std::alloc::Global;
 use std::process::Abort;
 
@@ -125,6 +127,96 @@ pub fn write_text(
     for _ in 0..len {
         text.push(letters[left % 7])?;
         left /= 7;
+    }
+    Ok(())
+}
+
+/// Texts without quotes, the last of which is no text in UTF-8.
+const WORDS: [&[u8]; 8] = [
+    b"",
+    b"a",
+    b"some words",
+    b"true",
+    b"1",
+    b"\xc3\xa9",
+    b"a longer text that crosses an edge of sixteen bytes",
+    b"\xe9",
+];
+
+/// What a number is written like, and at last what is none.
+const NUMBERS: [&[u8]; 8] = [
+    b"7",
+    b"",
+    b"-12",
+    b"+3",
+    b"123456789",
+    b"000000000000000000000000000001",
+    b"9223372036854775807",
+    b"9223372036854775808",
+];
+
+/// Puts the field that this number draws: one in 64 is none of its column, or no field.
+fn write_field(
+    text: &mut Vec<u8>,
+    dialect: &Dialect,
+    is_number: bool,
+    drawn: u32,
+) -> Result<(), Fault> {
+    let quote = dialect.quote.unwrap_or(b'\'');
+    let list = if is_number { &NUMBERS } else { &WORDS };
+    let word = list[(drawn / 64 % 7) as usize];
+    match drawn % 64 {
+        0 => {
+            text.extend_from_slice(list[7])?;
+        }
+        1 => {
+            text.push(b'a')?;
+            text.push(quote)?;
+        }
+        2..12 => {
+            text.push(quote)?;
+            text.extend_from_slice(word)?;
+            text.push(quote)?;
+        }
+        12..20 if !is_number => {
+            text.push(quote)?;
+            text.push(dialect.separator)?;
+            text.push(quote)?;
+            text.push(quote)?;
+            text.push(dialect.eol)?;
+            text.push(quote)?;
+        }
+        _ => text.extend_from_slice(word)?,
+    }
+    Ok(())
+}
+
+/// Puts a text of rows of so many columns into the buffer, every other one of numbers, until it has so many bytes. A record in
+/// 128 has no bytes, and one in 128 ends with a return.
+pub fn write_rows(
+    text: &mut Vec<u8>,
+    dialect: &Dialect,
+    rng: &mut Xoshiro256PlusPlus,
+    width: usize,
+    len: usize,
+) -> Result<(), Fault> {
+    text.clear();
+    for _ in 0..len {
+        if text.len() >= len {
+            return Ok(());
+        }
+        for column in 0..width {
+            if column > 0 {
+                text.push(dialect.separator)?;
+            }
+            write_field(text, dialect, column % 2 == 1, rng.next_u32())?;
+        }
+        match rng.next_u32() % 128 {
+            0 => text.push(dialect.eol)?,
+            1 => text.push(b'\r')?,
+            _ => {}
+        }
+        text.push(dialect.eol)?;
     }
     Ok(())
 }

@@ -62,7 +62,7 @@ fn same_answers(rt: &impl Abort, a: &Answer, b: &Answer) {
 }
 
 /// Both readers answer the same.
-fn agree(
+pub fn agree(
     rt: &impl Abort,
     alloc: Global,
     text: &[u8],
