@@ -1,6 +1,0 @@
-use Rattle.std.proofs.Common.{◌≡◌, ◌++◌, drop}
-use Rattle.morsel_ndjson.specs.Members.{members_from}
-use Rattle.morsel_ndjson.proofs.lines.make_columns.Given as goal
-
-abbrev pub invariant-loop-at : goal.invariant-loop-at
-invariant-loop-at l = l.columns.items ++ members_from l.at (drop l.at l.begins) l.frame.rows ≡ members_from 0 l.begins l.frame.rows
