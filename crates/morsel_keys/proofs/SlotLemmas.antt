@@ -88,6 +88,15 @@ not_there home mask slots keys key from h b (at, hole, passed) k e =
       ]
     ]
 
+-- a search that begins at a free place finds nothing
+pub absent_at : {K : Type 0} (home : K → ℕ) (mask : ℕ) (slots : List ℕ) (keys : List K) (key : K) → IsIndexed home mask slots keys → get_or slots (home key) 0 ≡ 0 → IsNewKey key keys
+absent_at home mask slots keys key h free k e =
+    let r : Reaches slots (home key) k = h.found k key e in
+    elim (cases_eq (home key) r.at) as (λ _. ⊥) [
+      | inl here ↦ omega (arith, free, r.held, ap (λ n. get_or slots n 0) here)
+      | inr other ↦ omega (arith, free, r.full (home key) (omega arith) (omega (arith, r.after, other)))
+    ]
+
 pub rebuild_more : {K : Type 0} (home : K → ℕ) (mask : ℕ) (slots : List ℕ) (keys : List K) (key : K) (place from at slot : ℕ) → IsIndexed home mask slots (take place keys) → slice_get keys place ≡ Some key → length keys < 2 ^ 32 → from ≡ home key → IsHole slots from at → slot ≡ place + 1
     → IsIndexed home mask (with_slot at slot slots) (take (place + 1) keys)
 rebuild_more home mask slots keys key place from at slot h e short b f s =

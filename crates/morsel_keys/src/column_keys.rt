@@ -2,6 +2,7 @@
 ghost use Rattle.std.specs.Prelude.{◌≡◌, ◌<◌, ◌≤◌, ◌+◌, ◌++◌, [], ◌∷◌, ◌^◌, ℕ, length, get_or, false, slice_get, Some, OnOk, OnErr, IfOk, IfErr, IfSome, IfNone, IsOkUnless, ◌≢◌, Err};
 ghost use Rattle.morsel_meaning.specs.Values.{IsOfType};
 ghost use Rattle.morsel_frame.specs.Cells.{value_of};
+ghost use Rattle.morsel_frame.specs.Columns.{value_at};
 ghost use Rattle.morsel_keys.specs.Slots.{AreLookedUp, HasKeysEachOnce, IsNewKey, GivesNumber, NumbersOrStops, RefusesKey, no_number};
 ghost use Rattle.morsel_keys.specs.ColumnKeys.{placed_of, shifted, inserted_at, with_null, stored_keys, store_kind, IsStore, AreColumnKeys};
 
@@ -104,7 +105,7 @@ impl ColumnKeys {
     {
         self.look_up(column, out);
         for i in 0..out.len() {
-            match self.number_row(column.get(i), out[i]) {
+            match self.number_row(column, i, out[i]) {
                 Ok(at) => out[i] = at,
                 Err(fault) => return Err(fault),
             }
@@ -112,20 +113,34 @@ impl ColumnKeys {
         Ok(())
     }
 
-    /// The number of a row's value, which was looked up before.
+    /// The number of a row's value, which was looked up before. Only a value that was absent is read again.
     #[inline(always)]
-    fn number_row(&mut self, cell: Cell<'_>, at: u32) -> Result<u32, Fault>
-        requires of_type { IsOfType self.old.kind (value_of cell) }
-        requires found { at ≢ no_number → slice_get self.old.values at ≡ Some (value_of cell) }
+    fn number_row(&mut self, column: &Column, row: usize, at: u32) -> Result<u32, Fault>
+        requires kind { column.now.kind ≡ self.old.kind }
+        requires within { row < length column.now.values }
+        requires found { at ≢ no_number → slice_get self.old.values at ≡ Some (value_at column.now.values row) }
         ensures kind { self.new.kind ≡ self.old.kind }
-        ensures ok { IfOk result (λ at. GivesNumber self.old.values (value_of cell.entry) at self.new.values) }
-        ensures refused { IfErr result (λ fault. RefusesKey self.old.values (value_of cell.entry) (Err fault)) }
+        ensures ok { IfOk result (λ at. GivesNumber self.old.values (value_at column.now.values row) at self.new.values) }
+        ensures refused { IfErr result (λ fault. RefusesKey self.old.values (value_at column.now.values row) (Err fault)) }
         ensures err { OnErr result (self.new ≡ self.old) }
     {
         if at != u32::MAX {
             return Ok(at);
         }
-        self.insert(cell)
+        self.insert_row(column, row)
+    }
+
+    /// The number of a row's value, which comes last where it is new.
+    #[inline(never)]
+    fn insert_row(&mut self, column: &Column, row: usize) -> Result<u32, Fault>
+        requires kind { column.now.kind ≡ self.old.kind }
+        requires within { row < length column.now.values }
+        ensures kind { self.new.kind ≡ self.old.kind }
+        ensures ok { IfOk result (λ at. GivesNumber self.old.values (value_at column.now.values row) at self.new.values) }
+        ensures refused { RefusesKey self.old.values (value_at column.now.values row) result }
+        ensures err { OnErr result (self.new ≡ self.old) }
+    {
+        self.insert(column.get(row))
     }
 
     /// The number of a key, which comes last where it is new. Past 4,294,967,295 keys a new one is refused.

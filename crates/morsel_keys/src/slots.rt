@@ -1,5 +1,5 @@
 //! Slots: where the search for a key begins, the first free slot from there, and the writing of one.
-ghost use Rattle.std.specs.Prelude.{◌≡◌, ◌<◌, ◌≤◌, OnOk, OnErr, IsOkUnless, length};
+ghost use Rattle.std.specs.Prelude.{◌≡◌, ◌<◌, ◌≤◌, OnOk, OnErr, IsOkUnless, length, get_or};
 ghost use Rattle.morsel_keys.specs.Slots.{IsHole, with_slot};
 ghost use Rattle.morsel_keys.specs.Words.{spread_of};
 
@@ -17,6 +17,14 @@ pub fn spread(mixed: u64, mask: usize) -> usize
 {
     let spread = (mixed >> 32).wrapping_mul((mask as u64).wrapping_add(1));
     (spread >> 32) as usize & mask
+}
+
+/// The slot at a place, and 0 past the end.
+#[inline(always)]
+pub fn slot_at(slots: &[u32], at: usize) -> u32
+    ensures { result ≡ get_or slots.now at 0 }
+{
+    if at < slots.len() { slots[at] } else { 0 }
 }
 
 /// The first free place from a place on, or the end.

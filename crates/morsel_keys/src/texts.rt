@@ -3,7 +3,7 @@ ghost use Rattle.std.specs.Prelude.{◌≡◌, ◌<◌, ◌≤◌, ◌+◌, ◌^
 ghost use Rattle.morsel_keys.specs.Slots.{AreLookedUp, AreSlots, HasKeysEachOnce, IsFound, IsFreeFor, IsIndexed, IsNewKey, no_number};
 ghost use Rattle.morsel_keys.specs.TextHomes.{text_home};
 
-use crate::slots::{SLOTS_PER_KEY, hole, put, spread};
+use crate::slots::{SLOTS_PER_KEY, hole, put, slot_at, spread};
 use crate::text_mix::mixed_text;
 use morsel_frame::Texts;
 use morsel_meaning::Fault;
@@ -145,14 +145,42 @@ fn look_up_each(
     requires len { length out.old ≡ length column.now }
     ensures { AreLookedUp texts.now column.now out.new }
 {
+    // In two loops, so that the reads of different rows go on together: few wait for another of their own row.
+    begin_each(slots, mask, seed, column, out);
     for i in 0..column.len() {
-        out[i] = number_of(slots, texts, mask, seed, column.get(i));
+        out[i] = number_from(slots, texts, mask, seed, column.get(i), out[i]);
     }
 }
 
-/// The number of a text, and `u32::MAX` where it is absent.
+/// The slots where the searches for texts begin, each at its place.
+fn begin_each(slots: &[u32], mask: usize, seed: u64, column: &Texts, out: &mut [u32])
+    requires { length out.old ≡ length column.now }
+    ensures { (i : ℕ) → i < length column.now → get_or out.new i 0 ≡ get_or slots.now (text_home seed mask (get_or column.now i [])) 0 }
+{
+    for i in 0..column.len() {
+        out[i] = slot_at(slots, home(column.get(i), mask, seed));
+    }
+}
+
+/// The number of a text, whose search begins at this slot, and `u32::MAX` where it is absent.
 #[inline(always)]
-fn number_of(slots: &[u32], texts: &Texts, mask: usize, seed: u64, text: &str) -> u32
+fn number_from(slots: &[u32], texts: &Texts, mask: usize, seed: u64, text: &str, first: u32) -> u32
+    requires indexed { IsIndexed (text_home seed mask) mask slots.now texts.now }
+    requires first { first ≡ get_or slots.now (text_home seed mask text.now) 0 }
+    ensures { IsFound texts.now text.now result }
+{
+    if first == 0 {
+        return u32::MAX;
+    }
+    if texts.get((first - 1) as usize) == text {
+        return first - 1;
+    }
+    number_past(slots, texts, mask, seed, text)
+}
+
+/// The number of a text whose search goes past its first slot.
+#[inline(never)]
+fn number_past(slots: &[u32], texts: &Texts, mask: usize, seed: u64, text: &str) -> u32
     requires indexed { IsIndexed (text_home seed mask) mask slots.now texts.now }
     ensures { IsFound texts.now text.now result }
 {

@@ -1,10 +1,10 @@
 //! Keys that are words of 64 bits, in order of arrival.
-ghost use Rattle.std.specs.Prelude.{◌≡◌, ◌<◌, ◌≤◌, ◌+◌, ◌^◌, ◌++◌, [], ◌∷◌, ℕ, length, map, get_or, slice_get, Some, OnOk, OnErr, IfOk, IfSome, IfNone, IsOkUnless};
+ghost use Rattle.std.specs.Prelude.{◌≡◌, ◌<◌, ◌≤◌, ◌+◌, ◌^◌, ◌++◌, [], ◌∷◌, ℕ, pos, length, map, get_or, slice_get, Some, OnOk, OnErr, IfOk, IfSome, IfNone, IsOkUnless};
 ghost use Rattle.morsel_keys.specs.Slots.{AreLookedUp, AreSlots, HasKeysEachOnce, IsFound, IsFreeFor, IsIndexed, IsNewKey, no_number};
-ghost use Rattle.morsel_keys.specs.Words.{word_home, AreWordKeys};
+ghost use Rattle.morsel_keys.specs.Words.{int_begin, word_home, AreWordKeys};
 ghost use Rattle.morsel_keys.specs.ColumnKeys.{int_held, flag_held, flag_word};
 
-use crate::slots::{SLOTS_PER_KEY, hole, put, spread};
+use crate::slots::{SLOTS_PER_KEY, hole, put, slot_at, spread};
 use morsel_meaning::{Fault, Value};
 use std::alloc::Global;
 use std::marker::Model;
@@ -157,18 +157,71 @@ fn look_up_ints(
     requires len { length out.old ≡ length numbers.now }
     ensures { AreLookedUp (map int_held words.now) (map Value.Int numbers.now) out.new }
 {
+    // In two loops, so that the reads of different rows go on together: none waits for another of its own row.
+    begin_ints(slots, mask, seed, numbers, out);
     for i in 0..numbers.len() {
-        out[i] = number_of_int(slots, words, mask, seed, numbers[i]);
+        out[i] = number_of_int(slots, words, mask, seed, numbers[i], out[i]);
     }
 }
 
-/// The number of a number's word, and `u32::MAX` where it is absent.
+/// The slots where the searches for numbers' words begin, each at its place.
+fn begin_ints(slots: &[u32], mask: usize, seed: u64, numbers: &[i64], out: &mut [u32])
+    requires { length out.old ≡ length numbers.now }
+    ensures { (i : ℕ) → i < length numbers.now → get_or out.new i 0 ≡ int_begin seed mask slots.now (get_or numbers.now i (pos 0)) }
+{
+    for i in 0..numbers.len() {
+        out[i] = begin_int(slots, mask, seed, numbers[i]);
+    }
+}
+
+/// The slot where the search for a number's word begins.
 #[inline(always)]
-fn number_of_int(slots: &[u32], words: &[u64], mask: usize, seed: u64, number: i64) -> u32
+fn begin_int(slots: &[u32], mask: usize, seed: u64, number: i64) -> u32
+    ensures { result ≡ int_begin seed mask slots.now number }
+{
+    slot_at(slots, home(number.cast_unsigned(), mask, seed))
+}
+
+/// The number of a number's word, whose search begins at this slot, and `u32::MAX` where it is absent.
+#[inline(always)]
+fn number_of_int(
+    slots: &[u32],
+    words: &[u64],
+    mask: usize,
+    seed: u64,
+    number: i64,
+    first: u32,
+) -> u32
     requires keys { AreWordKeys seed mask slots.now words.now }
+    requires first { first ≡ int_begin seed mask slots.now number }
     ensures { IsFound (map int_held words.now) (Value.Int number) result }
 {
-    number_of(slots, words, mask, seed, number.cast_unsigned())
+    number_from(slots, words, mask, seed, number.cast_unsigned(), first)
+}
+
+/// The number of a word, whose search begins at this slot, and `u32::MAX` where it is absent.
+#[inline(always)]
+fn number_from(slots: &[u32], words: &[u64], mask: usize, seed: u64, word: u64, first: u32) -> u32
+    requires indexed { IsIndexed (word_home seed mask) mask slots.now words.now }
+    requires first { first ≡ get_or slots.now (word_home seed mask word) 0 }
+    ensures { IsFound words.now word result }
+{
+    if first == 0 {
+        return u32::MAX;
+    }
+    if words[(first - 1) as usize] == word {
+        return first - 1;
+    }
+    number_past(slots, words, mask, seed, word)
+}
+
+/// The number of a word whose search goes past its first slot.
+#[inline(never)]
+fn number_past(slots: &[u32], words: &[u64], mask: usize, seed: u64, word: u64) -> u32
+    requires indexed { IsIndexed (word_home seed mask) mask slots.now words.now }
+    ensures { IsFound words.now word result }
+{
+    number_of(slots, words, mask, seed, word)
 }
 
 /// The numbers of truth values' words.

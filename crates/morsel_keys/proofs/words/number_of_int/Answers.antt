@@ -7,5 +7,5 @@ use Rattle.morsel_keys.proofs.words.number_of_int.Goals as goal
 pub returns : goal.returns
 returns c =
     let back : cast_signed w64 (cast_unsigned w64 c.args.number) ≡ c.args.number = to_z-of_z w64 c.args.number (search rules) in
-    found_int c.args.words.now c.args.number c.cast_unsigned.result c.number_of.result (c.cast_unsigned.ensures ∙ ap (cast_unsigned w64) back)
-    (ap (cast_signed w64) (c.cast_unsigned.ensures ∙ ap (cast_unsigned w64) back) ∙ back) c.requires.keys.fit c.number_of.ensures
+    found_int c.args.words.now c.args.number c.cast_unsigned.result c.number_from.result (c.cast_unsigned.ensures ∙ ap (cast_unsigned w64) back)
+    (ap (cast_signed w64) (c.cast_unsigned.ensures ∙ ap (cast_unsigned w64) back) ∙ back) c.requires.keys.fit c.number_from.ensures
