@@ -1,0 +1,5 @@
+//! Keys and reductions of a few values, with answers worked out by hand, and of drawn values beside plain lists.
+mod drawn;
+mod numbers;
+mod reduced;
+mod samples;

@@ -1,0 +1,3 @@
+-- What accumulators of many groups have of rows.
+pub mod GroupRows
+pub mod States

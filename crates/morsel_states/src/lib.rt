@@ -1,0 +1,12 @@
+//! Accumulators of many groups at once, in flat vectors, which contracts see as what an `Acc` has of each group.
+#![tactic(auto)]
+
+mod accs;
+mod flat;
+mod laws;
+mod lens;
+mod states;
+mod sums;
+
+pub use laws::states_keep_groups;
+pub use states::States;

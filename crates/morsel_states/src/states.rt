@@ -1,0 +1,129 @@
+//! Accumulators of many groups.
+ghost use Rattle.std.specs.Prelude.{◌≡◌, ◌<◌, ◌≤◌, ◌+◌, ◌^◌, [], None, OnOk, OnErr, IfOk, IsOkUnless, All, get_or, length, set};
+ghost use Rattle.morsel_keys.specs.Reductions.{finished, input_place, total_fault};
+ghost use Rattle.morsel_frame.specs.Refusals.{Refuses};
+ghost use Rattle.morsel_states.specs.GroupRows.{group_rows, PutsGroupRows};
+ghost use Rattle.morsel_states.specs.States.{with_groups};
+
+use crate::accs::{finish_at, grow_accs, put_each};
+use crate::flat::Flat;
+use crate::lens::{LenState, count_each, grow_lens};
+use crate::sums::{SumState, add_each, grow_sums};
+use morsel_frame::Column;
+use morsel_keys::Reduction;
+use morsel_meaning::{ColType, ComputeKind, Fault, Value};
+use std::alloc::Global;
+use std::marker::Model;
+use std::mem;
+
+/// What a reduction has of the values of each group. Groups are numbered from 0 on.
+#[derive(Drop)]
+pub struct States {
+    alloc: Global,
+    op: Reduction,
+    kind: ColType,
+    flat: Flat,
+}
+
+impl Model for States {
+    ghost use Rattle.morsel_states.specs.States.{GroupStates, flat_entries, IsFlat};
+
+    ghost Value = { GroupStates };
+
+    ghost view = { λ states. record { op = states.op; kind = states.kind; entries = flat_entries states.flat } };
+
+    ghost invariant = { λ states. IsFlat states.op states.kind states.flat };
+}
+
+impl States {
+    /// No groups. A sum is of numbers.
+    pub fn new(alloc: Global, op: Reduction, kind: ColType) -> States
+        requires { op ≡ Reduction.Sum → kind ≡ ColType.Int }
+        ensures { result ≡ record { op = op; kind = kind; entries = [] } }
+    {
+        States {
+            alloc,
+            op,
+            kind,
+            flat: match op {
+                Reduction::Len => Flat::Lens(Vec::new(alloc)),
+                Reduction::Sum => Flat::Sums(Vec::new(alloc)),
+                _ => Flat::Others(Vec::new(alloc)),
+            },
+        }
+    }
+
+    /// How many groups there are.
+    pub fn len(&self) -> usize
+        ensures { result ≡ length self.now.entries }
+    {
+        match &self.flat {
+            Flat::Lens(lens) => lens.len(),
+            Flat::Sums(sums) => sums.len(),
+            Flat::Others(accs) => accs.len(),
+        }
+    }
+
+    /// Puts the rows of a piece to their groups, of which the first has this place and each other one the next. A row whose group has as many
+    /// values as may be is refused, or one for which there is no memory, and those before it are put.
+    pub fn update(
+        &mut self,
+        groups: &[u32],
+        column: &Column,
+        place: (u64, u64),
+    ) -> Result<(), Fault>
+        requires kind { column.now.kind ≡ self.old.kind }
+        requires len { length groups.now ≡ length column.now.values }
+        requires within { All (λ group. group < length self.old.entries) groups.now }
+        requires places { place.1 + length groups.now ≤ 2 ^ 64 }
+        ensures op { self.new.op ≡ self.old.op }
+        ensures kind { self.new.kind ≡ self.old.kind }
+        ensures len { length self.new.entries ≡ length self.old.entries }
+        ensures rows { PutsGroupRows self.old.op self.old.entries (group_rows (input_place place.0 place.1) groups.now column.now.values) self.new.entries result }
+    {
+        match &mut self.flat {
+            Flat::Lens(lens) => count_each(lens, groups),
+            Flat::Sums(sums) => match column.ints() {
+                Some((valid, numbers)) => add_each(sums, groups, valid, numbers),
+                None => unreachable!(),
+            },
+            Flat::Others(accs) => put_each(self.op, accs, groups, column, place),
+        }
+    }
+
+    /// Puts groups last, each without values, up to so many.
+    pub fn grow(&mut self, groups: usize) -> Result<(), Fault>
+        ensures ok { OnOk result (self.new ≡ record self.old { entries = with_groups groups self.old.entries }) }
+        ensures err { OnErr result (self.new ≡ self.old) }
+        ensures out_of_memory { IsOkUnless result Fault.OutOfMemory }
+    {
+        match &mut self.flat {
+            Flat::Lens(lens) => grow_lens(lens, groups),
+            Flat::Sums(sums) => grow_sums(sums, groups),
+            Flat::Others(accs) => grow_accs(self.alloc, self.op, self.kind, accs, groups),
+        }
+    }
+
+    /// What the reduction says of a group, which has no values then. A sum is refused where the whole total is outside 64 bits. It takes no
+    /// memory.
+    pub fn finish(&mut self, group: u32) -> Result<Value, Fault>
+        requires { group < length self.old.entries }
+        ensures taken { self.new ≡ record self.old { entries = set self.old.entries group None } }
+        ensures ok { IfOk result (λ value. value ≡ finished self.old.op (get_or self.old.entries group None)) }
+        ensures refused { Refuses (total_fault self.old.op (get_or self.old.entries group None)) result }
+        ensures too_large { IsOkUnless result (Fault.ComputeError ComputeKind.SumTooLarge 4294967295 0) }
+    {
+        let group = group as usize;
+        match &mut self.flat {
+            Flat::Lens(lens) => {
+                let state = mem::replace(&mut lens[group], LenState::new());
+                Ok(state.finish())
+            }
+            Flat::Sums(sums) => {
+                let state = mem::replace(&mut sums[group], SumState::new());
+                state.finish()
+            }
+            Flat::Others(accs) => finish_at(self.alloc, self.op, self.kind, accs, group),
+        }
+    }
+}
