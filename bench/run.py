@@ -1,7 +1,7 @@
 #!/usr/bin/env python3
 """Makes the data and the queries, builds the program, and times it beside each peer that is installed.
 
-usage: python3 bench/run.py [--size MEGABYTES] [--rounds N] [--folder FOLDER] [--program FILE] [--memory]
+usage: python3 bench/run.py [--size MEGABYTES] [--rounds N] [--folder FOLDER] [--program FILE] [--memory | --shapes]
 
 The queries are q1, all rows of a CSV file as NDJSON, and q2, two columns of the rows whose v is above 900. They are written into FOLDER as
 query files, and run by `morsel local`.
@@ -9,8 +9,9 @@ query files, and run by `morsel local`.
 The data and the outputs lie in FOLDER (none: morsel-bench in the folder for temporary files; best one in memory, as /dev/shm/morsel-bench).
 The program is the one that `rt ci` or `rt run` has built, if it is newer than its sources; else `rt run` proves and builds it first, which
 takes long from nothing. --program names another. Each round runs each of them once, in turn, on the same file; one that takes more than
-5 seconds runs three times at most. With --memory no peer is run, but morsel on files that are hard on memory, once each. CLICKHOUSE names the URL of a server of ClickHouse, CLICKHOUSE_FILES its folder of users' files,
-CLICKHOUSE_PID its process.
+5 seconds runs three times at most. With --memory no peer is run, but morsel on files that are hard on memory, once each; with --shapes
+on files of other shapes, all rows and columns of each. CLICKHOUSE names the URL of a server of ClickHouse, CLICKHOUSE_FILES its folder of
+users' files, CLICKHOUSE_PID its process.
 
 Printed: which peers are missing, and a table in Markdown: the median and the best time by the clock, the processor's time, MB of the
 file a second, the peak of resident memory, how many times morsel's seconds it took, and whether it wrote the same bytes, or at least the
@@ -189,6 +190,25 @@ def measure_memory(morsel, given):
         print(f"| {name} | {os.path.getsize(path) / 1e6:.0f} | {gen.longest_record(path):,} | {peak:.0f} | {wall:.2f} | {ran.stdout.strip()} |", flush=True)
 
 
+def measure_shapes(morsel, given):
+    """Runs morsel on files of other shapes, and prints how many MB it reads and writes in a second of the processor."""
+    out, told = f"{given.folder}/out.ndjson", f"{given.folder}/times"
+    print(f"{machine()}\n")
+    print("| file | MB read | MB written | processor s | MB a second | peak MB | answer |")
+    print("|---|---:|---:|---:|---:|---:|---|")
+    for name, path, schema in gen.shaped_files(given.folder, given.size):
+        words = [morsel, "local", query_file(given.folder, "shape", [path], schema), out]
+        best, peak = math.inf, 0
+        for _ in range(min(given.rounds, 3)):
+            ran = subprocess.run([shutil.which("time"), "-q", "-o", told, "-f", "%U %S %M", *words], stdin=subprocess.DEVNULL, capture_output=True, text=True)
+            with open(told, encoding="utf-8") as it:
+                user, system, most = it.read().split()
+            best, peak = min(best, float(user) + float(system)), max(peak, int(most) / 1024)
+        read, wrote = os.path.getsize(path) / 1e6, os.path.getsize(out) / 1e6
+        print(f"| {name} | {read:.0f} | {wrote:.0f} | {best:.2f} | {(read + wrote) / max(best, 0.01):.0f} | {peak:.0f} | {ran.stdout.strip()} |", flush=True)
+        os.remove(out)
+
+
 def main():
     wanted = argparse.ArgumentParser(description=__doc__, formatter_class=argparse.RawDescriptionHelpFormatter)
     wanted.add_argument("--size", type=int, default=100)
@@ -196,6 +216,7 @@ def main():
     wanted.add_argument("--folder", default=f"{tempfile.gettempdir()}/morsel-bench")
     wanted.add_argument("--program")
     wanted.add_argument("--memory", action="store_true")
+    wanted.add_argument("--shapes", action="store_true")
     given = wanted.parse_args()
     if not shutil.which("time"):
         sys.exit("GNU time is not installed: it tells the memory")
@@ -204,6 +225,9 @@ def main():
     facts = gen.make(given.folder, given.size)
     if given.memory:
         measure_memory(morsel, given)
+        return
+    if given.shapes:
+        measure_shapes(morsel, given)
         return
     for query in QUERIES:
         time_query(morsel, query, facts, given)
