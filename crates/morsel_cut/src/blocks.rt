@@ -11,7 +11,7 @@ ghost use Rattle.morsel_grammar.specs.Machine.{InQuotes, AfterQuote, plain_step}
 ghost use Rattle.morsel_cut.specs.Places.{cut_place, delimiter_options};
 ghost use Rattle.morsel_cut.specs.Blocks.{IsAmongFields, DoesBlock};
 
-use crate::marks::{LANES, byte_marks, one_on, prefix_xor, quote_marks, spread};
+use crate::masks::{LANES, byte_mask, one_on, prefix_xor, quote_mask, spread};
 use crate::step::{ByteAt, Delimiters};
 
 /// What 64 bytes do.
@@ -53,7 +53,7 @@ fn quoted_block(
     requires eols { eols ≡ mask_l (map (λ b. b == delimiters.eol) (take LANES lane.now)) }
     ensures { IfSome result (λ block. DoesBlock (delimiter_options delimiters) (cut_place from) (take LANES lane.now) block) }
 {
-    let stops = byte_marks(lane, delimiters.separator) | eols;
+    let stops = byte_mask(lane, delimiters.separator) | eols;
     let near = stops | quotes;
     let inside = prefix_xor(quotes) ^ spread(from.is_in_quotes());
     let closing = quotes & !inside;
@@ -80,8 +80,8 @@ pub fn block_of(from: ByteAt, lane: &[u8], delimiters: Delimiters) -> Option<Blo
     requires fit { IsDialect (delimiter_options delimiters) }
     ensures { IfSome result (λ block. DoesBlock (delimiter_options delimiters) (cut_place from) (take LANES lane.now) block) }
 {
-    let quotes = quote_marks(lane, delimiters.quote);
-    let eols = byte_marks(lane, delimiters.eol);
+    let quotes = quote_mask(lane, delimiters.quote);
+    let eols = byte_mask(lane, delimiters.eol);
     if quotes == 0 && from.is_outside() {
         return Some(Block {
             ends: eols,

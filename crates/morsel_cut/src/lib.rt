@@ -6,7 +6,7 @@ mod cutter;
 mod header;
 mod laws;
 mod lines;
-mod marks;
+pub mod masks;
 mod pass;
 mod pieces;
 mod prefix;

@@ -7,7 +7,7 @@ ghost use Rattle.morsel_cut.specs.Places.{cut_place, delimiter_options};
 ghost use Rattle.morsel_cut.specs.Blocks.{tests_after, has_blank, AreCountedLines};
 
 use crate::blocks::block_of;
-use crate::marks::{LANES, bits_up_to_highest, byte_marks, one_on};
+use crate::masks::{LANES, bits_up_to_highest, byte_mask, one_on};
 use crate::pass::later_place;
 use crate::step::{ByteAt, Delimiters};
 
@@ -19,7 +19,7 @@ fn is_without_blanks(from: ByteAt, lane: &[u8], ends: u64, delimiters: Delimiter
     ensures { IsTrue result → has_blank (delimiter_options delimiters) (cut_place from) (take LANES lane.now) ≡ false }
 {
     let begins = one_on(ends, from.is_after_eol());
-    begins & (byte_marks(lane, delimiters.eol) | byte_marks(lane, b'\r')) == 0
+    begins & (byte_mask(lane, delimiters.eol) | byte_mask(lane, b'\r')) == 0
 }
 
 /// How many bytes some records take that a text begins with, and how many they are: none where that is not told 64 bytes at a

@@ -8,7 +8,7 @@ ghost use Rattle.morsel_cut.specs.Places.{cut_place, delimiter_options, IsOutsid
 ghost use Rattle.morsel_cut.specs.Runs.{RunsTo, up_to_last};
 
 use crate::blocks::block_of;
-use crate::marks::{LANES, bits_up_to_highest};
+use crate::masks::{LANES, bits_up_to_highest};
 use crate::step::{ByteAt, Delimiters};
 use memchr::{memchr, memrchr};
 

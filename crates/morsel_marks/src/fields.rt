@@ -5,9 +5,9 @@ ghost use Rattle.morsel_marks.specs.Marks.{marks_from, is_well_quoted_by, is_wel
 ghost use Rattle.morsel_marks.specs.MarkedRows.{IsRowText};
 
 use crate::look::{QuoteState, look};
-use crate::masks::LANES;
 use crate::places::put_places;
 use crate::rows::count_rows;
+use morsel_cut::masks::LANES;
 use morsel_grammar::CsvOptions;
 use morsel_meaning::Fault;
 use std::alloc::AllocError;

@@ -6,7 +6,8 @@ ghost use Rattle.std.specs.Prelude.{◌≡◌, ◌==◌, ◌||◌, ◌≤◌, �
 ghost use Rattle.morsel_grammar.specs.Split.{is_quote};
 ghost use Rattle.morsel_marks.specs.Marks.{set_places, marks_from, quotes_after, is_sound_from};
 
-use crate::masks::{LANES, byte_mask, low_bits, one_on, prefix_xor, quote_mask, spread, stop_mask};
+use crate::masks::{low_bits, stop_mask};
+use morsel_cut::masks::{LANES, byte_mask, one_on, prefix_xor, quote_mask, spread};
 
 /// What the bytes before a place tell of the quotes at it.
 #[derive(Clone, Copy, Debug)]

@@ -9,6 +9,6 @@ pub returns-then-is_outside : goal.returns-then-is_outside
 returns-then-is_outside c =
     let o = delimiter_options c.args.delimiters in
     let lane = c.args.lane.now in
-    plain_does o (cut_place c.args.from) c.plain_step.result (take 64 lane) c.quote_marks-quotes.result c.byte_marks-eols.result c.requires.fit
-    (c.is_outside.ensures.0 c.if-is_outside.true) (length-take-le 64 lane c.requires.room) c.quote_marks-quotes.ensures c.if-quotes-eq0.true c.byte_marks-eols.ensures
+    plain_does o (cut_place c.args.from) c.plain_step.result (take 64 lane) c.quote_mask-quotes.result c.byte_mask-eols.result c.requires.fit
+    (c.is_outside.ensures.0 c.if-is_outside.true) (length-take-le 64 lane c.requires.room) c.quote_mask-quotes.ensures c.if-quotes-eq0.true c.byte_mask-eols.ensures
     (c.plain_step.ensures ∙ ap (plain_step o) (sym (get_or-take 64 lane 63 0 (omega arith))))

@@ -1,6 +1,6 @@
 use Rattle.std.proofs.Common.{◌∙◌}
 use Rattle.morsel_cut.proofs.BitLemmas.{one_on_low, one_on_high, bool_bit}
-use Rattle.morsel_cut.proofs.marks.one_on.Goals as goal
+use Rattle.morsel_cut.proofs.masks.one_on.Goals as goal
 
 pub returns-clause-low : goal.returns-clause-low
 returns-clause-low c = one_on_low c.args.bits c.from.result c.args.first (c.from.ensures ∙ bool_bit c.args.first)

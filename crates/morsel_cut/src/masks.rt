@@ -12,23 +12,23 @@ pub const LANES: usize = 64;
 
 /// Which of the first 64 bytes are this one.
 #[inline(always)]
-pub fn byte_marks(text: &[u8], byte: u8) -> u64
-    requires { LANES ≤ length text.now }
-    ensures { result ≡ mask_l (map (λ b. b == byte) (take LANES text.now)) }
+pub fn byte_mask(lane: &[u8], byte: u8) -> u64
+    requires { LANES ≤ length lane.now }
+    ensures { result ≡ mask_l (map (λ b. b == byte) (take LANES lane.now)) }
 {
-    u8x64::from_slice(text)
+    u8x64::from_slice(lane)
         .simd_eq(u8x64::splat(byte))
         .to_bitmask()
 }
 
 /// Which of the first 64 bytes are quotes.
 #[inline(always)]
-pub fn quote_marks(text: &[u8], quote: Option<u8>) -> u64
-    requires { LANES ≤ length text.now }
-    ensures { result ≡ mask_l (map (is_quote quote) (take LANES text.now)) }
+pub fn quote_mask(lane: &[u8], quote: Option<u8>) -> u64
+    requires { LANES ≤ length lane.now }
+    ensures { result ≡ mask_l (map (is_quote quote) (take LANES lane.now)) }
 {
     match quote {
-        Some(quote) => byte_marks(text, quote),
+        Some(quote) => byte_mask(lane, quote),
         None => 0,
     }
 }

@@ -1,7 +1,7 @@
 use Rattle.std.proofs.Common.{ℕ, arith}
 use Rattle.morsel_cut.specs.Blocks.{ones_below}
 use Rattle.morsel_cut.proofs.BitLemmas.{ladder_start, ladder_step, ladder_end}
-use Rattle.morsel_marks.proofs.masks.prefix_xor.Goals as goal
+use Rattle.morsel_cut.proofs.masks.prefix_xor.Goals as goal
 
 pub returns : goal.returns
 returns c =

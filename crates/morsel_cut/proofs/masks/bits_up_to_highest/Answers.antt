@@ -1,5 +1,5 @@
 use Rattle.morsel_cut.proofs.BitLemmas.{has_bits}
-use Rattle.morsel_cut.proofs.marks.bits_up_to_highest.Goals as goal
+use Rattle.morsel_cut.proofs.masks.bits_up_to_highest.Goals as goal
 
 pub returns-clause-below : goal.returns-clause-below
 returns-clause-below c = (has_bits c.args.bits c.ranges.bits.fits).0
