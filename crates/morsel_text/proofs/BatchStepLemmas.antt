@@ -1,6 +1,6 @@
 -- The steps by which a batch is split, made and appended.
 use Rattle.std.proofs.Common.{◌≡◌, ℕ, zero, suc, ◌+◌, ◌-◌, ◌<◌, ◌≤◌, ◌∙◌, sym, ap, refl, arith, subst, Bool, true, false, List, [], ◌∷◌, ◌++◌, length, take, drop, set, get_or, map, append_assoc, length-append}
-use Rattle.std.proofs.lemmas.List.{append-nil, drop_more, take_all, take_more, take_more_set, drop-set-lt, map-append}
+use Rattle.std.proofs.lemmas.List.{append-nil, drop_more, take_all, take_more, take_more_set, drop-set-lt, map-append, nil_from_length}
 use Rattle.std.specs.Prelude.{Option, Some}
 use Rattle.std.specs.List.{slice_range}
 use Rattle.morsel_meaning.specs.declared.value.ColType.{ColType}
@@ -14,6 +14,7 @@ use Rattle.morsel_grammar.specs.Split.{record_at}
 use Rattle.morsel_text.specs.RawFields.{shown}
 use Rattle.morsel_text.specs.Pushes.{AreTexts, column_kinds, with_cell}
 use Rattle.morsel_text.specs.Batches.{spread, spread_all, SplitsBatch, AreTextColumns, IsColumnOf, AreMade, appended}
+use Rattle.morsel_text.specs.Steps.{AreHigh}
 use Rattle.morsel_text.specs.declared.raw_field.RawField.{RawField}
 use Rattle.morsel_text.proofs.BatchLemmas.{splits_more, spread_more, length-spread}
 
@@ -192,3 +193,21 @@ all_appended columns made old i answer all is =
     drop_none [] (suc n) short = refl
     drop_none (x ∷ xs) zero short = absurd (omega arith)
     drop_none (x ∷ xs) (suc n) short = drop_none xs n (omega arith)
+
+-- columns without values: those that follow, and one in front of them
+pub empty_more : (columns : List Values) (i : ℕ) (column : Values) → i < length columns → get_or columns i column ≡ column → length column.values ≡ 0
+    → (AreHigh 0 (drop i columns) → AreHigh 0 columns) → AreHigh 0 (drop (i + 1) columns) → AreHigh 0 columns
+empty_more columns i column within is none so_far later =
+    so_far (subst (AreHigh 0) (sym (drop_more columns i column within ∙ ap (λ (c : Values). c ∷ drop (i + 1) columns) is)) (none, later))
+
+-- what is put below columns without values is there alone
+pub appended-empty : (columns made : List Values) → AreHigh 0 columns → column_kinds made ≡ column_kinds columns → appended columns made ≡ made
+appended-empty [] [] high kinds = refl
+appended-empty [] (new ∷ made) high kinds = absurd (cc)
+appended-empty (column ∷ columns) [] high kinds = absurd (cc)
+appended-empty (column ∷ columns) (new ∷ made) high kinds =
+    let kind : column.kind ≡ new.kind = cc in
+    let later : column_kinds made ≡ column_kinds columns = cc in
+    ap (λ (vs : List Value). record column { values = vs ++ new.values } ∷ appended columns made) (nil_from_length column.values high.0)
+    ∙ ap (λ (k : ColType). let c : Values = record { kind = k; values = new.values } in c ∷ appended columns made) kind
+    ∙ ap (λ (cs : List Values). new ∷ cs) (appended-empty columns made high.1 later)

@@ -2,6 +2,10 @@
 use Rattle.std.proofs.Common.{◌≡◌, ℕ, zero, suc, ◌+◌, ◌<◌, ◌≤◌, ◌∙◌, sym, ap, refl, Bool, true, false, List, [], ◌∷◌, ◌++◌, length, drop, get_or, append_assoc}
 use Rattle.std.proofs.lemmas.List.{drop_more, drop_all, append-nil}
 use Rattle.std.specs.Prelude.{Some, slice_get}
+use Rattle.std.specs.List.{IsDistinct, AllByRecursion}
+use Rattle.std.specs.Str.{bytes_eq}
+use Rattle.morsel_meaning.specs.Values.{names_of}
+use Rattle.morsel_frame.specs.Names.{AreDistinct}
 use Rattle.morsel_meaning.specs.declared.value.Field.{Field}
 use Rattle.morsel_frame.specs.Columns.{Values}
 use Rattle.morsel_grammar.specs.Reading.{chosen}
@@ -50,3 +54,23 @@ empty_more all columns items fields i f column within is_f is_column pushed so_f
 pub empty_all : (all columns : List Values) (fields : List Field) (i : ℕ) → length fields ≤ i → columns ++ empty_columns (drop i fields) ≡ all → columns ≡ all
 empty_all all columns fields i past so_far =
     sym (append-nil columns) ∙ ap (λ fs. columns ++ empty_columns fs) (sym (drop_all i fields past)) ∙ so_far
+
+-- the chosen ones so far, where none are left
+pub chosen_all : {A : Type 0} (all kept : List A) (used : List Bool) (xs : List A) (i : ℕ) → length used ≤ i → kept ++ chosen (drop i used) (drop i xs) ≡ all → kept ≡ all
+chosen_all {A} all kept used xs i past so_far =
+    sym (append-nil kept) ∙ ap (λ (us : List Bool). kept ++ chosen us (drop i xs)) (sym (drop_all i used past)) ∙ so_far
+
+others_chosen : (name : List ℕ) (used : List Bool) (fields : List Field) → AllByRecursion (λ other. bytes_eq name other ≡ false) (names_of fields)
+    → AllByRecursion (λ other. bytes_eq name other ≡ false) (names_of (chosen used fields))
+others_chosen name [] fields apart = tt
+others_chosen name (u ∷ used) [] apart = tt
+others_chosen name (true ∷ used) (f ∷ fields) apart = (apart.0, others_chosen name used fields apart.1)
+others_chosen name (false ∷ used) (f ∷ fields) apart = others_chosen name used fields apart.1
+
+-- of distinct names those that are chosen are distinct
+pub chosen_distinct : (used : List Bool) (fields : List Field) → AreDistinct (names_of fields) → AreDistinct (names_of (chosen used fields))
+unfolding IsDistinct
+chosen_distinct [] fields distinct = tt
+chosen_distinct (u ∷ used) [] distinct = tt
+chosen_distinct (true ∷ used) (f ∷ fields) distinct = (others_chosen f.name used fields distinct.0, chosen_distinct used fields distinct.1)
+chosen_distinct (false ∷ used) (f ∷ fields) distinct = chosen_distinct used fields distinct.1

@@ -11,6 +11,7 @@ pub mod PlaceLemmas
 pub mod BatchLemmas
 pub mod BatchStepLemmas
 pub mod TurnLemmas
+pub mod EmptyLemmas
 pub mod PlainLemmas
 pub mod IntColumnLemmas
 pub mod MarkedLemmas

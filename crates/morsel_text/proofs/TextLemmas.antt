@@ -20,13 +20,13 @@ utf8_before xs ys b ascii utf8 =
 drop_behind : (xs ys : List ℕ) (b : ℕ) → drop (length xs + 1) (xs ++ b ∷ ys) ≡ ys
 drop_behind xs ys b = ap (drop (length xs + 1)) (sym (append_assoc xs (b ∷ []) ys)) ∙ drop_at (xs ++ b ∷ []) ys (length xs + 1) (length-append xs (b ∷ []))
 
-utf8_behind : (xs ys : List ℕ) (b : ℕ) → b < 128 → IsUtf8 (xs ++ b ∷ ys) → IsUtf8 ys
+pub utf8_behind : (xs ys : List ℕ) (b : ℕ) → b < 128 → IsUtf8 (xs ++ b ∷ ys) → IsUtf8 ys
 utf8_behind xs ys b ascii utf8 =
     let within : length xs < length (xs ++ b ∷ ys) = simp length-append (omega arith) in
     let here : get_or (xs ++ b ∷ ys) (length xs) 0 < 128 = rw (get_or_at xs b ys 0 (length xs) refl) ascii in
     subst IsUtf8 (drop_behind xs ys b) (IsUtf8-drop (xs ++ b ∷ ys) (length xs + 1) utf8 (IsCharBoundary-after_ascii (xs ++ b ∷ ys) (length xs) utf8 within here))
 
-utf8_byte : (b : ℕ) (ys : List ℕ) → b < 128 → IsUtf8 ys → IsUtf8 (b ∷ ys)
+pub utf8_byte : (b : ℕ) (ys : List ℕ) → b < 128 → IsUtf8 ys → IsUtf8 (b ∷ ys)
 utf8_byte b ys ascii utf8 = IsUtf8-append (b ∷ []) ys (IsUtf8-from_ascii (b ∷ []) (λ i. one i)) utf8
   where
     one : (i : ℕ) → get_or (b ∷ []) i 0 < 128

@@ -5,6 +5,7 @@ pub mod Pushes
 pub mod RowPlaces
 pub mod Steps
 pub mod Batches
+pub mod EmptyLines
 pub mod Plain
 pub mod MarkedColumns
 pub mod MarkedReads

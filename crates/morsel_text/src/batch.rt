@@ -1,7 +1,8 @@
 //! Many records at once: first their fields, column by column, and then the columns' values.
-ghost use Rattle.std.specs.Prelude.{◌≡◌, ◌++◌, ◌∷◌, [], length, map, replicate, IfOk, IsOkUnless, OnOk, IsUtf8};
+ghost use Rattle.std.specs.Prelude.{◌≡◌, ◌++◌, ◌∷◌, [], length, map, replicate, IfOk, IsOkUnless, IsTrue, OnOk, IsUtf8};
 ghost use Rattle.morsel_text.specs.RawFields.{shown};
 ghost use Rattle.morsel_text.specs.Pushes.{AreTexts, column_kinds};
+ghost use Rattle.morsel_text.specs.Steps.{AreHigh};
 ghost use Rattle.morsel_text.specs.Batches.{spread, SplitsBatch, AreTextColumns, MakesColumn, MakesAll, appended, ReadsBatch};
 
 use crate::cells::{Pushed, push_cell};
@@ -192,8 +193,35 @@ fn made_columns(
     Ok(Some(made))
 }
 
+/// Whether no column has values.
+fn are_empty(columns: &[Column]) -> bool
+    ensures { IsTrue result → AreHigh 0 columns.now }
+{
+    for column in columns {
+        if column.len() != 0 {
+            return false;
+        }
+    }
+    true
+}
+
 /// Puts the values of each column that was made below those of its column.
-pub fn append_columns(columns: &mut Vec<Column>, made: &[Column]) -> Result<(), Fault>
+pub fn append_columns(columns: &mut Vec<Column>, made: Vec<Column>) -> Result<(), Fault>
+    requires kinds { column_kinds made.items ≡ column_kinds columns.old.items }
+    requires width { length made.items ≡ length columns.old.items }
+    ensures ok { OnOk result (columns.new.items ≡ appended columns.old.items made.items) }
+    ensures out_of_memory { IsOkUnless result Fault.OutOfMemory }
+{
+    // Mostly these are the first rows of a text: then nothing is copied.
+    if are_empty(columns) {
+        *columns = made;
+        return Ok(());
+    }
+    append_each(columns, &made)
+}
+
+/// Puts the values of each column that was made below those of its column, one column after another.
+fn append_each(columns: &mut Vec<Column>, made: &[Column]) -> Result<(), Fault>
     requires kinds { column_kinds made.now ≡ column_kinds columns.old.items }
     requires width { length made.now ≡ length columns.old.items }
     ensures ok { OnOk result (columns.new.items ≡ appended columns.old.items made.now) }
@@ -233,6 +261,6 @@ pub fn read_batch<'a>(
     let Some(made) = made_columns(alloc, columns, &batch, used, options, content)? else {
         return Ok(None);
     };
-    append_columns(columns, &made)?;
+    append_columns(columns, made)?;
     Ok(Some((rest, rows)))
 }

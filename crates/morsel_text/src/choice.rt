@@ -1,5 +1,7 @@
 //! The columns that are read, and those of them that are used.
 ghost use Rattle.std.specs.Prelude.{◌≡◌, length, IfOk, IsOkUnless};
+ghost use Rattle.morsel_meaning.specs.Values.{names_of};
+ghost use Rattle.morsel_frame.specs.Names.{AreDistinct};
 ghost use Rattle.morsel_grammar.specs.Reading.{chosen};
 ghost use Rattle.morsel_text.specs.Steps.{empty_columns};
 
@@ -13,7 +15,7 @@ pub fn columns_of(alloc: Global, schema: &Schema) -> Result<Vec<Column>, Fault>
     ensures ok { IfOk result (λ columns. columns.items ≡ empty_columns schema.now) }
     ensures out_of_memory { IsOkUnless result Fault.OutOfMemory }
 {
-    let mut columns = Vec::new(alloc);
+    let mut columns = Vec::with_capacity(alloc, schema.len())?;
     for at in 0..schema.len() {
         columns.push(Column::new(alloc, schema.field(at).kind))?;
     }
@@ -32,10 +34,11 @@ fn field_again(field: &Field) -> Result<Field, Fault>
 fn chosen_fields(alloc: Global, schema: &Schema, used: &[bool]) -> Result<Vec<Field>, Fault>
     requires { length used.now ≡ length schema.now }
     ensures ok { IfOk result (λ fields. fields.items ≡ chosen used.now schema.now) }
+    ensures distinct { IfOk result (λ fields. AreDistinct (names_of fields.items)) }
     ensures out_of_memory { IsOkUnless result Fault.OutOfMemory }
 {
-    let mut fields = Vec::new(alloc);
-    for at in 0..used.len() {
+    let mut fields = Vec::with_capacity(alloc, schema.len())?;
+    for at in 0..schema.len() {
         if !used[at] {
             continue;
         }
@@ -50,11 +53,8 @@ pub fn chosen_schema(alloc: Global, schema: &Schema, used: &[bool]) -> Result<Sc
     ensures ok { IfOk result (λ new. new ≡ chosen used.now schema.now) }
     ensures out_of_memory { IsOkUnless result Fault.OutOfMemory }
 {
-    // The fields of a schema differ in name, and so do some of them: what refuses them is out of memory.
-    let Ok(chosen) = Schema::new(alloc, chosen_fields(alloc, schema, used)?) else {
-        return Err(Fault::OutOfMemory);
-    };
-    Ok(chosen)
+    let fields = chosen_fields(alloc, schema, used)?;
+    Ok(Schema::of_distinct(fields))
 }
 
 /// Takes the used columns out.
@@ -67,7 +67,7 @@ pub fn chosen_columns(
     ensures ok { IfOk result (λ kept. kept.items ≡ chosen used.now columns.old.items) }
     ensures out_of_memory { IsOkUnless result Fault.OutOfMemory }
 {
-    let mut kept = Vec::new(alloc);
+    let mut kept = Vec::with_capacity(alloc, used.len())?;
     for at in 0..used.len() {
         if !used[at] {
             continue;

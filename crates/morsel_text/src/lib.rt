@@ -4,6 +4,7 @@
 mod batch;
 mod cells;
 mod choice;
+mod empty_lines;
 mod ints;
 mod marked;
 mod marked_columns;

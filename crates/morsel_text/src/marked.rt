@@ -150,6 +150,6 @@ pub fn read_marked(
     let Some(made) = values_by_marks(alloc, columns, &marked, rows, used, content)? else {
         return Ok(None);
     };
-    append_columns(columns, &made)?;
+    append_columns(columns, made)?;
     Ok(Some(rows))
 }

@@ -61,14 +61,14 @@ fn marked_numbers(
         (column_fields marked.now.options.now (first + 1 == width) marked.now.text.now marked.now.marks.now first width rows) made) }
 {
     let is_last = first + 1 == width;
-    let mut valid = Vec::with_capacity(alloc, rows)?;
+    let mut valid = vec![in alloc; false; rows]?;
     let mut numbers = Vec::with_capacity(alloc, rows)?;
     let mut j = first;
-    for _ in 0..rows {
+    for row in 0..rows {
         let Some((is_number, number)) = marked_number(marked, j, is_last, content)? else {
             return Ok(None);
         };
-        valid.push(is_number)?;
+        valid[row] = is_number;
         numbers.push(number)?;
         j += width;
     }

@@ -43,7 +43,18 @@ pub fn bytes_before<'a>(text: &'a [u8], marks: &[u32], j: usize) -> &'a [u8]
     requires ends { get_or marks.now j 0 ≤ length text.now }
     ensures { result.now ≡ field_bytes text.now marks.now j }
 {
-    let begin = place_after(marks, j);
+    bytes_from(text, place_after(marks, j), marks, j)
+}
+
+/// The bytes of the field before mark number `j`, which begins at this place.
+#[inline(always)]
+pub fn bytes_from<'a>(text: &'a [u8], begin: usize, marks: &[u32], j: usize) -> &'a [u8]
+    requires within { j < length marks.now }
+    requires begin { begin ≡ begin_after marks.now j }
+    requires begins { begin ≤ get_or marks.now j 0 }
+    requires ends { get_or marks.now j 0 ≤ length text.now }
+    ensures { result.now ≡ field_bytes text.now marks.now j }
+{
     let end = marks[j] as usize;
     &text[begin..end]
 }

@@ -9,7 +9,7 @@ ghost use Rattle.morsel_marks.specs.Marks.{is_well_quoted, field_ends};
 ghost use Rattle.morsel_text.specs.RawFields.{shown};
 ghost use Rattle.morsel_text.specs.MarkedColumns.{field_before, column_fields, IsTextField, AreTextFields, MakesValues, PutsText};
 
-use crate::marked_field::{MarkedText, begins_quoted, bytes_before, marked_field, place_after};
+use crate::marked_field::{MarkedText, begins_quoted, bytes_from, marked_field, place_after};
 use crate::parts::content_len;
 use crate::raw_field::RawField;
 use crate::split::{run_len, unquote};
@@ -179,11 +179,11 @@ fn put_marked_text(
     ensures { IfOk result (λ found. IfSome found (λ is_text. PutsText (cell_of marked.now.options.now types.Text
         (field_before marked.now.options.now is_last marked.now.text.now marked.now.marks.now j)) texts.old is_text texts.new)) }
 {
-    let raw = bytes_before(marked.text, marked.marks, j);
+    let begin = place_after(marked.marks, j);
+    let raw = bytes_from(marked.text, begin, marked.marks, j);
     if begins_quoted(raw, marked.options) {
         return put_quoted_text(texts, marked, j, is_last, content);
     }
-    let begin = place_after(marked.marks, j);
     let len = plain_len(raw, marked.options, is_last);
     let is_text = put_plain_text(texts, marked.text, begin, len, marked.options)?;
     Ok(Some(is_text))
@@ -210,14 +210,15 @@ pub fn marked_texts(
         (column_fields marked.now.options.now (first + 1 == width) marked.now.text.now marked.now.marks.now first width rows) made) }
 {
     let is_last = first + 1 == width;
-    let mut valid = Vec::with_capacity(alloc, rows)?;
-    let mut texts = TextRoom::new(alloc, rows, marked.text.len() / width)?;
+    let mut valid = vec![in alloc; false; rows]?;
+    // Twice as much as where all columns have as many bytes: to give a column more room later takes a copy of it.
+    let mut texts = TextRoom::new(alloc, rows, (marked.text.len() / width).saturating_mul(2))?;
     let mut j = first;
-    for _ in 0..rows {
+    for row in 0..rows {
         let Some(is_text) = put_marked_text(&mut texts, marked, j, is_last, content)? else {
             return Ok(None);
         };
-        valid.push(is_text)?;
+        valid[row] = is_text;
         j += width;
     }
     Ok(Some(Column::from_texts(valid, texts.into_texts())))

@@ -14,6 +14,7 @@ ghost use Rattle.morsel_text.specs.Batches.{TurnsTo};
 
 use crate::batch::read_batch;
 use crate::choice::{chosen_columns, chosen_schema, columns_of};
+use crate::empty_lines::behind_empty;
 use crate::marked::read_marked;
 use crate::raw_field::RawField;
 use crate::reader::{Reader, Step};
@@ -101,6 +102,7 @@ fn read_record<'a>(
 
 /// Reads the rows of a batch of records, or where that is not to be, the one record that a text begins with.
 ///
+/// A line without bytes is not for a batch, so none is begun for it.
 /// `is_utf8` says that the text is known to be UTF-8.
 fn read_turn<'a>(
     reader: &Reader<'_>,
@@ -122,7 +124,7 @@ fn read_turn<'a>(
     ensures room { IfOk result (λ step. step.rows + length step.rest.now ≤ length text.now) }
     ensures utf8 { IfOk result (λ step. IsUtf8 text.now → IsUtf8 step.rest.now) }
 {
-    if head || !is_utf8 {
+    if head || !is_utf8 || text[0] == reader.options.eol() {
         return read_record(reader, text, at, head, columns, fields, content);
     }
     match read_batch(
@@ -239,6 +241,9 @@ fn read_all(
     let mut awaits_header = head;
     let mut height = 0;
     for _ in 0..bytes.len() {
+        let behind = behind_empty(rest, awaits_header, columns.len(), reader.options);
+        place += (rest.len() - behind.len()) as u64;
+        rest = behind;
         if rest.is_empty() {
             return Ok((height, awaits_header));
         }

@@ -39,7 +39,7 @@ impl TextRoom {
         ensures { IfOk result (λ room. room ≡ []) }
     {
         Ok(TextRoom {
-            bytes: vec![in alloc; 0; bytes]?,
+            bytes: vec![in alloc; 0; bytes.saturating_add(SPARE)]?,
             at: 0,
             ends: Vec::with_capacity(alloc, texts)?,
         })

@@ -17,12 +17,10 @@ made_columns-requires-clause-batch c =
 
 pub append_columns-requires-clause-kinds : goal.append_columns-requires-clause-kinds
 append_columns-requires-clause-kinds c =
-    ap column_kinds c.deref-3.ensures.value
-    ∙ made_kinds c.args.options.now c.args.used.now (column_kinds c.deref.result.now) c.deref-2.result.now c.in-Some.made.items (rw c.in-Some.is at c.in_ok-made.ensures.columns)
+    made_kinds c.args.options.now c.args.used.now (column_kinds c.deref.result.now) c.deref-2.result.now c.in-Some.made.items (rw c.in-Some.is at c.in_ok-made.ensures.columns)
     ∙ ap column_kinds c.deref.ensures.value
 
 pub append_columns-requires-clause-width : goal.append_columns-requires-clause-width
 append_columns-requires-clause-width c =
-    ap length c.deref-3.ensures.value
-    ∙ made_length c.args.options.now c.args.used.now c.deref.result.now c.deref-2.result.now c.in-Some.made.items (rw c.in-Some.is at c.in_ok-made.ensures.columns)
+    made_length c.args.options.now c.args.used.now c.deref.result.now c.deref-2.result.now c.in-Some.made.items (rw c.in-Some.is at c.in_ok-made.ensures.columns)
     ∙ ap length c.deref.ensures.value

@@ -2,7 +2,7 @@ use Rattle.std.proofs.Common.{◌≡◌, ◌+◌, ◌-◌, ◌*◌, ◌∙◌, s
 use Rattle.morsel_frame.specs.Columns.{Values}
 use Rattle.morsel_marks.specs.MarkedRows.{IsRowText}
 use Rattle.morsel_text.specs.Pushes.{column_kinds}
-use Rattle.morsel_text.specs.Batches.{AreMade, PutsRows, appended}
+use Rattle.morsel_text.specs.Batches.{AreMade, PutsRows}
 use Rattle.morsel_text.specs.MarkedReads.{AreWholeFields, field_of_mark, raw_of, raw_columns}
 use Rattle.morsel_text.proofs.BatchStepLemmas.{made_kinds, made_length}
 use Rattle.morsel_text.proofs.MarkedReadLemmas.{IsWholeText, puts_marked}
@@ -10,14 +10,12 @@ use Rattle.morsel_text.proofs.marked.read_marked.Goals as goal
 
 pub append_columns-requires-clause-kinds : goal.append_columns-requires-clause-kinds
 append_columns-requires-clause-kinds c =
-    ap column_kinds c.deref-2.ensures.value
-    ∙ made_kinds c.args.options.now c.args.used.now (column_kinds c.deref.result.now) _ c.in-Some-2.made.items (rw c.in-Some-2.is at c.in_ok-made.ensures.columns)
+    made_kinds c.args.options.now c.args.used.now (column_kinds c.deref.result.now) _ c.in-Some-2.made.items (rw c.in-Some-2.is at c.in_ok-made.ensures.columns)
     ∙ ap column_kinds c.deref.ensures.value
 
 pub append_columns-requires-clause-width : goal.append_columns-requires-clause-width
 append_columns-requires-clause-width c =
-    ap length c.deref-2.ensures.value
-    ∙ made_length c.args.options.now c.args.used.now c.deref.result.now _ c.in-Some-2.made.items (rw c.in-Some-2.is at c.in_ok-made.ensures.columns)
+    made_length c.args.options.now c.args.used.now c.deref.result.now _ c.in-Some-2.made.items (rw c.in-Some-2.is at c.in_ok-made.ensures.columns)
     ∙ ap length c.deref.ensures.value
 
 pub returns-clause-rows : goal.returns-clause-rows
@@ -43,5 +41,5 @@ returns-clause-rows c =
     let are : AreMade o used (column_kinds old) (raw_columns (λ j. raw_of (field_of_mark o text marks j)) w rows) made =
     subst (λ (cs : List Values). AreMade o used (column_kinds cs) (raw_columns (λ j. raw_of (field_of_mark o text marks j)) (length cs - 1) rows) made) c.deref.ensures.value
     (rw c.in-Some-2.is at c.in_ok-made.ensures.columns) in
-    subst (λ (new : List Values). PutsRows o used text old [] rows new) (sym (c.in_ok-append_columns.ensures.ok ∙ ap (appended old) c.deref-2.ensures.value))
+    subst (λ (new : List Values). PutsRows o used text old [] rows new) (sym c.in_ok-append_columns.ensures.ok)
     (puts_marked o used text marks w rows old made whole wide (omega arith) are)

@@ -1,7 +1,7 @@
 use Rattle.std.proofs.Common.{◌≡◌, ◌++◌, length, take, drop}
 use Rattle.morsel_text.specs.Pushes.{column_kinds}
 use Rattle.morsel_text.specs.Batches.{appended}
-use Rattle.morsel_text.proofs.batch.append_columns.Given as goal
+use Rattle.morsel_text.proofs.batch.append_each.Given as goal
 
 abbrev pub invariant-loop-at : goal.invariant-loop-at
 invariant-loop-at l = record {
