@@ -1,8 +1,8 @@
 -- Bytes that need no escape: what a lane tells of them, and how they are written.
-use Rattle.std.proofs.Common.{◌≡◌, ◌⊎◌, inl, inr, refl, ℕ, zero, suc, ◌+◌, ◌%◌, ◌^◌, ◌<◌, ◌≤◌, ◌∙◌, sym, ap, arith, Bool, true, false, cond, ◌||◌, ◌==◌, List, [], ◌∷◌, ◌++◌, length, get_or, take, drop, map, replicate, bit_or, eqb, ltb}
+use Rattle.std.proofs.Common.{◌≡◌, ◌⊎◌, inl, inr, refl, ℕ, zero, suc, subst, ◌+◌, ◌%◌, ◌^◌, ◌<◌, ◌≤◌, ◌∙◌, sym, ap, arith, Bool, true, false, cond, ◌||◌, ◌&&◌, ◌==◌, List, [], ◌∷◌, ◌++◌, length, get_or, take, drop, map, replicate, bit_or, eqb, ltb}
 use Rattle.std.proofs.lemmas.Bool.{or_parts, eqb-true, ne_eqb, ltb-false, cases_lt, OnTrue_from}
 use Rattle.std.proofs.lemmas.List.{length-map}
-use Rattle.std.proofs.lemmas.Simd.{zip2_splat, zip2_of_maps, mask_l-mod, none_from_empty_mask}
+use Rattle.std.proofs.lemmas.Simd.{zip2_splat, zip2_of_maps, mask_l-mod, none_from_empty_mask, length-chunk}
 use Rattle.std.specs.Bool.{OnTrue}
 use Rattle.std.specs.List.{flat_map}
 use lib.Lanes.{chunk, mask_l, zip2, top}
@@ -32,23 +32,28 @@ each_compared (b ∷ lane) =
     ap (λ x. x ∷ map (top 7) (map compared lane)) (any_of (eqb b 34) (eqb b 92) (ltb b 32))
     ∙ ap (λ xs. needs_escape b ∷ xs) (each_compared lane)
 
--- the three comparisons of a lane, as the code makes them
-pub escapes_of_lane : (lane : List ℕ) → length lane ≡ 8
-    → mask_l (map (top 7) (zip2 bit_or (zip2 bit_or (zip2 (λ a b. all_bits (eqb a b)) lane (replicate 8 34)) (zip2 (λ a b. all_bits (eqb a b)) lane (replicate 8 92)))
-    (zip2 (λ a b. all_bits (ltb a b)) lane (replicate 8 32)))) % 2 ^ 64 ≡ mask_l (map needs_escape lane)
-escapes_of_lane lane long =
-    let quotes = zip2_splat (λ (a b : ℕ). all_bits (eqb a b)) lane 8 34 long in
-    let backslashes = zip2_splat (λ (a b : ℕ). all_bits (eqb a b)) lane 8 92 long in
-    let controls = zip2_splat (λ (a b : ℕ). all_bits (ltb a b)) lane 8 32 long in
+-- the three comparisons of a lane of `n` bytes, as the code makes them
+abbrev pub escapes_told : ℕ → List ℕ → ℕ
+escapes_told n lane = mask_l (map (top 7) (zip2 bit_or (zip2 bit_or (zip2 (λ a b. all_bits (eqb a b)) lane (replicate n 34)) (zip2 (λ a b. all_bits (eqb a b)) lane (replicate n 92)))
+    (zip2 (λ a b. all_bits (ltb a b)) lane (replicate n 32)))) % 2 ^ 64
+
+escapes_of_lane : (n : ℕ) (lane : List ℕ) → length lane ≡ n → n ≤ 64 → escapes_told n lane ≡ mask_l (map needs_escape lane)
+escapes_of_lane n lane long fits =
+    let quotes = zip2_splat (λ (a b : ℕ). all_bits (eqb a b)) lane n 34 long in
+    let backslashes = zip2_splat (λ (a b : ℕ). all_bits (eqb a b)) lane n 92 long in
+    let controls = zip2_splat (λ (a b : ℕ). all_bits (ltb a b)) lane n 32 long in
     let marks = zip2_of_maps bit_or _ _ lane (zip2_of_maps bit_or _ _ lane quotes backslashes) controls in
     ap (λ (l : List ℕ). mask_l (map (top 7) l) % 2 ^ 64) marks
     ∙ (ap (λ (l : List Bool). mask_l l % 2 ^ 64) (each_compared lane)
-    ∙ mask_l-mod (map needs_escape lane) 64 (omega (arith, length-map lane needs_escape, long)))
+    ∙ mask_l-mod (map needs_escape lane) 64 (omega (arith, length-map lane needs_escape, long, fits)))
 
 -- where no bit of a lane is set, none of its bytes needs an escape
-pub plain_lane : (text : List ℕ) (from mask : ℕ) → from + 8 ≤ length text → mask ≡ mask_l (map needs_escape (chunk from 8 text)) → OnTrue (mask == 0) (ArePlain from (from + 8) text)
-plain_lane text from mask within is =
-    OnTrue_from (mask == 0) (ArePlain from (from + 8) text) (λ none. none_from_empty_mask needs_escape text from 8 0 within (sym is ∙ eqb-true mask 0 none))
+pub plain_lane : (n : ℕ) (text : List ℕ) (from : ℕ) → from + n ≤ length text → n ≤ 64
+    → OnTrue (escapes_told n (chunk from n text) == 0) (ArePlain from (from + n) text)
+plain_lane n text from within fits =
+    let told = escapes_of_lane n (chunk from n text) (length-chunk from n text within) fits in
+    OnTrue_from (escapes_told n (chunk from n text) == 0) (ArePlain from (from + n) text)
+    (λ none. none_from_empty_mask needs_escape text from n 0 within (sym told ∙ eqb-true (escapes_told n (chunk from n text)) 0 none))
 
 -- bytes that need no escape, and more of them
 pub plain_more : (text : List ℕ) (from mid to : ℕ) (last : ℕ) → last ≤ mid → ArePlain from mid text → ArePlain last to text → ArePlain from to text
@@ -57,6 +62,14 @@ plain_more text from mid to last meets front back = λ k low high. by k low high
     by : (k : ℕ) → from ≤ k → k < to → (k < mid) ⊎ (mid ≤ k) → needs_escape (get_or text k 0) ≡ false
     by k low high (inl before) = front k low before
     by k low high (inr behind) = back k (omega arith) high
+
+-- two lanes without an escape that meet
+pub plain_both : (text : List ℕ) (n last len : ℕ) (front back : Bool) → last ≤ n → last + n ≡ len
+    → OnTrue front (ArePlain 0 n text) → OnTrue back (ArePlain last (last + n) text) → OnTrue (front && back) (ArePlain 0 len text)
+plain_both text n last len true true meets ends front back =
+    plain_more text 0 n len last meets front (subst (λ (m : ℕ). ArePlain last m text) ends back)
+plain_both text n last len true false meets ends front back = tt
+plain_both text n last len false back meets ends front after = tt
 
 plain_byte : (b : ℕ) → needs_escape b ≡ false → escaped b ≡ b ∷ []
 plain_byte b is =

@@ -2,3 +2,4 @@
 pub mod PutLemmas
 pub mod MemberLemmas
 pub mod EscapeLemmas
+pub mod DigitLemmas

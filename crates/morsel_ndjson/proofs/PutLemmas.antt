@@ -1,12 +1,8 @@
 -- Bytes that follow others, in a buffer that has room after them.
-use Rattle.std.proofs.Common.{◌≡◌, ℕ, ◌+◌, ◌/◌, ◌%◌, ◌^◌, ◌<◌, ◌≤◌, List, [], ◌∷◌, ◌++◌, length, take, drop, refl, ap, sym, ◌∙◌, append_assoc, arith, length-append, decimal, subst, Result}
-use Rattle.std.proofs.lemmas.List.{take-take, take-append-drop, take_at, take-append-le, length-take-le}
+use Rattle.std.proofs.Common.{◌≡◌, ℕ, ◌+◌, ◌-◌, ◌/◌, ◌%◌, ◌^◌, ◌<◌, ◌≤◌, List, [], ◌∷◌, ◌++◌, length, take, drop, refl, ap, sym, ◌∙◌, append_assoc, arith, length-append, decimal, subst, Result}
+use Rattle.std.proofs.lemmas.List.{take_all, take-take, take-append-drop, take_at, take-append-le, length-take-le}
 use Rattle.std.proofs.lemmas.List.{drop-take}
 use Rattle.std.proofs.Math.Seq.{take-append-add}
-use Rattle.std.proofs.lemmas.Bool.{leb-false, leb-true}
-use mir.Val.{bool_byte}
-use lib.Dec.{leb}
-use mathlib.Core.Bool.{Bool, true, false}
 use Rattle.std.proofs.lemmas.Fmt.{decimal_digit, decimal_step}
 use Rattle.morsel_ndjson.specs.Members.{Puts}
 
@@ -60,6 +56,22 @@ word_over old out now padded at from last n len within ends was from_within last
     cut_words old now padded at (last + n) len ends was last_within last_room
     (one_word old out now padded at last n last_within (cut_words old out padded at from last within was from_within from_room so_far) word)
 
+-- two words that meet are a whole text
+pub two_words : (old out now text : List ℕ) (at n : ℕ) → n ≤ length text → length text ≤ n + n → at + length text ≤ length old
+    → at + n ≤ length out → at + length text ≤ length now → take (at + n) out ≡ take at old ++ take n text
+    → take (at + (length text - n) + n) now ≡ take (at + (length text - n)) out ++ take n (drop (length text - n) text)
+    → take (at + length text) now ≡ take at old ++ text
+two_words old out now text at n long short room out_room now_room front back =
+    word_over old out now text at n (length text - n) n (length text) (omega arith) (omega arith) (omega arith) (omega arith) (omega arith) out_room (omega arith) front back
+    ∙ ap (λ (s : List ℕ). take at old ++ s) (take_all (length text) text (omega arith))
+
+-- what was before a word is what it was
+pub before_word : (old now word : List ℕ) (at n : ℕ) → at ≤ length old → take (at + n) now ≡ take at old ++ word → take at now ≡ take at old
+before_word old now word at n was written =
+    let short : at ≤ length (take at old) = rw (length-take-le at old was) (omega arith) in
+    sym (take-take at (at + n) now (omega arith)) ∙ (ap (λ (s : List ℕ). take at s) written
+    ∙ (take-append-le at (take at old) word short ∙ take-take at at old (omega arith)))
+
 -- digits that end where they were said to end begin where they should
 pub digits_at : (old now digits : List ℕ) (at start : ℕ) → start + length digits ≡ at + length digits → at + length digits ≤ length old
     → drop start now ≡ digits ++ drop (at + length digits) old → take start now ≡ take start old
@@ -98,21 +110,6 @@ length_four n above below = omega (arith, length_step n (omega arith) (omega ari
 
 pub length_five : (n : ℕ) → 10000 ≤ n → n < 100000 → length (decimal n) ≡ 5
 length_five n above below = omega (arith, length_step n (omega arith) (omega arith), length_four (n / 10) (omega arith) (omega arith))
-
--- each test that a number of at most five digits passes is a digit more
-pub length_by_tests : (n : ℕ) (two three four five : Bool) → leb 10 n ≡ two → leb 100 n ≡ three → leb 1000 n ≡ four → leb 10000 n ≡ five
-    → n < 100000 → 1 + bool_byte two + bool_byte three + bool_byte four + bool_byte five ≡ length (decimal n)
-length_by_tests n false false false false a b c d below = sym (length_one n (leb-false 10 n a))
-length_by_tests n true false false false a b c d below = sym (length_two n (leb-true 10 n a) (leb-false 100 n b))
-length_by_tests n true true false false a b c d below = sym (length_three n (leb-true 100 n b) (leb-false 1000 n c))
-length_by_tests n true true true false a b c d below = sym (length_four n (leb-true 1000 n c) (leb-false 10000 n d))
-length_by_tests n true true true true a b c d below = sym (length_five n (leb-true 10000 n d) below)
-length_by_tests n false true three four a b c d below = absurd (omega (arith, leb-false 10 n a, leb-true 100 n b))
-length_by_tests n false false true four a b c d below = absurd (omega (arith, leb-false 10 n a, leb-true 1000 n c))
-length_by_tests n false false false true a b c d below = absurd (omega (arith, leb-false 10 n a, leb-true 10000 n d))
-length_by_tests n true false true four a b c d below = absurd (omega (arith, leb-false 100 n b, leb-true 1000 n c))
-length_by_tests n true false false true a b c d below = absurd (omega (arith, leb-false 100 n b, leb-true 10000 n d))
-length_by_tests n true true false true a b c d below = absurd (omega (arith, leb-false 1000 n c, leb-true 10000 n d))
 
 -- five digits more than without the last five
 pub length_more : (n : ℕ) → 100000 ≤ n → n < 2 ^ 64 → length (decimal n) ≡ 5 + length (decimal (n / 100000))

@@ -25,7 +25,7 @@ impl Model for Beginning {
 
     ghost view = { λ begin. take begin.len begin.padded.items };
 
-    ghost invariant = { λ begin. begin.len + 15 ≤ length begin.padded.items };
+    ghost invariant = { λ begin. begin.len + 16 ≤ length begin.padded.items };
 }
 
 impl Beginning {
@@ -37,7 +37,7 @@ impl Beginning {
         let Some(most) = name.len().checked_mul(6) else {
             return Err(Fault::OutOfMemory)
         };
-        let Some(room) = most.checked_add(19) else {
+        let Some(room) = most.checked_add(20) else {
             return Err(Fault::OutOfMemory)
         };
         let mut padded = Vec::new(alloc);
@@ -54,10 +54,10 @@ impl Beginning {
         self.len
     }
 
-    /// Puts the bytes, and writes over up to 15 after them.
+    /// Puts the bytes, and writes over up to 16 after them.
     #[inline(always)]
     pub fn put(&self, out: &mut [u8], at: usize) -> usize
-        requires { at + length self.now + 15 ≤ length out.old }
+        requires { at + length self.now + 16 ≤ length out.old }
         ensures end { result ≡ at + length self.now }
         ensures written { take result out.new ≡ take at out.old ++ self.now }
     {

@@ -3,6 +3,7 @@
 
 mod beginning;
 mod cursor;
+mod digits;
 mod lines;
 mod members;
 mod values;

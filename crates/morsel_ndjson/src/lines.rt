@@ -1,5 +1,5 @@
 //! Rows as JSON, one object a line.
-ghost use Rattle.std.specs.Prelude.{◌≡◌, ◌+◌, ◌≤◌, ◌++◌, length, take, OnOk, OnErr, IfOk, IsOkUnless, codes, if◌then◌else◌};
+ghost use Rattle.std.specs.Prelude.{◌≡◌, ◌+◌, ◌^◌, ◌≤◌, ◌++◌, length, take, OnOk, OnErr, IfOk, IsOkUnless, codes, if◌then◌else◌};
 ghost use Rattle.morsel_meaning.specs.declared.fault.Fault.TheVariants as faults;
 ghost use Rattle.morsel_meaning.specs.Values.{names_of};
 ghost use Rattle.morsel_ndjson.specs.Ndjson.{ndjson};
@@ -95,6 +95,7 @@ fn put_line(
     requires within { at ≤ length out.old.items }
     requires row { HaveRow row members.now }
     requires whole { members_room members.now ≤ room }
+    requires small { room ≤ 2 ^ 60 }
     ensures { Puts out.old.items at (members_at row members.now ++ line_end members.now) result out.new.items }
 {
     let Ok(()) = make_room(out, at, room) else {
@@ -115,6 +116,7 @@ fn put_members(
 ) -> Result<usize, AllocError>
     requires row { HaveRow row members.now }
     requires whole { members_room members.now ≤ room }
+    requires small { room ≤ 2 ^ 60 }
     requires room { at + members_room members.now ≤ length out.old.items }
     ensures put { Puts out.old.items at (members_at row members.now) result out.new.items }
     ensures left { IfOk result (λ end. end + 3 ≤ length out.new.items) }

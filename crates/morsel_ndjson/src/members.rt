@@ -1,11 +1,11 @@
 //! Columns as rows are written from them: each value after what its column's member begins with. A column is found in the
 //! frame once, and what it lends is known by its type.
-ghost use Rattle.std.specs.Prelude.{◌≡◌, ◌+◌, ◌≤◌, ◌<◌, ◌++◌, ℕ, pos, false, length, take, get_or, IfOk, IfSome, if◌then◌else◌};
+ghost use Rattle.std.specs.Prelude.{◌≡◌, ◌+◌, ◌*◌, ◌^◌, ◌≤◌, ◌<◌, ◌++◌, ℕ, pos, false, length, take, get_or, IfOk, IfSome, if◌then◌else◌};
 ghost use Rattle.morsel_meaning.specs.Values.{names_of};
 ghost use Rattle.morsel_frame.specs.Cells.{value_of};
 ghost use Rattle.morsel_frame.specs.Columns.{value_at};
 ghost use Rattle.morsel_ndjson.specs.Ndjson.{json_value};
-ghost use Rattle.morsel_ndjson.specs.Members.{beginnings, members_from, members_room, text_room, Puts};
+ghost use Rattle.morsel_ndjson.specs.Members.{beginnings, members_from, members_room, Puts};
 
 use crate::beginning::Beginning;
 use crate::cursor::make_room;
@@ -14,6 +14,9 @@ use morsel_frame::{Cell, Column, Frame, Texts};
 use morsel_meaning::{ColType, Value};
 use std::alloc::{AllocError, Global};
 use std::marker::Model;
+
+/// More room than any memory has: so much for a row, or a text of so many bytes, is refused.
+const MOST_ROOM: usize = 1 << 60;
 
 /// The values that a column lends.
 #[derive(Clone, Copy, Drop)]
@@ -93,6 +96,8 @@ impl<'a> Member<'a> {
         room: usize,
     ) -> Result<usize, AllocError>
         requires row { row < length self.now.1 }
+        requires own { length self.now.0 + 20 ≤ room }
+        requires small { room ≤ 2 ^ 60 }
         requires room { at + (length self.now.0 + 20) ≤ length out.old.items }
         ensures put { Puts out.old.items at (self.now.0 ++ json_value (value_at self.now.1 row)) result out.new.items }
         ensures left { IfOk result (λ end. (more : ℕ) → more ≤ room →
@@ -100,17 +105,10 @@ impl<'a> Member<'a> {
     {
         let valid = self.valid[row];
         match self.lent {
-            Lent::Ints(numbers) => {
-                let cell = int_at(valid, numbers, row);
-                Ok(put_member_at(out, at, self.begin, cell))
-            }
-            Lent::Bools(flags) => {
-                let cell = bool_at(valid, flags, row);
-                Ok(put_member_at(out, at, self.begin, cell))
-            }
+            Lent::Ints(numbers) => { Ok(put_int_member(out, at, self.begin, valid, numbers, row)) }
+            Lent::Bools(flags) => Ok(put_bool_member(out, at, self.begin, valid, flags, row)),
             Lent::Texts(texts) => {
-                let cell = text_cell(valid, texts.get(row));
-                put_text_member(out, at, self.begin, cell, room)
+                put_text_member(out, at, self.begin, valid, texts.get(row), room)
             }
         }
     }
@@ -134,7 +132,8 @@ pub fn make_members<'a>(
 
 /// The room for a row, but for its texts.
 pub fn row_room(members: &[Member<'_>]) -> Option<usize>
-    ensures { IfSome result (λ room. room ≡ members_room members.now) }
+    ensures room { IfSome result (λ room. room ≡ members_room members.now) }
+    ensures small { IfSome result (λ room. room ≤ 2 ^ 60) }
 {
     let mut room: usize = 3;
     for at in 0..members.len() {
@@ -146,7 +145,7 @@ pub fn row_room(members: &[Member<'_>]) -> Option<usize>
         };
         room = sum;
     }
-    Some(room)
+    if room > MOST_ROOM { None } else { Some(room) }
 }
 
 /// The number at a place, under its mark.
@@ -183,75 +182,127 @@ fn text_cell(valid: bool, text: &str) -> Cell<'_>
     if valid { Cell::Text(text) } else { Cell::Null }
 }
 
-/// The room, and more of it for a text.
+/// Puts a beginning and a number under its mark.
 #[inline(always)]
-fn with_text_room(room: usize, cell: Cell<'_>) -> Option<usize>
-    ensures { IfSome result (λ more. more ≡ room + text_room (value_of cell.entry)) }
+fn put_int_member(
+    out: &mut Vec<u8>,
+    at: usize,
+    begin: &Beginning,
+    valid: bool,
+    numbers: &[i64],
+    row: usize,
+) -> usize
+    requires row { row < length numbers.now }
+    requires room { at + (length begin.now + 20) ≤ length out.old.items }
+    ensures rises { at ≤ result }
+    ensures within { result ≤ at + (length begin.now + 20) }
+    ensures same_len { length out.new.items ≡ length out.old.items }
+    ensures inside { result ≤ length out.new.items }
+    ensures written { take result out.new.items ≡ take at out.old.items ++
+        (begin.now ++ json_value (if valid then Value.Int (get_or numbers.now row (pos 0)) else Value.Null)) }
 {
-    let Cell::Text(text) = cell else {
-        return Some(room);
-    };
-    let Some(most) = text.len().checked_mul(6) else {
-        return None;
-    };
-    most.checked_add(room)
+    put_int_at(out.as_mut_slice(), at, begin, valid, numbers, row)
 }
 
-/// The room for a member, and so much after it.
+/// Puts a beginning and a number under its mark, within a slice.
+///
+/// The value is looked at after the beginning is put, so that it is asked only once whether it is there.
 #[inline(always)]
-fn member_room(begin: &Beginning, cell: Cell<'_>, room: usize) -> Option<usize>
-    ensures { IfSome result (λ more. more ≡ length begin.now + 20 + room + text_room (value_of cell.entry)) }
+fn put_int_at(
+    out: &mut [u8],
+    at: usize,
+    begin: &Beginning,
+    valid: bool,
+    numbers: &[i64],
+    row: usize,
+) -> usize
+    requires row { row < length numbers.now }
+    requires room { at + (length begin.now + 20) ≤ length out.old }
+    ensures rises { at ≤ result }
+    ensures within { result ≤ at + (length begin.now + 20) }
+    ensures written { take result out.new ≡ take at out.old ++
+        (begin.now ++ json_value (if valid then Value.Int (get_or numbers.now row (pos 0)) else Value.Null)) }
 {
-    let Some(own) = begin.len().checked_add(20) else {
-        return None;
-    };
-    let Some(all) = own.checked_add(room) else {
-        return None;
-    };
-    with_text_room(all, cell)
+    let to = begin.put(out, at);
+    put_value(out, to, int_at(valid, numbers, row))
 }
 
-/// Puts a beginning and a text, with so much room after it.
+/// Puts a beginning and a truth value under its mark.
 #[inline(always)]
+fn put_bool_member(
+    out: &mut Vec<u8>,
+    at: usize,
+    begin: &Beginning,
+    valid: bool,
+    flags: &[bool],
+    row: usize,
+) -> usize
+    requires row { row < length flags.now }
+    requires room { at + (length begin.now + 20) ≤ length out.old.items }
+    ensures rises { at ≤ result }
+    ensures within { result ≤ at + (length begin.now + 20) }
+    ensures same_len { length out.new.items ≡ length out.old.items }
+    ensures inside { result ≤ length out.new.items }
+    ensures written { take result out.new.items ≡ take at out.old.items ++
+        (begin.now ++ json_value (if valid then Value.Bool (get_or flags.now row false) else Value.Null)) }
+{
+    put_bool_at(out.as_mut_slice(), at, begin, valid, flags, row)
+}
+
+/// Puts a beginning and a truth value under its mark, within a slice.
+#[inline(always)]
+fn put_bool_at(
+    out: &mut [u8],
+    at: usize,
+    begin: &Beginning,
+    valid: bool,
+    flags: &[bool],
+    row: usize,
+) -> usize
+    requires row { row < length flags.now }
+    requires room { at + (length begin.now + 20) ≤ length out.old }
+    ensures rises { at ≤ result }
+    ensures within { result ≤ at + (length begin.now + 20) }
+    ensures written { take result out.new ≡ take at out.old ++
+        (begin.now ++ json_value (if valid then Value.Bool (get_or flags.now row false) else Value.Null)) }
+{
+    let to = begin.put(out, at);
+    put_value(out, to, bool_at(valid, flags, row))
+}
+
+/// Puts a beginning and a text under its mark, for which there is room.
+#[inline(always)]
+fn put_text_at(out: &mut [u8], at: usize, begin: &Beginning, valid: bool, text: &str) -> usize
+    requires { at + (length begin.now + 20 + 6 * length text.now) ≤ length out.old }
+    ensures rises { at ≤ result }
+    ensures within { result ≤ at + (length begin.now + 20 + 6 * length text.now) }
+    ensures written { take result out.new ≡ take at out.old ++
+        (begin.now ++ json_value (if valid then Value.Text text.now else Value.Null)) }
+{
+    let to = begin.put(out, at);
+    put_value(out, to, text_cell(valid, text))
+}
+
+/// Puts a beginning and a text under its mark, with so much room after it, which is also enough for what is no text.
+#[inline(never)]
 fn put_text_member(
     out: &mut Vec<u8>,
     at: usize,
     begin: &Beginning,
-    cell: Cell<'_>,
+    valid: bool,
+    text: &str,
     room: usize,
 ) -> Result<usize, AllocError>
-    requires { at ≤ length out.old.items }
-    ensures put { Puts out.old.items at (begin.now ++ json_value (value_of cell.entry)) result out.new.items }
+    requires within { at ≤ length out.old.items }
+    requires own { length begin.now + 20 ≤ room }
+    requires small { room ≤ 2 ^ 60 }
+    ensures put { Puts out.old.items at
+        (begin.now ++ json_value (if valid then Value.Text text.now else Value.Null)) result out.new.items }
     ensures left { IfOk result (λ end. end + room ≤ length out.new.items) }
 {
-    let Some(more) = member_room(begin, cell, room) else {
-        return Err(AllocError)
-    };
-    make_room(out, at, more)?;
-    Ok(put_member_at(out, at, begin, cell))
-}
-
-/// Puts a beginning and a value, for which there is room.
-#[inline(always)]
-fn put_member_at(out: &mut Vec<u8>, at: usize, begin: &Beginning, cell: Cell<'_>) -> usize
-    requires { at + (length begin.now + (20 + text_room (value_of cell))) ≤ length out.old.items }
-    ensures rises { at ≤ result }
-    ensures within { result ≤ at + (length begin.now + (20 + text_room (value_of cell.entry))) }
-    ensures same_len { length out.new.items ≡ length out.old.items }
-    ensures inside { result ≤ length out.new.items }
-    ensures written { take result out.new.items ≡ take at out.old.items ++ (begin.now ++ json_value (value_of cell.entry)) }
-{
-    put_member(out.as_mut_slice(), at, begin, cell)
-}
-
-/// Puts a beginning and a value.
-#[inline(always)]
-fn put_member(out: &mut [u8], at: usize, begin: &Beginning, cell: Cell<'_>) -> usize
-    requires { at + (length begin.now + (20 + text_room (value_of cell))) ≤ length out.old }
-    ensures rises { at ≤ result }
-    ensures within { result ≤ at + (length begin.now + (20 + text_room (value_of cell.entry))) }
-    ensures written { take result out.new ≡ take at out.old ++ (begin.now ++ json_value (value_of cell.entry)) }
-{
-    let at = begin.put(out, at);
-    put_value(out, at, cell)
+    if text.len() > MOST_ROOM {
+        return Err(AllocError);
+    }
+    make_room(out, at, 2 * room + 6 * text.len())?;
+    Ok(put_text_at(out.as_mut_slice(), at, begin, valid, text))
 }

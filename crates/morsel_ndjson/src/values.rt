@@ -8,12 +8,10 @@ ghost use Rattle.morsel_frame.specs.Cells.{value_of};
 ghost use Rattle.morsel_ndjson.specs.Ndjson.{escaped, json_string, json_value};
 ghost use Rattle.morsel_ndjson.specs.Members.{needs_escape, ArePlain, text_room};
 
-use crate::cursor::{put_byte, put_bytes, put_int};
+use crate::cursor::{put_byte, put_bytes};
+use crate::digits::put_int;
 use morsel_frame::Cell;
 use std::simd::prelude::*;
-
-/// How many bytes are looked at at once.
-const LANES: usize = 8;
 
 /// Puts a value.
 #[inline(always)]
@@ -57,7 +55,9 @@ fn put_escaped(out: &mut [u8], at: usize, text: &[u8]) -> usize
     put_chars(out, at + plain, &text[plain..])
 }
 
-/// Puts the bytes before the first lane that has an escape, and says how many; none of a text of less than a lane.
+/// Puts the bytes before the first lane that has an escape, and says how many.
+///
+/// A short text is one pair of lanes that overlap, put whole or not at all.
 #[inline(always)]
 fn put_front(out: &mut [u8], at: usize, text: &[u8]) -> usize
     requires { at + length text.now ≤ length out.old }
@@ -66,18 +66,37 @@ fn put_front(out: &mut [u8], at: usize, text: &[u8]) -> usize
     ensures written { take (at + result) out.new ≡ take at out.old ++ take result text.now }
 {
     let len = text.len();
-    if len < LANES {
-        return 0;
+    if len > 16 {
+        return put_lanes(out, at, text);
     }
+    if len >= 8 {
+        return if put_eights(out, at, text) { len } else { 0 };
+    }
+    if len >= 4 {
+        return if put_fours(out, at, text) { len } else { 0 };
+    }
+    0
+}
+
+/// Puts the bytes before the first lane of 16 that has an escape, and says how many.
+#[inline(always)]
+fn put_lanes(out: &mut [u8], at: usize, text: &[u8]) -> usize
+    requires long { 16 ≤ length text.now }
+    requires room { at + length text.now ≤ length out.old }
+    ensures within { result ≤ length text.now }
+    ensures plain { ArePlain 0 result text.now }
+    ensures written { take (at + result) out.new ≡ take at out.old ++ take result text.now }
+{
+    let len = text.len();
     let mut from = 0;
-    while len - from >= LANES {
+    while len - from >= 16 {
         if !put_lane(out, at + from, text, from) {
             return from;
         }
-        from += LANES;
+        from += 16;
     }
     // The last lane ends with the text, and may begin within the one before.
-    let last = len - LANES;
+    let last = len - 16;
     if put_lane(out, at + last, text, last) {
         len
     } else {
@@ -85,27 +104,79 @@ fn put_front(out: &mut [u8], at: usize, text: &[u8]) -> usize
     }
 }
 
-/// Puts the 8 bytes of `text` from place `from` on, and says whether none of them needs an escape.
+/// Puts a text of 8 to 16 bytes as it is, and says whether none of them needs an escape.
+#[inline(always)]
+fn put_eights(out: &mut [u8], at: usize, text: &[u8]) -> bool
+    requires long { 8 ≤ length text.now }
+    requires short { length text.now ≤ 16 }
+    requires room { at + length text.now ≤ length out.old }
+    ensures plain { OnTrue result (ArePlain 0 (length text.now) text.now) }
+    ensures written { take (at + length text.now) out.new ≡ take at out.old ++ text.now }
+{
+    let last = text.len() - 8;
+    let front = put_eight(out, at, text, 0);
+    let back = put_eight(out, at + last, text, last);
+    front & back
+}
+
+/// Puts a text of 4 to 8 bytes as it is, and says whether none of them needs an escape.
+#[inline(always)]
+fn put_fours(out: &mut [u8], at: usize, text: &[u8]) -> bool
+    requires long { 4 ≤ length text.now }
+    requires short { length text.now ≤ 8 }
+    requires room { at + length text.now ≤ length out.old }
+    ensures plain { OnTrue result (ArePlain 0 (length text.now) text.now) }
+    ensures written { take (at + length text.now) out.new ≡ take at out.old ++ text.now }
+{
+    let last = text.len() - 4;
+    let front = put_four(out, at, text, 0);
+    let back = put_four(out, at + last, text, last);
+    front & back
+}
+
+/// Puts the 16 bytes of `text` from place `from` on, and says whether none of them needs an escape.
 #[inline(always)]
 fn put_lane(out: &mut [u8], at: usize, text: &[u8], from: usize) -> bool
-    requires text { from + LANES ≤ length text.now }
-    requires room { at + LANES ≤ length out.old }
-    ensures plain { OnTrue result (ArePlain from (from + LANES) text.now) }
-    ensures written { take (at + LANES) out.new ≡ take at out.old ++ take LANES (drop from text.now) }
+    requires text { from + 16 ≤ length text.now }
+    requires room { at + 16 ≤ length out.old }
+    ensures plain { OnTrue result (ArePlain from (from + 16) text.now) }
+    ensures written { take (at + 16) out.new ≡ take at out.old ++ take 16 (drop from text.now) }
+{
+    let lane = u8x16::from_slice(&text[from..]);
+    lane.copy_to_slice(&mut out[at..]);
+    let quotes = lane.simd_eq(u8x16::splat(b'"'));
+    let backslashes = lane.simd_eq(u8x16::splat(b'\\'));
+    (quotes | backslashes | lane.simd_lt(u8x16::splat(32))).to_bitmask() == 0
+}
+
+/// Puts the 8 bytes of `text` from place `from` on, and says whether none of them needs an escape.
+#[inline(always)]
+fn put_eight(out: &mut [u8], at: usize, text: &[u8], from: usize) -> bool
+    requires text { from + 8 ≤ length text.now }
+    requires room { at + 8 ≤ length out.old }
+    ensures plain { OnTrue result (ArePlain from (from + 8) text.now) }
+    ensures written { take (at + 8) out.new ≡ take at out.old ++ take 8 (drop from text.now) }
 {
     let lane = u8x8::from_slice(&text[from..]);
     lane.copy_to_slice(&mut out[at..]);
-    escapes(lane) == 0
-}
-
-/// A bit for each of 8 bytes, set where it needs an escape.
-#[inline(always)]
-fn escapes(lane: u8x8) -> u64
-    ensures { result ≡ mask_l (map needs_escape lane) }
-{
     let quotes = lane.simd_eq(u8x8::splat(b'"'));
     let backslashes = lane.simd_eq(u8x8::splat(b'\\'));
-    (quotes | backslashes | lane.simd_lt(u8x8::splat(32))).to_bitmask()
+    (quotes | backslashes | lane.simd_lt(u8x8::splat(32))).to_bitmask() == 0
+}
+
+/// Puts the 4 bytes of `text` from place `from` on, and says whether none of them needs an escape.
+#[inline(always)]
+fn put_four(out: &mut [u8], at: usize, text: &[u8], from: usize) -> bool
+    requires text { from + 4 ≤ length text.now }
+    requires room { at + 4 ≤ length out.old }
+    ensures plain { OnTrue result (ArePlain from (from + 4) text.now) }
+    ensures written { take (at + 4) out.new ≡ take at out.old ++ take 4 (drop from text.now) }
+{
+    let lane = u8x4::from_slice(&text[from..]);
+    lane.copy_to_slice(&mut out[at..]);
+    let quotes = lane.simd_eq(u8x4::splat(b'"'));
+    let backslashes = lane.simd_eq(u8x4::splat(b'\\'));
+    (quotes | backslashes | lane.simd_lt(u8x4::splat(32))).to_bitmask() == 0
 }
 
 /// Puts bytes one by one, each with its escape.

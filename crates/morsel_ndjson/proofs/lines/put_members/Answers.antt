@@ -1,4 +1,4 @@
-use Rattle.std.proofs.Common.{◌+◌, ◌++◌, [], length, get_or, drop, ap, ◌∙◌, arith}
+use Rattle.std.proofs.Common.{◌+◌, ◌++◌, [], get_or, drop, ◌∙◌, arith}
 use Rattle.std.proofs.lemmas.List.{get_or_read}
 use Rattle.morsel_frame.specs.Columns.{value_at}
 use Rattle.morsel_ndjson.specs.Ndjson.{json_value}
@@ -11,6 +11,11 @@ pub put-requires-clause-row : goal.put-requires-clause-row
 put-requires-clause-row c =
     let read = get_or_read c.args.members.now c.loop-column.column c.index-members-column.result c.loop-column-test.true c.index-members-column.is ([], []) in
     rw read (have_row_at c.args.members.now c.args.row c.loop-column.column c.loop-column-test.true c.requires.row)
+
+pub put-requires-clause-own : goal.put-requires-clause-own
+put-requires-clause-own c =
+    let read = get_or_read c.args.members.now c.loop-column.column c.index-members-column.result c.loop-column-test.true c.index-members-column.is ([], []) in
+    rw read (omega (arith, c.requires.whole, room_within c.args.members.now c.loop-column.column, room_more c.args.members.now c.loop-column.column c.loop-column-test.true))
 
 pub put-requires-clause-room : goal.put-requires-clause-room
 put-requires-clause-room c =

@@ -4,10 +4,10 @@ use Rattle.morsel_ndjson.proofs.EscapeLemmas.{plain_lane}
 use Rattle.morsel_ndjson.proofs.values.put_lane.Goals as goal
 
 pub returns-clause-plain : goal.returns-clause-plain
-returns-clause-plain c = plain_lane c.args.text.now c.args.from c.escapes.result c.requires.text c.escapes.ensures
+returns-clause-plain c = plain_lane 16 c.args.text.now c.args.from c.requires.text (omega arith)
 
 pub returns-clause-written : goal.returns-clause-written
 returns-clause-written c =
-    let lane = take 8 (drop c.args.from c.args.text.now)
-    in let long : length lane ≡ 8 = length-chunk c.args.from 8 c.args.text.now c.requires.text
-    in take_more_put_chunk c.args.at c.args.out.now lane (c.args.at + 8) (omega arith) c.requires.room
+    let lane = take 16 (drop c.args.from c.args.text.now)
+    in let long : length lane ≡ 16 = length-chunk c.args.from 16 c.args.text.now c.requires.text
+    in take_more_put_chunk c.args.at c.args.out.now lane (c.args.at + 16) (omega arith) c.requires.room

@@ -1,7 +1,7 @@
 use Rattle.std.proofs.Common.{◌≤◌, length, decimal, arith}
 use Rattle.std.proofs.lemmas.Fmt.{length-decimal-le}
 use Rattle.morsel_ndjson.proofs.PutLemmas.{digits_to}
-use Rattle.morsel_ndjson.proofs.cursor.put_digits.Goals as goal
+use Rattle.morsel_ndjson.proofs.digits.put_many.Goals as goal
 
 pub overflow_add-end : goal.overflow_add-end
 overflow_add-end c =

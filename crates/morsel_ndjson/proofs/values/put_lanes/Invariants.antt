@@ -1,6 +1,6 @@
 use Rattle.std.proofs.Common.{◌≡◌, ◌≤◌, ◌+◌, ◌-◌, ◌++◌, length, take}
 use Rattle.morsel_ndjson.specs.Members.{ArePlain}
-use Rattle.morsel_ndjson.proofs.values.put_front.Given as goal
+use Rattle.morsel_ndjson.proofs.values.put_lanes.Given as goal
 
 abbrev pub invariant-loop-from : goal.invariant-loop-from
 invariant-loop-from l = record {
