@@ -24,7 +24,8 @@ pub woken_still : (task : Option TaskNo) (w v : Woken) → KeepsWakes w v → Is
 woken_still None w v kept is = tt
 woken_still (Some task) w v kept is = λ below. kept.1 task.0 (is (subst (λ n. task.0 < n) kept.0 below))
 
-held_on : (old mid new : Option TaskNo) (w v : Woken) → KeepsWakes w v → IsHeldOrWoken old mid w → IsHeldOrWoken mid new v → IsHeldOrWoken old new v
+-- a task that waits, by two calls
+pub held_on : (old mid new : Option TaskNo) (w v : Woken) → KeepsWakes w v → IsHeldOrWoken old mid w → IsHeldOrWoken mid new v → IsHeldOrWoken old new v
 held_on old mid new w v kept (inl same) next = subst (λ task. IsHeldOrWoken task new v) same next
 held_on old mid new w v kept (inr left) (inl same) = inr (same ∙ left.0, woken_still old w v kept left.1)
 held_on old mid new w v kept (inr left) (inr next) = inr (next.0, woken_still old w v kept left.1)
@@ -59,6 +60,10 @@ map_empty f (x ∷ xs) all (suc i) = map_empty f xs (λ k d within. all (suc k) 
 pub map_twice : {X Y Z : Type 0} (f : Y → Z) (h : X → Y) (xs : List X) → map (λ x. f (h x)) xs ≡ map f (map h xs)
 map_twice f h [] = refl
 map_twice f h (x ∷ xs) = ap (λ zs. f (h x) ∷ zs) (map_twice f h xs)
+
+pub flat_map_twice : {X Y A : Type 0} (f : Y → List A) (h : X → Y) (xs : List X) → flat_map (λ x. f (h x)) xs ≡ flat_map f (map h xs)
+flat_map_twice f h [] = refl
+flat_map_twice f h (x ∷ xs) = ap (λ zs. f (h x) ++ zs) (flat_map_twice f h xs)
 
 pub All-from_map : {X Y : Type 0} (P : Y → Type 0) (f : X → Y) (xs : List X) → All P (map f xs) → All (λ x. P (f x)) xs
 All-from_map P f xs all k d within = subst P (get_or-map f xs k d (f d) within) (all k (f d) (subst (λ n. k < n) (sym (length-map xs f)) within))

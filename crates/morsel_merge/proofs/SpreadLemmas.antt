@@ -1,5 +1,5 @@
 -- How values are spread over lanes.
-use Rattle.std.proofs.Common.{◌≡◌, ◌⊎◌, ◌||◌, ◌<◌, ◌≤◌, ◌+◌, ℕ, zero, suc, Bool, true, false, All, Result, Ok, Err, OnOk, OnErr, IfErr, List, [], ◌∷◌, ◌++◌, length, set, get_or, map, refl, sym, ap, subst, ◌∙◌, inl, inr, arith, length-set, get_or-set_same, get_or-set_other}
+use Rattle.std.proofs.Common.{◌≡◌, ◌⊎◌, ◌||◌, ◌<◌, ℕ, zero, suc, Bool, true, false, All, Result, Ok, Err, OnOk, OnErr, IfErr, List, [], ◌∷◌, ◌++◌, length, set, get_or, map, refl, sym, ap, subst, ◌∙◌, inl, inr, arith, length-set, get_or-set_same, get_or-set_other}
 use Rattle.std.proofs.lemmas.Bool.{cases_eq}
 use Rattle.std.proofs.lemmas.List.{get_or_default, length-map}
 use Rattle.morsel_prims.specs.Polled.{IfClosed, IfFull}
@@ -100,6 +100,10 @@ pub on_err : {A E : Type 0} (r : Result A E) (P Q : Type 0) → (P → Q) → On
 on_err (Ok a) P Q f p = tt
 on_err (Err e) P Q f p = f p
 
+pub on_err_both : {A E : Type 0} (r : Result A E) (P Q R : Type 0) → (P → Q → R) → OnErr r P → OnErr r Q → OnErr r R
+on_err_both (Ok a) P Q R f p q = tt
+on_err_both (Err e) P Q R f p q = f p q
+
 pub if_err : {A E : Type 0} (r : Result A E) (X : Type 0) (P Q : E → Type 0) → ((e : E) → X → P e → Q e) → OnErr r X → IfErr r P → IfErr r Q
 if_err (Ok a) X P Q f x p = tt
 if_err (Err e) X P Q f x p = f e x p
@@ -111,6 +115,14 @@ if_full (Closed value) P Q f p = tt
 pub if_closed : {T : Type 0} (refused : SendError T) (P Q : Type 0) → (P → Q) → IfClosed refused P → IfClosed refused Q
 if_closed (Full value) P Q f p = tt
 if_closed (Closed value) P Q f p = f p
+
+pub err_full : {A T : Type 0} (r : Result A (SendError T)) (P Q : Type 0) → (P → Q) → IfErr r (λ refused. IfFull refused P) → IfErr r (λ refused. IfFull refused Q)
+err_full (Ok a) P Q f p = tt
+err_full (Err e) P Q f p = if_full e P Q f p
+
+pub err_closed : {A T : Type 0} (r : Result A (SendError T)) (P Q : Type 0) → (P → Q) → IfErr r (λ refused. IfClosed refused P) → IfErr r (λ refused. IfClosed refused Q)
+err_closed (Ok a) P Q f p = tt
+err_closed (Err e) P Q f p = if_closed e P Q f p
 
 -- a refusal is a look
 pub refused_look : {B S : Type 0} (held : B → S → S → ℕ → Type 0) (full closed : B → S → S → Type 0) (b : B) (old new : S) → full b old new ⊎ closed b old new → IsLook held full closed old new

@@ -3,4 +3,5 @@ pub mod Ends
 pub mod Merging
 pub mod Got
 pub mod Log
+pub mod Boards
 pub mod Spread

@@ -5,12 +5,17 @@
 
 mod ask;
 mod choose;
+mod close;
+mod distributor;
 mod greatest;
+mod held;
 mod inserter;
 mod linearizer;
 mod log;
 mod make;
 mod spread;
+mod wait;
 
+pub use distributor::{DistSender, DistSent, distributor_channel};
 pub use inserter::Inserter;
 pub use linearizer::{Got, Linearizer};

@@ -22,6 +22,7 @@ pub fn make_lanes<T: Message, M: Tokens + Lanes<T>>(
     ensures lanes { IfOk result (λ made. map M.Sender.lane made.0.items ≡ map M.Receiver.lane made.1.items) }
     ensures senders { IfOk result (λ made. All (IsNewSender M.Sender.home M.Sender.job M.Sender.room M.Sender.sent (M.Board.id board.old).lane_table job.now (M.room_of asked)) made.0.items) }
     ensures receivers { IfOk result (λ made. All (IsNewReceiver M.Receiver.home M.Receiver.job M.Receiver.taken M.Receiver.is_whole M.Receiver.is_cut (M.Board.id board.old).lane_table job.now) made.1.items) }
+    ensures rooms { IfOk result (λ made. All (λ end. M.Sender.room end ≤ asked) made.0.items) }
     ensures out_of_memory { IfErr result (λ fault. fault ≡ OutOfMemory) }
     ensures same_waiting { SameWaiting (M.Board.waits_at board.old) (M.Board.waits_at board.new) }
     ensures same_board { M.Board.id board.new ≡ M.Board.id board.old }

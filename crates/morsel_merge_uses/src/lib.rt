@@ -1,11 +1,15 @@
-//! Uses of lanes that are merged, as a caller has them.
+//! Uses of several lanes as one, as a caller has them.
 #![tactic(auto)]
 
+mod distribute;
 mod least;
 mod merge;
 
+pub use distribute::{Distribute, Rest};
 pub use least::Least;
 pub use merge::Merge;
 
+#[cfg(test)]
+mod distribute_tests;
 #[cfg(test)]
 mod tests;

@@ -1,4 +1,4 @@
-use Rattle.std.proofs.Common.{◌≡◌, ◌<◌, All, length, ap, sym, subst, ◌∙◌, inl, inr, arith}
+use Rattle.std.proofs.Common.{◌≡◌, All, subst, ◌∙◌, inl, inr, arith}
 use Rattle.morsel_merge.specs.Ends.{sender_seen}
 use Rattle.morsel_merge.specs.Spread.{IsLook}
 use Rattle.morsel_merge.proofs.AskLemmas.{wakes_next}

@@ -1,4 +1,4 @@
-use Rattle.std.proofs.Common.{◌≡◌, All, get_or, set, inl, arith, ap, sym, subst, ◌∙◌}
+use Rattle.std.proofs.Common.{◌≡◌, get_or, inl, ◌∙◌}
 use Rattle.std.proofs.lemmas.List.Elements.{All-set}
 use Rattle.morsel_merge.specs.Ends.{sender_seen}
 use Rattle.morsel_merge.specs.Spread.{IsLook}

@@ -1,11 +1,10 @@
-use Rattle.std.proofs.Common.{◌≡◌, ◌⊎◌, ◌<◌, ℕ, All, List, [], ◌∷◌, ◌++◌, length, map, set, get_or, refl, sym, ap, subst, ◌∙◌, inl, inr, arith, length-set, get_or-set_same}
+use Rattle.std.proofs.Common.{◌≡◌, ◌⊎◌, ◌<◌, ℕ, [], ◌∷◌, ◌++◌, length, map, set, get_or, sym, ap, subst, ◌∙◌, inl, inr, length-set, get_or-set_same}
 use Rattle.std.proofs.lemmas.List.{get_or-map, get_or_default, length-map, map-set}
-use Rattle.morsel_meaning.specs.declared.task.TaskNo.{TaskNo}
 use Rattle.morsel_prims.specs.Polled.{IfClosed, IfFull}
 use Rattle.morsel_prims.specs.declared.lane.SendError.{SendError}
-use Rattle.morsel_prims.specs.Woken.{AreFoundWoken, AreWoken}
+use Rattle.morsel_prims.specs.Woken.{AreFoundWoken}
 use Rattle.morsel_merge.specs.Ends.{sender_seen}
-use Rattle.morsel_merge.specs.Spread.{AreFull, AreLookedAt, AreSent, EachLane, IsFoundLast, IsLook, IsLooked, IsRefusedLast, SomeLane, sent_values}
+use Rattle.morsel_merge.specs.Spread.{AreFull, AreLookedAt, AreSent, EachLane, IsFoundLast, IsLook, IsLooked, SomeLane}
 use Rattle.morsel_merge.proofs.AskLemmas.{map-set_same}
 use Rattle.morsel_merge.proofs.SpreadLemmas.{by_refusal, if_closed, if_err, if_full, looked_at-on, looked_at-one, looked-more, on_err, on_ok, refused_look, seen_still, sent-push}
 use Rattle.morsel_merge.proofs.choose.try_lanes.Given.{Over}

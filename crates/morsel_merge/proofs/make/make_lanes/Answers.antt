@@ -1,4 +1,4 @@
-use Rattle.std.proofs.Common.{◌∷◌, ◌++◌, [], All, map, ap, sym, subst, ◌∙◌, arith}
+use Rattle.std.proofs.Common.{◌≤◌, ◌∷◌, ◌++◌, [], All, map, ap, sym, subst, ◌∙◌, arith}
 use Rattle.std.proofs.lemmas.List.{map_push}
 use Rattle.std.proofs.lemmas.List.Elements.{All-push}
 use Rattle.morsel_merge.specs.Ends.{IsNewReceiver, IsNewSender}
@@ -22,6 +22,7 @@ lanes-preserved g c =
           (All-push (IsNewSender g.M.Sender.LaneSender.home g.M.Sender.LaneSender.job g.M.Sender.LaneSender.room g.M.Sender.LaneSender.sent (g.M.Board.Board.id c.args.board.now).lane_table c.args.job.now (g.M.Lanes.room_of c.args.asked)) c.lanes.senders.items c.in_ok-sender.sender c.lanes.invariant.senders (made.home.0 ∙ table, made.job.0, made.room, made.empty.0));
       receivers = subst (λ xs. All (IsNewReceiver g.M.Receiver.LaneReceiver.home g.M.Receiver.LaneReceiver.job g.M.Receiver.LaneReceiver.taken g.M.Receiver.LaneReceiver.is_whole g.M.Receiver.LaneReceiver.is_cut (g.M.Board.Board.id c.args.board.now).lane_table c.args.job.now) xs) (sym taken)
           (All-push (IsNewReceiver g.M.Receiver.LaneReceiver.home g.M.Receiver.LaneReceiver.job g.M.Receiver.LaneReceiver.taken g.M.Receiver.LaneReceiver.is_whole g.M.Receiver.LaneReceiver.is_cut (g.M.Board.Board.id c.args.board.now).lane_table c.args.job.now) c.lanes.receivers.items c.in_ok-sender.receiver c.lanes.invariant.receivers (made.home.1 ∙ table, made.job.1, made.empty.1, made.unended.0, made.unended.1));
+      rooms = subst (λ xs. All (λ end. g.M.Sender.LaneSender.room end ≤ c.args.asked) xs) (sym sent) (All-push (λ end. g.M.Sender.LaneSender.room end ≤ c.args.asked) c.lanes.senders.items c.in_ok-sender.sender c.lanes.invariant.rooms (subst (λ n. n ≤ c.args.asked) (sym made.room) c.lane.ensures.within.1));
       waiting = λ place. c.lane.ensures.same_waiting place ∙ c.lanes.invariant.waiting place;
       board = c.lane.ensures.same_board ∙ c.lanes.invariant.board;
     }

@@ -12,6 +12,7 @@ invariant-lanes g l = record {
   lanes : map g.M.Sender.LaneSender.lane l.senders.items ≡ map g.M.Receiver.LaneReceiver.lane l.receivers.items;
   senders : All (IsNewSender g.M.Sender.LaneSender.home g.M.Sender.LaneSender.job g.M.Sender.LaneSender.room g.M.Sender.LaneSender.sent (g.M.Board.Board.id l.fn.board).lane_table l.fn.job (g.M.Lanes.room_of l.fn.asked)) l.senders.items;
   receivers : All (IsNewReceiver g.M.Receiver.LaneReceiver.home g.M.Receiver.LaneReceiver.job g.M.Receiver.LaneReceiver.taken g.M.Receiver.LaneReceiver.is_whole g.M.Receiver.LaneReceiver.is_cut (g.M.Board.Board.id l.fn.board).lane_table l.fn.job) l.receivers.items;
+  rooms : All (λ end. g.M.Sender.LaneSender.room end ≤ l.fn.asked) l.senders.items;
   waiting : SameWaiting (g.M.Board.Board.waits_at l.fn.board) (g.M.Board.Board.waits_at l.board);
   board : g.M.Board.Board.id l.board ≡ g.M.Board.Board.id l.fn.board;
 }
