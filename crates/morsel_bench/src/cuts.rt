@@ -2,12 +2,12 @@
 ghost use Rattle.std.specs.Prelude.{◌+◌, ◌<◌, ◌^◌, length};
 
 use crate::facts::{facts_schema, facts_text};
-use crate::timing::{Best, Timing, now, tell};
 use morsel_cut::{Cutter, rows_of};
 use morsel_frame::Schema;
 use morsel_grammar::CsvOptions;
 use morsel_meaning::Fault;
 use morsel_text::read_records;
+use morsel_timing::{Best, Timing, now, tell};
 use std::alloc::Global;
 use std::rt::Clock;
 
@@ -106,7 +106,7 @@ fn put_cuts(cuts: &mut Vec<usize>, cutter: &mut Cutter, at: usize, text: &[u8]) 
 }
 
 /// The places where a text may be cut, and its beginning.
-fn cuts_of(alloc: Global, text: &[u8], options: &CsvOptions) -> Result<Vec<usize>, Fault> {
+pub fn cuts_of(alloc: Global, text: &[u8], options: &CsvOptions) -> Result<Vec<usize>, Fault> {
     let mut cutter = Cutter::new(options, 0)?;
     let mut cuts = vec![in alloc; 0]?;
     put_cuts(&mut cuts, &mut cutter, 0, text)?;

@@ -1,9 +1,8 @@
 //! Predicates and filters: a comparison of numbers over a whole column, the rows that are true, and gathering them.
-use crate::table::{bare_frame, number_frame, text_frame};
-use crate::timing::{Best, Timing, now, tell};
 use morsel_expr::{CmpOp, Pred, PredNode, Rhs, Truth, filter};
 use morsel_frame::Frame;
 use morsel_meaning::{Fault, Name, Value};
+use morsel_timing::{Best, Timing, bare_frame, now, number_frame, tell, text_frame};
 use std::alloc::Global;
 use std::rt::Clock;
 

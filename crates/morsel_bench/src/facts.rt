@@ -1,7 +1,7 @@
 //! A CSV text like the one that the program is timed on: an id, two numbers and a name, of which one in ten is quoted.
-use crate::table::Numbers;
 use morsel_frame::Schema;
 use morsel_meaning::{ColType, Fault, Field, Name};
+use morsel_timing::Numbers;
 use std::alloc::Global;
 
 /// The names of the columns and their types.

@@ -6,7 +6,6 @@ ghost use Rattle.morsel_scan.specs.CsvScans.{FitsScan};
 
 use crate::cuts::read_piece;
 use crate::facts::{facts_schema, facts_text};
-use crate::timing::{Best, Timing, nanos_since, now, tell};
 use morsel_frame::Schema;
 use morsel_grammar::CsvOptions;
 use morsel_meaning::{Fault, Name};
@@ -14,6 +13,7 @@ use morsel_outside::{FileNo, Io, MemIo};
 use morsel_pipe::RawPiece;
 use morsel_read::ScanReader;
 use morsel_scan::{CsvSourceNode, FileScanOptions, ScanFormat, ScanSpec};
+use morsel_timing::{Best, Timing, nanos_since, now, tell};
 use std::alloc::Global;
 use std::rt::Clock;
 

@@ -2,10 +2,10 @@
 //! held is then given.
 ghost use Rattle.std.specs.Prelude.{◌≡◌, All, length};
 
-use crate::timing::{Best, Timing, now, tell};
 use morsel_meaning::{Fault, TaskNo};
 use morsel_merge::{Got, Inserter, Linearizer};
 use morsel_prims::{Cx, Lanes, Message, PlainBoard, PlainLanes, Poll, Tokens, Wakes};
+use morsel_timing::{Best, Timing, now, tell};
 use std::alloc::Global;
 use std::cmp::Reverse;
 use std::rt::Clock;

@@ -3,17 +3,21 @@ use morsel_meaning::Fault;
 use std::rt::Clock;
 use std::time::Instant;
 
-/// Whether lines have times, and how often each part is run. The time is the least of all runs.
+/// How parts are timed. The time of a part is the least of all runs.
 #[derive(Clone, Copy, Debug)]
 pub struct Timing {
+    /// Whether lines have times.
     pub timed: bool,
+    /// How often each part is run.
     pub runs: u32,
 }
 
-/// What a part gave, and the nanoseconds of its fastest run.
+/// What a part gave, and the time of its fastest run.
 #[derive(Clone, Copy, Debug)]
 pub struct Best {
+    /// What its last run gave.
     pub count: usize,
+    /// The nanoseconds of its fastest run.
     pub nanos: u64,
 }
 

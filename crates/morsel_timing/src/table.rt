@@ -31,7 +31,7 @@ impl Numbers {
 }
 
 /// A column of so many numbers below a thousand, of which one in thirteen is null.
-fn number_column(alloc: Global, rows: usize) -> Result<Column, Fault>
+pub fn number_column(alloc: Global, rows: usize) -> Result<Column, Fault>
     ensures { IfOk result (λ column. column.kind ≡ ColType.Int) }
 {
     let mut numbers = Numbers::new();

@@ -1,5 +1,5 @@
 use Rattle.std.proofs.Common.{ap, sym, ◌∙◌}
-use Rattle.morsel_bench.proofs.merge.MergePassage.new.Goals as goal
+use Rattle.morsel_bench_lanes.proofs.merge.MergePassage.new.Goals as goal
 
 pub invariant_of-result : goal.invariant_of-result
 invariant_of-result g c =

@@ -2,11 +2,11 @@
 //! then taken.
 ghost use Rattle.std.specs.Prelude.{◌≡◌};
 
-use crate::timing::{Best, Timing, now, tell};
 use morsel_meaning::{Fault, TaskNo};
 use morsel_prims::{
     Cx, LaneReceiver, LaneSender, Lanes, Message, PlainBoard, PlainLanes, Tokens, Wakes,
 };
+use morsel_timing::{Best, Timing, now, tell};
 use std::alloc::Global;
 use std::rt::Clock;
 
@@ -15,7 +15,7 @@ const ROOM: u32 = 64;
 
 /// What goes through.
 #[derive(Clone, Copy, Debug, Drop)]
-struct Carried(u64);
+pub struct Carried(pub u64);
 
 impl Message for Carried {
     ghost use Rattle.std.specs.Prelude.{⊤};

@@ -1,0 +1,10 @@
+use Rattle.std.proofs.Common.{ap, sym, ◌∙◌}
+use Rattle.morsel_bench_lanes.proofs.spread.SpreadPassage.new.Goals as goal
+
+pub invariant_of-result : goal.invariant_of-result
+invariant_of-result g c =
+    let same = ap (λ id. id.lane_table) (sym c.in_ok-sender.ensures.same_board) in
+    record {
+      home = ap (λ id. id.lane_table) c.in_ok-sender.ensures.home ∙ same;
+      homes = λ k d within. (c.in_ok-sender.ensures.receivers k d within).0 ∙ same;
+    }

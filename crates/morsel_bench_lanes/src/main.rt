@@ -1,0 +1,23 @@
+//! Times of lanes of one thread, and of what merges and spreads them.
+#![tactic(auto)]
+
+mod lane;
+mod merge;
+mod spread;
+
+use morsel_meaning::Fault;
+use morsel_timing::{Timing, timing_asked, timing_ended};
+use std::io;
+use std::rt::Clock;
+
+/// Runs all parts.
+fn run<R: Clock + Print + AllocGlobal>(rt: &R, timing: Timing, values: usize) -> Result<(), Fault> {
+    lane::run(rt, timing, values)?;
+    merge::run(rt, timing, values)?;
+    spread::run(rt, timing, values)
+}
+
+fn main(rt: HostRuntime) -> io::Result<()> {
+    let (timing, values) = timing_asked(&rt)?;
+    timing_ended(run(&rt, timing, values))
+}
