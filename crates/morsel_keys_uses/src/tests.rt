@@ -2,4 +2,5 @@
 mod drawn;
 mod numbers;
 mod reduced;
+mod rows;
 mod samples;

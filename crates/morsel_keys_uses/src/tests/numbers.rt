@@ -4,6 +4,7 @@ ghost use Rattle.std.specs.List.{All};
 ghost use Rattle.morsel_meaning.specs.Values.{kinds_of};
 ghost use Rattle.morsel_frame.specs.Tables.{fields_at};
 
+use super::rows::by_columns;
 use super::samples::{beside, frame_of};
 use morsel_frame::{Cell, Column, Frame};
 use morsel_keys::{ColumnKeys, KeyTable};
@@ -244,7 +245,9 @@ fn pairs_are_numbered(alloc: Global, pairs: &Frame, wanted: &[u32]) -> Result<bo
     for seed in [0, 1, 11400714819323198485] {
         let kinds = vec![in alloc; ColType::Text, ColType::Text]?;
         let mut table = KeyTable::with_seed(kinds, seed);
-        if !numbers_rows(&mut table, pairs, &[0, 1], wanted)? {
+        if !numbers_rows(&mut table, pairs, &[0, 1], wanted)?
+            || !by_columns(alloc, seed, &[ColType::Text, ColType::Text], pairs, wanted)?
+        {
             return Ok(false);
         }
     }

@@ -1,0 +1,3 @@
+-- Keys of several columns.
+pub mod Pairs
+pub mod Chains
