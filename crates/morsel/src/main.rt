@@ -1,17 +1,21 @@
 //! `morsel`: a streaming query engine whose answers are proved.
 //!
 //! It takes the words of the command line, runs them over the files of the system, and answers `--help` and `--version`,
-//! whose texts are in `help`. `progress` shows on a terminal how far a run is.
+//! whose texts are in `help`. `progress` shows on a terminal how far a run is, and `kept_line` keeps the line that was printed,
+//! so that standard error can tell what to mend.
 #![tactic(auto)]
 
 mod help;
+mod kept_line;
 mod progress;
 
 use help::{HELP, VERSION};
+use kept_line::KeptLine;
 use morsel_meaning::Fault;
 use morsel_outside::OpenGate;
 use morsel_prog::{morsel_main, status_of};
 use morsel_real_io::RealIo;
+use morsel_reasons::reason;
 use progress::Progress;
 use std::alloc::{AllocError, Global};
 use std::fs::File;
@@ -75,8 +79,20 @@ fn show<R: Print + Eprint>(rt: &R, text: &str) -> u8 {
     status_of(&Fault::WriteFault)
 }
 
+/// Tells on standard error what to mend, where the line that was printed leaves that open. The files are read again, by an outside
+/// of its own.
+fn tell_reason<R: Files + Print + Eprint + AllocGlobal>(rt: &R, words: &[String], line: &str)
+where
+    R::File: FileExt,
+{
+    let mut io = RealIo::new(rt, rt.alloc());
+    if let Some(told) = reason(rt.alloc(), &mut io, words, line) {
+        let _ = rt.eprintln(told.as_str());
+    }
+}
+
 /// Runs the command of the words, shows how far it is where standard error is a terminal, and tells there the reason of a
-/// failure.
+/// failure, or what to mend.
 fn run_command<R: Files + Clock + Print + Eprint + AllocGlobal + Threads + Wait + Sync>(
     rt: &R,
     words: &[String],
@@ -85,12 +101,18 @@ fn run_command<R: Files + Clock + Print + Eprint + AllocGlobal + Threads + Wait 
 where
     R::File: FileExt,
 {
-    let mut io = Progress::new(rt, RealIo::new(rt, rt.alloc()), is_terminal);
+    let kept = KeptLine::new(rt.alloc(), RealIo::new(rt, rt.alloc()));
+    let mut io = Progress::new(rt, kept, is_terminal);
     let status = morsel_main(rt, rt.alloc(), words, &mut io, &OpenGate);
     io.clear();
-    if let Some(reason) = io.below().reason() {
+    if let Some(reason) = io.below().below().reason() {
         let _ = rt.eprintln(reason);
-    } else if status == status_of(&Fault::Usage) {
+        return status;
+    }
+    if let Some(line) = io.below().line() {
+        tell_reason(rt, words, line);
+    }
+    if status == status_of(&Fault::Usage) {
         let _ = rt.eprintln("morsel --help tells the commands");
     }
     status

@@ -1,0 +1,166 @@
+//! Flaws of a query that is in form.
+
+use crate::shown::show_name;
+use crate::table::items_at;
+use crate::unsaid::Unsaid;
+use serde_json::Value;
+use std::alloc::AllocError;
+
+/// The most names of files, and of columns.
+const MOST_FILES: usize = 65_536;
+
+const MOST_COLUMNS: usize = 65_535;
+
+/// The greatest number of each option.
+const GREATEST: [(&str, u64); 6] = [
+    ("workers", 32_768),
+    ("morsel_rows", 4_294_967_295),
+    ("chunk_bytes", 4_294_967_295),
+    ("distributor_buffer", 65_536),
+    ("linearizer_buffer", 65_536),
+    ("min_values_per_task", 4_294_967_295),
+];
+
+/// Puts last that the sink is a file that is read.
+pub fn write_sink(out: &mut String, sink: &str) -> Result<(), AllocError> {
+    out.push_str("OUT: ")?;
+    show_name(out, sink)?;
+    out.push_str(" is a file that is read")
+}
+
+/// Puts last how many columns a SCHEMA has, and may have.
+pub fn write_columns(out: &mut String, columns: usize) -> Result<(), AllocError> {
+    write!(
+        out,
+        "SCHEMA: {columns} columns, {MOST_COLUMNS} are the most"
+    )
+}
+
+/// Puts last what the flaw of a query is.
+pub fn write_flaw_of(out: &mut String, query: &Value, why: &str) -> Result<(), Unsaid> {
+    match why {
+        "no source" => write_len(out, query, "files", MOST_FILES)?,
+        "too many sources" => write_len(out, query, "files", MOST_FILES)?,
+        "no column" => write_len(out, query, "schema", MOST_COLUMNS)?,
+        "predicate depth" => out.push_str("left.filter: more than 128 levels")?,
+        "option range" => write_range(out, query)?,
+        "parse bytes" => write_bytes(out, query)?,
+        _ => {}
+    }
+    Ok(())
+}
+
+/// Puts last how long a list is, and may be.
+fn write_len(out: &mut String, query: &Value, key: &str, most: usize) -> Result<(), AllocError> {
+    let len = match query.get("left") {
+        Some(scan) => match items_at(scan, key) {
+            Some(items) => items.len(),
+            None => 0,
+        },
+        None => 0,
+    };
+    if len == 0 {
+        write!(out, "left.{key} is empty")
+    } else {
+        write!(out, "left.{key}: {len} items, {most} are the most")
+    }
+}
+
+/// Puts last which option is outside its range.
+fn write_range(out: &mut String, query: &Value) -> Result<(), AllocError> {
+    let Some(options) = query.get("options") else {
+        return Ok(());
+    };
+    for (key, most) in &GREATEST {
+        if let Some(n) = number_at(options, key)
+            && (n == 0 || n > *most)
+        {
+            return write!(out, "options.{key}: {n} is not from 1 to {most}");
+        }
+    }
+    Ok(())
+}
+
+/// The number at a key.
+fn number_at(tree: &Value, key: &str) -> Option<u64> {
+    tree.get(key)?.as_u64()
+}
+
+/// The text at a key of `csv`; the default where there is none, and nothing where it is null.
+fn text_or<'t>(csv: &'t Value, key: &str, default: Option<&'t str>) -> Option<&'t str> {
+    match csv.get(key) {
+        Some(found) => found.as_str(),
+        None => default,
+    }
+}
+
+/// Puts last which options of `csv` are no bytes, or contradict each other.
+fn write_bytes(out: &mut String, query: &Value) -> Result<(), AllocError> {
+    let Some(csv) = csv_of(query) else {
+        return Ok(());
+    };
+    let separator = text_or(csv, "separator", Some(","));
+    let quote = text_or(csv, "quote", Some("\""));
+    let eol = text_or(csv, "eol", Some("\n"));
+    if write_no_byte(out, "separator", separator)?
+        || write_no_byte(out, "quote", quote)?
+        || write_no_byte(out, "eol", eol)?
+        || write_line_byte(out, "separator", separator)?
+        || write_line_byte(out, "quote", quote)?
+        || write_same(out, ("separator", separator), ("quote", quote))?
+        || write_same(out, ("separator", separator), ("eol", eol))?
+        || write_same(out, ("quote", quote), ("eol", eol))?
+    {
+        return Ok(());
+    }
+    if csv.get("comment").is_some() {
+        out.push_str("left.csv.comment: it is empty, not of ASCII, or has the eol")?;
+    }
+    Ok(())
+}
+
+/// What `csv` of a scan is.
+fn csv_of(query: &Value) -> Option<&Value> {
+    query.get("left")?.get("csv")
+}
+
+/// Puts last that a text is not one ASCII character, and answers whether it is none.
+fn write_no_byte(out: &mut String, key: &str, text: Option<&str>) -> Result<bool, AllocError> {
+    let Some(text) = text else {
+        return Ok(false);
+    };
+    if text.len() == 1 {
+        return Ok(false);
+    }
+    write!(out, "left.csv.{key}: ")?;
+    show_name(out, text)?;
+    out.push_str(" is not one ASCII character")?;
+    Ok(true)
+}
+
+/// Puts last that a text ends a line, and answers whether it does.
+fn write_line_byte(out: &mut String, key: &str, text: Option<&str>) -> Result<bool, AllocError> {
+    if text != Some("\n") && text != Some("\r") {
+        return Ok(false);
+    }
+    write!(
+        out,
+        "left.csv.{key}: it is a line feed or a carriage return"
+    )?;
+    Ok(true)
+}
+
+/// Puts last that two options are the same, and answers whether they are.
+fn write_same(
+    out: &mut String,
+    first: (&str, Option<&str>),
+    second: (&str, Option<&str>),
+) -> Result<bool, AllocError> {
+    let (first, text) = first;
+    let (second, other) = second;
+    if text.is_none() || text != other {
+        return Ok(false);
+    }
+    write!(out, "left.csv: {first} and {second} are the same")?;
+    Ok(true)
+}

@@ -1,0 +1,169 @@
+//! Which comparison of a filter does not fit its column.
+
+use crate::keys::items_of;
+use crate::shown::{show_name, show_value};
+use crate::table::{columns_of, text_at};
+use crate::unsaid::Unsaid;
+use morsel_meaning::ColType;
+use serde_json::Value;
+use std::alloc::{AllocError, Global};
+
+/// How many parts of a filter are looked at.
+const MOST_PARTS: usize = 1_048_576;
+
+/// The word of a type.
+fn word_of(kind: ColType) -> &'static str {
+    match kind {
+        ColType::Int => "int",
+        ColType::Bool => "bool",
+        ColType::Text => "text",
+    }
+}
+
+/// The type of the column of this name, with the row index and the path.
+fn kind_named(alloc: Global, scan: &Value, name: &str) -> Result<Option<ColType>, Unsaid> {
+    if text_at(scan, "path") == Some(name) {
+        return Ok(Some(ColType::Text));
+    }
+    if scan.get("row_index").and_then(first_text) == Some(name) {
+        return Ok(Some(ColType::Int));
+    }
+    let columns = columns_of(alloc, scan)?;
+    for column in columns.as_slice() {
+        if column.name == name {
+            return Ok(Some(column.kind));
+        }
+    }
+    Ok(None)
+}
+
+/// The text that a list begins with.
+fn first_text(tree: &Value) -> Option<&str> {
+    tree.get(0)?.as_str()
+}
+
+/// Puts last which comparison does not fit the column of this name.
+pub fn write_mismatch(
+    alloc: Global,
+    out: &mut String,
+    query: &Value,
+    name: &str,
+) -> Result<(), Unsaid> {
+    let Some(scan) = query.get("left") else {
+        return Err(Unsaid);
+    };
+    let Some(kind) = kind_named(alloc, scan, name)? else {
+        return Err(Unsaid);
+    };
+    show_name(out, name)?;
+    write!(out, " is {}", word_of(kind))?;
+    let Some(filter) = scan.get("filter") else {
+        return Ok(());
+    };
+    write_compared(alloc, out, scan, filter, (name, kind))
+}
+
+/// Puts last with what the filter compares the column.
+fn write_compared(
+    alloc: Global,
+    out: &mut String,
+    scan: &Value,
+    filter: &Value,
+    column: (&str, ColType),
+) -> Result<(), Unsaid> {
+    let mut parts = Vec::new(alloc);
+    parts.push(filter)?;
+    for _ in 0..MOST_PARTS {
+        let Some(part) = parts.pop() else {
+            return Ok(());
+        };
+        if write_part(alloc, out, scan, part, column)? {
+            return Ok(());
+        }
+        push_parts(part, &mut parts)?;
+    }
+    Ok(())
+}
+
+/// Puts the parts of a part last.
+fn push_parts<'t>(part: &'t Value, parts: &mut Vec<&'t Value>) -> Result<(), AllocError> {
+    if let Some([_, items @ ..]) = items_of(part) {
+        for item in items {
+            parts.push(item)?;
+        }
+    }
+    Ok(())
+}
+
+/// Puts last that a part does not fit the column, and answers whether it does not.
+fn write_part(
+    alloc: Global,
+    out: &mut String,
+    scan: &Value,
+    part: &Value,
+    column: (&str, ColType),
+) -> Result<bool, Unsaid> {
+    let (name, kind) = column;
+    match items_of(part) {
+        Some([word, first]) if first.as_str() == Some(name) && word.as_str() == Some("is") => {
+            if kind == ColType::Bool {
+                return Ok(false);
+            }
+            out.push_str(", and is takes a bool")?;
+            Ok(true)
+        }
+        Some([_, first, side]) if first.as_str() == Some(name) => {
+            write_side(alloc, out, scan, side, kind)
+        }
+        _ => Ok(false),
+    }
+}
+
+/// Puts last that a side of a comparison is not of this type, and answers whether it is not.
+fn write_side(
+    alloc: Global,
+    out: &mut String,
+    scan: &Value,
+    side: &Value,
+    kind: ColType,
+) -> Result<bool, Unsaid> {
+    if let Some(other) = text_at(side, "col") {
+        let Some(found) = kind_named(alloc, scan, other)? else {
+            return Ok(false);
+        };
+        if found == kind {
+            return Ok(false);
+        }
+        out.push_str(", and ")?;
+        show_name(out, other)?;
+        write!(out, " is {}", word_of(found))?;
+        return Ok(true);
+    }
+    match side.get("lit") {
+        Some(value) => write_literal(out, value, kind),
+        None => Ok(false),
+    }
+}
+
+/// Puts last that a value is not of this type, and answers whether it is not.
+fn write_literal(out: &mut String, value: &Value, kind: ColType) -> Result<bool, Unsaid> {
+    let found = match value {
+        Value::Bool(_) => ColType::Bool,
+        Value::Number(_) => ColType::Int,
+        Value::String(_) => ColType::Text,
+        _ => return Ok(false),
+    };
+    if found == kind {
+        return Ok(false);
+    }
+    out.push_str(", and ")?;
+    match value {
+        Value::String(text) => show_value(out, text.as_bytes())?,
+        Value::Bool(true) => out.push_str("true")?,
+        Value::Bool(false) => out.push_str("false")?,
+        Value::Number(number) => write!(out, "{number}")?,
+        _ => {}
+    }
+    write!(out, " is {}", word_of(found))?;
+    Ok(true)
+}
