@@ -1,9 +1,9 @@
 -- Keys that get numbers, one after the other.
-use Rattle.std.proofs.Common.{◌≡◌, ◌≢◌, ◌<◌, ◌++◌, [], ◌∷◌, List, ℕ, zero, suc, ◌+◌, length, take, slice_get, set, Some, refl, arith, ap, ◌∙◌, sym, subst, inl, inr}
+use Rattle.std.proofs.Common.{◌≡◌, ◌≢◌, ◌<◌, ◌++◌, [], ◌∷◌, List, ℕ, zero, suc, ◌+◌, length, take, slice_get, get_or, set, Some, refl, arith, ap, ◌∙◌, sym, subst, inl, inr}
 use Rattle.std.proofs.lemmas.Grind.{common_steps}
 use Rattle.std.proofs.lemmas.Option.{slice_get_within, get_or_from_slice_get}
 use Rattle.std.proofs.lemmas.List.{take_more}
-use Rattle.morsel_keys.specs.Slots.{IsFound, GivesNumber, NumbersAll, no_number}
+use Rattle.morsel_keys.specs.Slots.{IsFound, AreLookedUp, GivesNumber, NumbersAll, no_number}
 
 append_keeps : {K : Type 0} (keys : List K) (key v : K) (k : ℕ) → slice_get keys k ≡ Some v → slice_get (keys ++ key ∷ []) k ≡ Some v
 append_keeps [] key v k e = cc
@@ -40,3 +40,20 @@ numbers_step old vs out i mid key at new l e all more =
 pub found_still : {K : Type 0} (old vs : List K) (ats : List ℕ) (new : List K) (v : K) (at : ℕ) → NumbersAll old vs ats new → IsFound old v at → at ≢ no_number → slice_get new at ≡ Some v
 found_still old vs ats new v at all (inl (none, absent)) other = absurd (other none)
 found_still old vs ats new v at all (inr held) other = numbers_all_keep old vs ats new at v all held
+
+-- keys that are all there get the numbers that they have
+numbers_there : {K : Type 0} (old vs : List K) (ats : List ℕ) → length ats ≡ length vs → ((i : ℕ) (v : K) → slice_get vs i ≡ Some v → slice_get old (get_or ats i 0) ≡ Some v) → NumbersAll old vs ats old
+numbers_there old [] [] len there = refl
+numbers_there old [] (at ∷ ats) len there = cc
+numbers_there old (v ∷ vs) [] len there = cc
+numbers_there old (v ∷ vs) (at ∷ ats) len there = (old, inl (there zero v refl, refl), numbers_there old vs ats (omega (arith, len)) (λ i w e. there (suc i) w e))
+
+pub numbers_found : {K : Type 0} (old vs : List K) (ats : List ℕ) → AreLookedUp old vs ats → ((i : ℕ) → i < length ats → get_or ats i 0 ≢ no_number) → NumbersAll old vs ats old
+numbers_found {K = K} old vs ats found all = numbers_there old vs ats found.len there
+  where
+    is_there : (v : K) (at : ℕ) → IsFound old v at → at ≢ no_number → slice_get old at ≡ Some v
+    is_there v at (inl (none, absent)) other = absurd (other none)
+    is_there v at (inr held) other = held
+
+    there : (i : ℕ) (v : K) → slice_get vs i ≡ Some v → slice_get old (get_or ats i 0) ≡ Some v
+    there i v e = let l = slice_get_within vs i v e in let len = found.len in is_there v (get_or ats i 0) (found.each i v e) (all i (omega (arith, l, len)))

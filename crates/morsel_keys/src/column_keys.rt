@@ -1,5 +1,6 @@
 //! The keys of one column, null being one, in order of arrival.
 ghost use Rattle.std.specs.Prelude.{◌≡◌, ◌<◌, ◌≤◌, ◌+◌, ◌++◌, [], ◌∷◌, ◌^◌, ℕ, length, get_or, false, slice_get, Some, OnOk, OnErr, IfOk, IfErr, IfSome, IfNone, IsOkUnless, ◌≢◌, Err};
+ghost use Rattle.std.specs.Bool.{OnTrue};
 ghost use Rattle.morsel_meaning.specs.Values.{IsOfType};
 ghost use Rattle.morsel_frame.specs.Cells.{value_of};
 ghost use Rattle.morsel_frame.specs.Columns.{value_at};
@@ -104,6 +105,19 @@ impl ColumnKeys {
         ensures numbers { NumbersOrStops self.old.values column.now.values out.new self.new.values result }
     {
         self.look_up(column, out);
+        if all_found(out) {
+            return Ok(());
+        }
+        self.number_absent(column, out)
+    }
+
+    /// The numbers of a column's values that were looked up, and of those that were absent, which come last.
+    fn number_absent(&mut self, column: &Column, out: &mut [u32]) -> Result<(), Fault>
+        requires kind { column.now.kind ≡ self.old.kind }
+        requires found { AreLookedUp self.old.values column.now.values out.old }
+        ensures kind { self.new.kind ≡ self.old.kind }
+        ensures numbers { NumbersOrStops self.old.values column.now.values out.new self.new.values result }
+    {
         for i in 0..out.len() {
             match self.number_row(column, i, out[i]) {
                 Ok(at) => out[i] = at,
@@ -298,6 +312,18 @@ fn add_key(null: &mut Option<u32>, store: &mut Store, cell: Cell<'_>, len: u32) 
             Err(fault) => Err(fault),
         },
     }
+}
+
+/// Whether no number is that of an absent key.
+// Looks at each, so that many are looked at in one step.
+fn all_found(ats: &[u32]) -> bool
+    ensures { OnTrue result ((i : ℕ) → i < length ats.now → get_or ats.now i 0 ≢ no_number) }
+{
+    let mut all = true;
+    for i in 0..ats.len() {
+        all = all & (ats[i] != u32::MAX);
+    }
+    all
 }
 
 /// There are too many distinct keys.

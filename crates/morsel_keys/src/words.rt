@@ -9,6 +9,9 @@ use morsel_meaning::{Fault, Value};
 use std::alloc::Global;
 use std::marker::Model;
 
+/// How many rows are looked up at once: what is written of them stays in the nearest cache.
+const BLOCK: usize = 1024;
+
 /// Words in order of arrival, each once.
 #[derive(Drop)]
 pub struct WordKeys {
@@ -157,19 +160,63 @@ fn look_up_ints(
     requires len { length out.old ≡ length numbers.now }
     ensures { AreLookedUp (map int_held words.now) (map Value.Int numbers.now) out.new }
 {
+    let mut from = 0;
+    while from < numbers.len() {
+        let to = if numbers.len() - from > BLOCK {
+            from + BLOCK
+        } else {
+            numbers.len()
+        };
+        look_up_block(slots, words, mask, seed, numbers, out, from, to);
+        from = to;
+    }
+}
+
+/// The numbers of some numbers' words, those before them being there.
+fn look_up_block(
+    slots: &[u32],
+    words: &[u64],
+    mask: usize,
+    seed: u64,
+    numbers: &[i64],
+    out: &mut [u32],
+    from: usize,
+    to: usize,
+)
+    requires keys { AreWordKeys seed mask slots.now words.now }
+    requires order { from ≤ to }
+    requires within { to ≤ length numbers.now }
+    requires len { length out.old ≡ length numbers.now }
+    requires before { (i : ℕ) (v : Value) → i < from → slice_get (map Value.Int numbers.now) i ≡ Some v → IsFound (map int_held words.now) v (get_or out.old i 0) }
+    ensures len { length out.new ≡ length out.old }
+    ensures found { (i : ℕ) (v : Value) → i < to → slice_get (map Value.Int numbers.now) i ≡ Some v → IsFound (map int_held words.now) v (get_or out.new i 0) }
+{
     // In two loops, so that the reads of different rows go on together: none waits for another of its own row.
-    begin_ints(slots, mask, seed, numbers, out);
-    for i in 0..numbers.len() {
+    begin_ints(slots, mask, seed, numbers, out, from, to);
+    for i in from..to {
         out[i] = number_of_int(slots, words, mask, seed, numbers[i], out[i]);
     }
 }
 
-/// The slots where the searches for numbers' words begin, each at its place.
-fn begin_ints(slots: &[u32], mask: usize, seed: u64, numbers: &[i64], out: &mut [u32])
-    requires { length out.old ≡ length numbers.now }
-    ensures { (i : ℕ) → i < length numbers.now → get_or out.new i 0 ≡ int_begin seed mask slots.now (get_or numbers.now i (pos 0)) }
+/// The slots where the searches for the words of some numbers begin, each at its place.
+#[inline(always)]
+fn begin_ints(
+    slots: &[u32],
+    mask: usize,
+    seed: u64,
+    numbers: &[i64],
+    out: &mut [u32],
+    from: usize,
+    to: usize,
+)
+    requires order { from ≤ to }
+    requires within { to ≤ length numbers.now }
+    requires len { length out.old ≡ length numbers.now }
+    ensures len { length out.new ≡ length out.old }
+    ensures before { (i : ℕ) → i < from → get_or out.new i 0 ≡ get_or out.old i 0 }
+    ensures begins { (i : ℕ) → from ≤ i → i < to → get_or out.new i 0 ≡ int_begin seed mask slots.now (get_or numbers.now i (pos 0)) }
 {
-    for i in 0..numbers.len() {
+    for i in from..to {
         out[i] = begin_int(slots, mask, seed, numbers[i]);
     }
 }

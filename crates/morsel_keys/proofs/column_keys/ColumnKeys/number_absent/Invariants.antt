@@ -1,7 +1,7 @@
 use Rattle.std.proofs.Common.{◌≡◌, ◌≤◌, ℕ, take, slice_get, get_or, Some}
 use Rattle.morsel_meaning.specs.declared.value.Value.{Value}
 use Rattle.morsel_keys.specs.Slots.{IsFound, NumbersAll}
-use Rattle.morsel_keys.proofs.column_keys.ColumnKeys.number.Given as goal
+use Rattle.morsel_keys.proofs.column_keys.ColumnKeys.number_absent.Given as goal
 
 abbrev pub invariant-loop-i : goal.invariant-loop-i
 invariant-loop-i l = record {
