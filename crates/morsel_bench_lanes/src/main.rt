@@ -1,6 +1,7 @@
-//! Times of lanes of one thread, and of what merges and spreads them.
+//! Times of lanes of one thread, of what merges and spreads them, and of polls of tasks.
 #![tactic(auto)]
 
+mod idle;
 mod lane;
 mod merge;
 mod spread;
@@ -14,7 +15,8 @@ use std::rt::Clock;
 fn run<R: Clock + Print + AllocGlobal>(rt: &R, timing: Timing, values: usize) -> Result<(), Fault> {
     lane::run(rt, timing, values)?;
     merge::run(rt, timing, values)?;
-    spread::run(rt, timing, values)
+    spread::run(rt, timing, values)?;
+    idle::run(rt, timing, values)
 }
 
 fn main(rt: HostRuntime) -> io::Result<()> {
