@@ -26,7 +26,7 @@ const USES: [(&str, [bool; 4]); 3] = [
 
 /// The pieces of a text, and what they are read with.
 #[derive(Clone, Copy)]
-struct Pieces<'a> {
+struct TimedText<'a> {
     text: &'a [u8],
     /// Where each ends.
     cuts: &'a [usize],
@@ -50,7 +50,7 @@ fn tell_text<R: Clock + Print + AllocGlobal>(
 ) -> Result<(), Fault> {
     let cuts = cuts_of(rt.alloc(), text, options)?;
     let schema = facts_schema(rt.alloc())?;
-    let pieces = Pieces {
+    let pieces = TimedText {
         text,
         cuts: cuts.as_slice(),
         schema: &schema,
@@ -63,7 +63,7 @@ fn tell_text<R: Clock + Print + AllocGlobal>(
 fn tell_pieces<R: Clock + Print + AllocGlobal>(
     rt: &R,
     timing: Timing,
-    pieces: Pieces<'_>,
+    pieces: TimedText<'_>,
 ) -> Result<(), Fault> {
     for (at, (name, used)) in USES.iter().enumerate() {
         let best = time_reads(rt, timing, pieces, used)?;
@@ -84,7 +84,7 @@ fn tell_pieces<R: Clock + Print + AllocGlobal>(
 fn read_piece(
     alloc: Global,
     piece: &[u8],
-    pieces: Pieces<'_>,
+    pieces: TimedText<'_>,
     used: &[bool; 4],
     room: &mut ReadRoom,
 ) -> Result<Option<Frame>, Fault> {
@@ -109,7 +109,7 @@ fn read_piece(
 fn rows_of_piece(
     alloc: Global,
     piece: &[u8],
-    pieces: Pieces<'_>,
+    pieces: TimedText<'_>,
     used: &[bool; 4],
     room: &mut ReadRoom,
 ) -> Result<usize, Fault> {
@@ -122,7 +122,7 @@ fn rows_of_piece(
 /// Reads all pieces, and counts their rows.
 fn read_pieces(
     alloc: Global,
-    pieces: Pieces<'_>,
+    pieces: TimedText<'_>,
     used: &[bool; 4],
     room: &mut ReadRoom,
 ) -> Result<usize, Fault> {
@@ -141,7 +141,7 @@ fn read_pieces(
 fn time_reads<R: Clock + AllocGlobal>(
     rt: &R,
     timing: Timing,
-    pieces: Pieces<'_>,
+    pieces: TimedText<'_>,
     used: &[bool; 4],
 ) -> Result<Best, Fault> {
     let mut best = Best::new();
@@ -167,7 +167,7 @@ fn write_frame<R: Clock>(rt: &R, frame: &Frame, out: &mut Vec<u8>) -> Result<(u6
 fn write_piece<R: Clock + AllocGlobal>(
     rt: &R,
     piece: &[u8],
-    pieces: Pieces<'_>,
+    pieces: TimedText<'_>,
     room: &mut ReadRoom,
     out: &mut Vec<u8>,
 ) -> Result<(u64, usize), Fault> {
@@ -180,7 +180,7 @@ fn write_piece<R: Clock + AllocGlobal>(
 /// Writes all pieces.
 fn write_pieces<R: Clock + AllocGlobal>(
     rt: &R,
-    pieces: Pieces<'_>,
+    pieces: TimedText<'_>,
     room: &mut ReadRoom,
     out: &mut Vec<u8>,
 ) -> Result<(u64, usize), Fault> {
@@ -202,7 +202,7 @@ fn write_pieces<R: Clock + AllocGlobal>(
 fn time_writes<R: Clock + AllocGlobal>(
     rt: &R,
     timing: Timing,
-    pieces: Pieces<'_>,
+    pieces: TimedText<'_>,
 ) -> Result<Best, Fault> {
     let mut best = Best::new();
     let mut room = ReadRoom::new(rt.alloc());

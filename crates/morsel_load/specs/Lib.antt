@@ -1,0 +1,6 @@
+-- What the lanes of a query carry.
+pub mod Morsels
+pub mod Loads
+pub mod Lent
+pub mod Splits
+pub mod Linearized
