@@ -1,11 +1,11 @@
 //! Morsels, loads and tokens, and the rows of pipes by number.
-ghost use Rattle.std.specs.Prelude.{◌≡◌, ◌<◌, ◌*◌, All, None, IfOk};
+ghost use Rattle.std.specs.Prelude.{◌≡◌, ◌<◌, ◌*◌, ◌∷◌, [], All, None, IfOk};
 
 use morsel_frame::{Cell, Column, Frame, Schema};
 use morsel_load::{
     Load, LoadJob, LoadKind, Morsel, SourceToken, Stretch, linearize, split_to_morsels,
 };
-use morsel_meaning::{ColType, Fault, Field, Name, Value};
+use morsel_meaning::{ColType, Fault, Field, Name};
 use morsel_pipe::{Encoded, MorselSeq};
 use std::alloc::Global;
 use std::process::Abort;
@@ -28,18 +28,31 @@ type TestMorsel = Morsel<Numbered, Any>;
 
 type TestLoad = Load<Numbered, Any>;
 
+/// The schema of one column.
+fn schema_of_one(alloc: Global, name: &str, kind: ColType) -> Result<Schema, Fault>
+    ensures { IfOk result (λ schema. schema ≡ record { name = name.now; kind = kind } ∷ []) }
+{
+    let name = Name::new(alloc, name)?;
+    Schema::new(alloc, vec![in alloc; Field { name, kind }]?)
+}
+
+/// The frame of one column.
+fn framed(alloc: Global, column: Column) -> Result<Frame, Fault> {
+    let schema = schema_of_one(alloc, "a", column.kind())?;
+    let height = column.len();
+    Ok(Frame::new(alloc, schema, vec![in alloc; column]?, height))
+}
+
+/// The column of this number.
+fn column_of(alloc: Global, number: i64) -> Result<Column, Fault> {
+    let mut column = Column::new(alloc, ColType::Int);
+    column.push_int(number)?;
+    Ok(column)
+}
+
 /// One column `a` with this number in its only row.
 fn frame(alloc: Global, number: i64) -> Result<Frame, Fault> {
-    let mut fields = Vec::new(alloc);
-    fields.push(Field {
-        name: Name::new(alloc, "a")?,
-        kind: ColType::Int,
-    })?;
-    let mut column = Column::new(alloc, ColType::Int);
-    column.push(Value::Int(number))?;
-    let mut columns = Vec::new(alloc);
-    columns.push(column)?;
-    Ok(Frame::new(alloc, Schema::new(alloc, fields)?, columns, 1))
+    framed(alloc, column_of(alloc, number)?)
 }
 
 /// One row that has its number.
@@ -159,10 +172,19 @@ fn pipes(alloc: Global) -> Result<Vec<Vec<TestMorsel>>, Fault>
     Ok(pipes)
 }
 
+/// Whether the first row of a frame has this number.
+fn has_number(frame: &Frame, number: i64) -> bool {
+    if frame.width() == 0 {
+        return false;
+    }
+    let column = frame.column(0);
+    column.len() > 0 && column.get(0) == Cell::Int(number)
+}
+
 fn numbers_are(rt: &impl Abort, frames: &[Frame], numbers: &[i64]) {
     assert_eq!(rt; frames.len(), numbers.len());
     for (frame, number) in frames.iter().zip(numbers) {
-        assert!(rt; matches!(frame.column(0).get(0), Cell::Int(found) if found == *number));
+        assert!(rt; has_number(frame, *number), "{number}");
     }
 }
 
