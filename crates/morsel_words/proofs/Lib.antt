@@ -1,0 +1,9 @@
+pub mod StateWord
+pub mod LaneWords
+pub mod LaneMoves
+pub mod SenderSteps
+pub mod ReceiverSteps
+pub mod LookLemmas
+pub mod SinceLemmas
+pub mod OpenSteps
+pub mod CloseSteps

@@ -1,0 +1,24 @@
+//! Lanes between threads, without a lock: a word, one slot, and who waits.
+//!
+//! Each call of an end is a few single steps on words of a table, and what it says holds whatever steps the other end
+//! makes between them.
+#![tactic(auto)]
+
+mod close_word;
+mod closing;
+mod lane;
+mod receiver;
+mod sender;
+mod sending;
+mod take_word;
+mod taking;
+mod view;
+mod word;
+
+pub use closing::{WordSent, WordTaken, agree_receipts};
+pub use lane::word_lane;
+pub use receiver::WordReceiver;
+pub use sender::WordSender;
+
+#[cfg(test)]
+mod tests;
