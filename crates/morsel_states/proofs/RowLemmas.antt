@@ -1,9 +1,10 @@
 -- Rows of groups that are put to what is kept, one after the other.
-use Rattle.std.proofs.Common.{◌≡◌, ◌<◌, ◌++◌, [], ◌∷◌, List, ℕ, zero, suc, ◌+◌, length, take, drop, slice_get, get_or, set, None, Some, refl, arith, ap, ◌∙◌, sym, Bool, true, false, if◌then◌else◌, map, ◌≤◌, ◌-◌, max, ℤ, pos, ◌+ℤ◌, subst, replicate, append_assoc}
-use Rattle.std.specs.Prelude.{Option, nat_eq, ◌==◌, Err}
-use Rattle.std.proofs.lemmas.Int.{ints}
+use Rattle.std.proofs.Common.{◌≡◌, ◌<◌, ◌++◌, [], ◌∷◌, List, ℕ, zero, suc, ◌+◌, length, take, drop, slice_get, get_or, set, None, Some, refl, arith, ap, ◌∙◌, sym, Bool, true, false, if◌then◌else◌, map, ◌≤◌, ◌-◌, max, ℤ, pos, subst, replicate, append_assoc}
+use Rattle.std.specs.Prelude.{Option, nat_eq, Err}
+use Rattle.std.specs.List.{All}
 use Rattle.std.proofs.lemmas.Option.{get_or_from_slice_get}
 use Rattle.std.proofs.lemmas.List.{take_more, length-set, get_or-set_same, get_or-set_other, get_or_default, length-map, append-nil, map-append, replicate-append-replicate}
+use Rattle.std.proofs.lemmas.List.Elements.{All-get_or}
 use Rattle.std.proofs.Math.Seq.{take-length, take-append_seam}
 use Rattle.morsel_meaning.specs.declared.fault.Fault.{Fault}
 use Rattle.morsel_meaning.specs.declared.fault.Fault.TheVariants.{ComputeError}
@@ -13,12 +14,9 @@ use Rattle.morsel_meaning.specs.declared.value.Value.TheVariants as values
 use Rattle.morsel_keys.specs.declared.reduction.Reduction.{Reduction}
 use Rattle.morsel_keys.specs.Groups.{both_parts}
 use Rattle.morsel_frame.specs.Refusals.{Refuses}
-use Rattle.morsel_keys.specs.declared.kept.Kept.TheVariants as kepts
 use Rattle.morsel_frame.specs.Columns.{masked}
 use Rattle.morsel_frame.proofs.ColumnLemmas.{length-masked, map-replicate}
-use Rattle.morsel_keys.specs.declared.reduction.Reduction.TheVariants as ops
-use Rattle.morsel_keys.specs.Accs.{kept_entry, kept_if, IsTotalOf}
-use Rattle.morsel_keys.specs.Reductions.{ValueAt, Entry, Reducing, addend, one_entry, plus_entries, entry_of, entry_len, len_limit, len_fault}
+use Rattle.morsel_keys.specs.Reductions.{ValueAt, Entry, Reducing, one_entry, plus_entries, entry_of, entry_len, len_limit, len_fault}
 use Rattle.morsel_keys.proofs.GroupLemmas.{both_parts-assoc, both_parts-none}
 use Rattle.morsel_keys.proofs.ReductionLemmas.{plus_entries-assoc}
 use Rattle.morsel_states.specs.GroupRows.{GroupRow, group_rows, group_values, with_value, with_group_row, with_group_rows, StopsRows, KeepsGroups}
@@ -123,21 +121,6 @@ rows_done op old now at groups vs i same all done =
     let whole : i ≡ length rows = all ∙ sym (length-group_rows at groups vs same) in
     done ∙ ap (with_group_rows op old) (ap (λ n. take n rows) whole ∙ take-length rows)
 
--- a total with a number more
-pub sum_more : (n : ℕ) (total x : ℤ) (v : ValueAt) → IsTotalOf n total → x ≡ addend v.value → kept_if (n + 1) (kepts.Sum (total +ℤ x)) ≡ with_value ops.Sum (kept_if n (kepts.Sum total)) v
-sum_more n total x v within same = some ∙ by (n == 0) refl
-  where
-    some : kept_if (n + 1) (kepts.Sum (total +ℤ x)) ≡ Some (kept_entry (n + 1) (kepts.Sum (total +ℤ x)))
-    some = let more : (n + 1 == 0) ≡ false = grind arith in ap (λ t. if t then None else Some (kept_entry (n + 1) (kepts.Sum (total +ℤ x)))) more
-
-    by : (t : Bool) → (n == 0) ≡ t → Some (kept_entry (n + 1) (kepts.Sum (total +ℤ x))) ≡ with_value ops.Sum (if t then None else Some (kept_entry n (kepts.Sum total))) v
-    by true none =
-        let zero_is : n ≡ 0 = grind (arith, none) in
-        let len : n + 1 ≡ 1 = omega (arith, zero_is) in
-        let sum : total +ℤ x ≡ addend v.value = omega (arith, ints, within, zero_is, same) in
-        ap (λ k. Some (kept_entry k (kepts.Sum (total +ℤ x)))) len ∙ ap (λ t. Some (kept_entry 1 (kepts.Sum t))) sum
-    by false some = ap (λ t. Some (kept_entry (n + 1) (kepts.Sum (total +ℤ t)))) same
-
 -- a value of a column of numbers
 pub masked_at : (valid : List Bool) (numbers : List ℤ) (i : ℕ) → length numbers ≡ length valid → i < length valid
     → (if get_or valid i false then values.Int (get_or numbers i (pos 0)) else values.Null) ≡ get_or (masked valid (map values.Int numbers)) i values.Null
@@ -148,6 +131,33 @@ masked_at (b ∷ valid) (n ∷ numbers) (suc i) same within = masked_at valid nu
 
 pub masked_len : (valid : List Bool) (numbers : List ℤ) (count : ℕ) → length valid ≡ count → length numbers ≡ count → length (masked valid (map values.Int numbers)) ≡ count
 masked_len valid numbers count here there = length-masked valid (map values.Int numbers) (length-map numbers values.Int ∙ there ∙ sym here) ∙ here
+
+-- one row more of numbers, as the code writes it
+pub number_done : (op : Reduction) (old now : List (Option Entry)) (at : ℕ) (groups : List ℕ) (valid : List Bool) (numbers : List ℤ) (i : ℕ) (d e : Option Entry) (v : ValueAt)
+    → length valid ≡ length groups → length numbers ≡ length groups → All (λ g. g < length old) groups → i < length groups → length now ≡ length old
+    → e ≡ with_value op (get_or now (get_or groups i 0) d) v → v.at ≡ at + i → v.value ≡ (if get_or valid i false then values.Int (get_or numbers i (pos 0)) else values.Null)
+    → now ≡ with_group_rows op old (take i (group_rows at groups (masked valid (map values.Int numbers)))) → set now (get_or groups i 0) e ≡ with_group_rows op old (take (i + 1) (group_rows at groups (masked valid (map values.Int numbers))))
+number_done op old now at groups valid numbers i d e v here there within before same is_next is_at is_value done =
+    let vs = masked valid (map values.Int numbers) in
+    let is_there : get_or groups i 0 < length old = All-get_or (λ g. g < length old) groups i 0 before within in
+    let value = is_value ∙ masked_at valid numbers i (there ∙ sym here) (omega (arith, before, here)) in
+    step_done op old now at groups vs i (get_or groups i 0) d e (masked_len valid numbers (length groups) here there) before refl (omega (arith, is_there, same))
+    (is_next ∙ ap (λ n. with_value op (get_or now (get_or groups i 0) d) (record { at = n; value = v.value })) is_at ∙ ap (λ w. with_value op (get_or now (get_or groups i 0) d) (record { at = at + i; value = w })) value) done
+
+-- a row of numbers that is refused, since its group is full
+pub number_stops : (op : Reduction) (old now : List (Option Entry)) (at : ℕ) (groups : List ℕ) (valid : List Bool) (numbers : List ℤ) (i : ℕ) (d : Option Entry) (fault : Fault)
+    → length valid ≡ length groups → length numbers ≡ length groups → All (λ g. g < length old) groups → i < length groups → length now ≡ length old
+    → entry_len (get_or now (get_or groups i 0) d) ≡ len_limit → fault ≡ ComputeError LenTooLarge 4294967295 0
+    → now ≡ with_group_rows op old (take i (group_rows at groups (masked valid (map values.Int numbers)))) → StopsRows op old (group_rows at groups (masked valid (map values.Int numbers))) fault now
+number_stops op old now at groups valid numbers i d fault here there within before same full is_fault done =
+    let is_there : get_or groups i 0 < length old = All-get_or (λ g. g < length old) groups i 0 before within in
+    stops_at op old now at groups (masked valid (map values.Int numbers)) i (get_or groups i 0) d fault (masked_len valid numbers (length groups) here there) before refl (omega (arith, is_there, same))
+    (full_refuses (get_or now (get_or groups i 0) d) fault full is_fault) done
+
+-- all rows of numbers
+pub numbers_done : (op : Reduction) (old now : List (Option Entry)) (at : ℕ) (groups : List ℕ) (valid : List Bool) (numbers : List ℤ) (i : ℕ) → length valid ≡ length groups → length numbers ≡ length groups → i ≡ length groups
+    → now ≡ with_group_rows op old (take i (group_rows at groups (masked valid (map values.Int numbers)))) → now ≡ with_group_rows op old (group_rows at groups (masked valid (map values.Int numbers)))
+numbers_done op old now at groups valid numbers i here there all done = rows_done op old now at groups (masked valid (map values.Int numbers)) i (masked_len valid numbers (length groups) here there) all done
 
 -- more of the same at the end of a list
 pub one_more : {X : Type 0} (xs : List X) (x : X) (at : ℕ) → length xs ≤ at → xs ++ replicate (at - length xs) x ++ x ∷ [] ≡ xs ++ replicate (at + 1 - length xs) x

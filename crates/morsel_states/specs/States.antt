@@ -1,5 +1,5 @@
 -- What the code keeps for groups.
-use Rattle.std.specs.Prelude.{◌≡◌, ◌-◌, ◌++◌, ℕ, Option, None, List, length, map, replicate}
+use Rattle.std.specs.Prelude.{◌≡◌, ◌-◌, ◌++◌, ◌⊎◌, ℕ, Option, None, List, length, map, replicate}
 use Rattle.std.specs.List.{All}
 use Rattle.morsel_meaning.specs.declared.value.ColType.{ColType}
 use Rattle.morsel_meaning.specs.declared.value.ColType.TheVariants as types
@@ -19,6 +19,8 @@ pub record GroupStates : Type 0 where
 abbrev pub flat_entries : Flat → List (Option Entry)
 flat_entries (flats.Lens lens) = lens.items
 flat_entries (flats.Sums sums) = sums.items
+flat_entries (flats.Bounds bounds) = bounds.items
+flat_entries (flats.Picks picks) = picks.items
 flat_entries (flats.Others accs) = map (λ acc. acc.entry) accs.items
 
 -- accumulators are of one reduction and of one type
@@ -29,6 +31,8 @@ AreAccs op kind accs = All (λ acc. (acc.op ≡ op) × (acc.kind ≡ kind)) accs
 abbrev pub IsFlat : Reduction → ColType → Flat → Type 0
 IsFlat op kind (flats.Lens lens) = op ≡ ops.Len
 IsFlat op kind (flats.Sums sums) = (op ≡ ops.Sum) × (kind ≡ types.Int)
+IsFlat op kind (flats.Bounds bounds) = ((op ≡ ops.Min) ⊎ (op ≡ ops.Max)) × (kind ≡ types.Int)
+IsFlat op kind (flats.Picks picks) = ((op ≡ ops.First) ⊎ (op ≡ ops.Last)) × (kind ≡ types.Int)
 IsFlat op kind (flats.Others accs) = (op ≡ ops.Sum → kind ≡ types.Int) × AreAccs op kind accs.items
 
 -- what is kept for groups, with nothing for those that follow up to so many

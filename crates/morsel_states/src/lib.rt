@@ -2,9 +2,11 @@
 #![tactic(auto)]
 
 mod accs;
+mod bounds;
 mod flat;
 mod laws;
 mod lens;
+mod picks;
 mod states;
 mod sums;
 

@@ -1,13 +1,16 @@
 //! Accumulators of many groups.
-ghost use Rattle.std.specs.Prelude.{◌≡◌, ◌<◌, ◌≤◌, ◌+◌, ◌^◌, [], None, OnOk, OnErr, IfOk, IsOkUnless, All, get_or, length, set};
+ghost use Rattle.std.specs.Prelude.{◌≡◌, ◌<◌, ◌≤◌, ◌+◌, ◌^◌, [], None, OnOk, OnErr, IfOk, IsOkUnless, All, get_or, length, map, set};
 ghost use Rattle.morsel_keys.specs.Reductions.{finished, input_place, total_fault};
+ghost use Rattle.morsel_frame.specs.Columns.{masked};
 ghost use Rattle.morsel_frame.specs.Refusals.{Refuses};
 ghost use Rattle.morsel_states.specs.GroupRows.{group_rows, PutsGroupRows};
-ghost use Rattle.morsel_states.specs.States.{with_groups};
+ghost use Rattle.morsel_states.specs.States.{with_groups, flat_entries, IsFlat};
 
 use crate::accs::{finish_at, grow_accs, put_each};
+use crate::bounds::{BoundState, bound_each, grow_bounds};
 use crate::flat::Flat;
 use crate::lens::{LenState, count_each, grow_lens};
+use crate::picks::{PickState, grow_picks, pick_each};
 use crate::sums::{SumState, add_each, grow_sums};
 use morsel_frame::Column;
 use morsel_keys::Reduction;
@@ -45,11 +48,7 @@ impl States {
             alloc,
             op,
             kind,
-            flat: match op {
-                Reduction::Len => Flat::Lens(Vec::new(alloc)),
-                Reduction::Sum => Flat::Sums(Vec::new(alloc)),
-                _ => Flat::Others(Vec::new(alloc)),
-            },
+            flat: blank_flat(alloc, op, kind),
         }
     }
 
@@ -60,6 +59,8 @@ impl States {
         match &self.flat {
             Flat::Lens(lens) => lens.len(),
             Flat::Sums(sums) => sums.len(),
+            Flat::Bounds(bounds) => bounds.len(),
+            Flat::Picks(picks) => picks.len(),
             Flat::Others(accs) => accs.len(),
         }
     }
@@ -83,10 +84,18 @@ impl States {
     {
         match &mut self.flat {
             Flat::Lens(lens) => count_each(lens, groups),
-            Flat::Sums(sums) => match column.ints() {
-                Some((valid, numbers)) => add_each(sums, groups, valid, numbers),
-                None => unreachable!(),
-            },
+            Flat::Sums(sums) => {
+                let (valid, numbers) = numbers_of(column);
+                add_each(sums, groups, valid, numbers)
+            }
+            Flat::Bounds(bounds) => {
+                let (valid, numbers) = numbers_of(column);
+                bound_each(self.op, bounds, groups, valid, numbers)
+            }
+            Flat::Picks(picks) => {
+                let (valid, numbers) = numbers_of(column);
+                pick_each(self.op, picks, groups, valid, numbers, place)
+            }
             Flat::Others(accs) => put_each(self.op, accs, groups, column, place),
         }
     }
@@ -100,6 +109,8 @@ impl States {
         match &mut self.flat {
             Flat::Lens(lens) => grow_lens(lens, groups),
             Flat::Sums(sums) => grow_sums(sums, groups),
+            Flat::Bounds(bounds) => grow_bounds(bounds, groups),
+            Flat::Picks(picks) => grow_picks(picks, groups),
             Flat::Others(accs) => grow_accs(self.alloc, self.op, self.kind, accs, groups),
         }
     }
@@ -123,7 +134,43 @@ impl States {
                 let state = mem::replace(&mut sums[group], SumState::new());
                 state.finish()
             }
+            Flat::Bounds(bounds) => {
+                let state = mem::replace(&mut bounds[group], BoundState::new());
+                Ok(state.finish())
+            }
+            Flat::Picks(picks) => {
+                let state = mem::replace(&mut picks[group], PickState::new());
+                Ok(state.finish())
+            }
             Flat::Others(accs) => finish_at(self.alloc, self.op, self.kind, accs, group),
         }
+    }
+}
+
+/// The numbers of a column of them, and which of them are no nulls.
+fn numbers_of(column: &Column) -> (&[bool], &[i64])
+    requires { column.now.kind ≡ ColType.Int }
+    ensures values { column.now.values ≡ masked result.0.now (map Value.Int result.1.now) }
+    ensures valid_len { length result.0.now ≡ length column.now.values }
+    ensures len { length result.1.now ≡ length column.now.values }
+{
+    match column.ints() {
+        Some(parts) => parts,
+        None => unreachable!(),
+    }
+}
+
+/// No groups, in the vector that this reduction of this type has.
+fn blank_flat(alloc: Global, op: Reduction, kind: ColType) -> Flat
+    requires { op ≡ Reduction.Sum → kind ≡ ColType.Int }
+    ensures blank { flat_entries result ≡ [] }
+    ensures flat { IsFlat op kind result }
+{
+    match (op, kind) {
+        (Reduction::Len, _) => Flat::Lens(Vec::new(alloc)),
+        (Reduction::Sum, _) => Flat::Sums(Vec::new(alloc)),
+        (Reduction::Min | Reduction::Max, ColType::Int) => Flat::Bounds(Vec::new(alloc)),
+        (Reduction::First | Reduction::Last, ColType::Int) => Flat::Picks(Vec::new(alloc)),
+        _ => Flat::Others(Vec::new(alloc)),
     }
 }
