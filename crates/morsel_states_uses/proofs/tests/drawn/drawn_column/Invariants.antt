@@ -1,5 +1,5 @@
 use Rattle.std.proofs.Common.{◌≡◌}
-use Rattle.morsel_states_uses.proofs.tests.drawn_column.Given as goal
+use Rattle.morsel_states_uses.proofs.tests.drawn.drawn_column.Given as goal
 
 abbrev pub invariant-loop : goal.invariant-loop
 invariant-loop l = l.column.kind ≡ l.fn.kind

@@ -1,8 +1,5 @@
 use Rattle.std.proofs.Common.{◌≡◌}
-use Rattle.morsel_states_uses.proofs.tests.put_rows.Given as goal
+use Rattle.morsel_states_uses.proofs.tests.drawn.put_rows.Given as goal
 
 abbrev pub invariant-loop-row : goal.invariant-loop-row
-invariant-loop-row l = record {
-  kind : l.acc.kind ≡ l.fn.acc.kind;
-  op : l.acc.op ≡ l.fn.acc.op;
-}
+invariant-loop-row l = l.acc.kind ≡ l.fn.acc.kind

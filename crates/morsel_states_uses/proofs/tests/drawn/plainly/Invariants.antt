@@ -1,0 +1,5 @@
+use Rattle.std.proofs.Common.{◌≡◌}
+use Rattle.morsel_states_uses.proofs.tests.drawn.plainly.Given as goal
+
+abbrev pub invariant-loop-shape : goal.invariant-loop-shape
+invariant-loop-shape l = l.acc.kind ≡ l.fn.kind

@@ -1,0 +1,138 @@
+//! Rows of groups of a few numbers, with answers worked out by hand.
+ghost use Rattle.std.specs.Prelude.{◌≡◌, IfOk};
+
+use super::pieces::{Piece, finished, push_cell, put_piece};
+use morsel_frame::{Cell, Column};
+use morsel_keys::Reduction;
+use morsel_meaning::{ColType, ComputeKind, Fault, Value};
+use morsel_states::States;
+use std::alloc::Global;
+use std::test::Fail;
+
+/// The column of these cells.
+fn column_of(alloc: Global, kind: ColType, cells: &[Cell<'_>]) -> Result<Column, Fault>
+    ensures { IfOk result (λ column. column.kind ≡ kind) }
+{
+    let mut column = Column::new(alloc, kind);
+    for cell in cells {
+        push_cell(&mut column, *cell)?;
+    }
+    Ok(column)
+}
+
+/// Puts numbers to groups, of which the first is this arrival of the morsel of this number.
+fn put_numbers(
+    alloc: Global,
+    states: &mut States,
+    groups: &[u32],
+    numbers: &[Cell<'_>],
+    place: (u64, u64),
+) -> Result<(), Fault>
+    requires { states.old.kind ≡ ColType.Int }
+    ensures { states.new.kind ≡ states.old.kind }
+{
+    let piece = Piece {
+        groups: Vec::from_slice(alloc, groups)?,
+        column: column_of(alloc, ColType::Int, numbers)?,
+        place,
+    };
+    put_piece(states, &piece)
+}
+
+/// What a reduction says of a group, where these numbers are in groups 0, 1, 0 and 2.
+fn of_four(
+    alloc: Global,
+    op: Reduction,
+    numbers: &[Cell<'_>; 4],
+    group: u32,
+) -> Result<Value, Fault> {
+    let mut states = States::new(alloc, op, ColType::Int);
+    states.grow(4)?;
+    put_numbers(alloc, &mut states, &[0, 1, 0, 2], numbers, (0, 0))?;
+    finished(&mut states, group)
+}
+
+/// What a reduction says of a group of 5, null, 7 and 1.
+fn of_worked(alloc: Global, op: Reduction, group: u32) -> Result<Value, Fault> {
+    let numbers = [Cell::Int(5), Cell::Null, Cell::Int(7), Cell::Int(1)];
+    of_four(alloc, op, &numbers, group)
+}
+
+#[test]
+fn each_group_has_its_own_rows(rt: HostRuntime) -> Result<(), Fail> {
+    let alloc = rt.alloc();
+    assert_eq!(rt; of_worked(alloc, Reduction::Sum, 0)?, Value::Int(12));
+    assert_eq!(rt; of_worked(alloc, Reduction::Sum, 1)?, Value::Int(0));
+    assert_eq!(rt; of_worked(alloc, Reduction::Len, 1)?, Value::Int(1));
+    assert_eq!(rt; of_worked(alloc, Reduction::Max, 1)?, Value::Null);
+    assert_eq!(rt; of_worked(alloc, Reduction::First, 2)?, Value::Int(1));
+    Ok(())
+}
+
+/// What a reduction says of two pieces of one group: 1 and null, which come first and stand last, and then 2 and 3.
+fn of_two_pieces(alloc: Global, op: Reduction) -> Result<Value, Fault> {
+    let mut states = States::new(alloc, op, ColType::Int);
+    states.grow(1)?;
+    put_numbers(
+        alloc,
+        &mut states,
+        &[0, 0],
+        &[Cell::Int(1), Cell::Null],
+        (3, 2),
+    )?;
+    put_numbers(
+        alloc,
+        &mut states,
+        &[0, 0],
+        &[Cell::Int(2), Cell::Int(3)],
+        (3, 0),
+    )?;
+    finished(&mut states, 0)
+}
+
+#[test]
+fn the_first_and_the_last_go_by_place(rt: HostRuntime) -> Result<(), Fail> {
+    let alloc = rt.alloc();
+    assert_eq!(rt; of_two_pieces(alloc, Reduction::First)?, Value::Int(2));
+    assert_eq!(rt; of_two_pieces(alloc, Reduction::Last)?, Value::Null);
+    assert_eq!(rt; of_two_pieces(alloc, Reduction::Min)?, Value::Int(1));
+    assert_eq!(rt; of_two_pieces(alloc, Reduction::Max)?, Value::Int(3));
+    Ok(())
+}
+
+/// A group that has no rows has the length 0 and the sum 0, and is null else.
+#[test]
+fn a_group_without_rows_is_empty(rt: HostRuntime) -> Result<(), Fail> {
+    let alloc = rt.alloc();
+    assert_eq!(rt; of_worked(alloc, Reduction::Len, 3)?, Value::Int(0));
+    assert_eq!(rt; of_worked(alloc, Reduction::Sum, 3)?, Value::Int(0));
+    assert_eq!(rt; of_worked(alloc, Reduction::Last, 3)?, Value::Null);
+    Ok(())
+}
+
+/// What the sum says of group 0, where its two numbers are these.
+fn sum_of_two(alloc: Global, first: i64, second: i64) -> Result<Value, Fault> {
+    let numbers = [
+        Cell::Int(first),
+        Cell::Int(0),
+        Cell::Int(second),
+        Cell::Null,
+    ];
+    of_four(alloc, Reduction::Sum, &numbers, 0)
+}
+
+#[test]
+fn a_total_outside_64_bits_is_refused(rt: HostRuntime) -> Result<(), Fail> {
+    let alloc = rt.alloc();
+    assert!(rt;
+        matches!(
+            sum_of_two(alloc, i64::MAX, 1),
+            Err(Fault::ComputeError {
+                kind: ComputeKind::SumTooLarge,
+                ..
+            })
+        )
+    );
+    assert_eq!(rt; sum_of_two(alloc, i64::MIN, i64::MAX)?, Value::Int(-1));
+    Ok(())
+}
