@@ -13,6 +13,8 @@ use std::mem;
 
 /// Puts rows to their groups, of which the first has this place and each other one the next. A row whose group has as many values as may be
 /// is refused, or one for which there is no memory, and those before it are put.
+// Not inlined, so that its loop has the registers to itself.
+#[inline(never)]
 pub fn put_each(
     op: Reduction,
     accs: &mut [Acc],

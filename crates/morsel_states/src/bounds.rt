@@ -104,6 +104,8 @@ fn passes(op: Reduction, bound: Option<i64>, number: i64) -> bool
 }
 
 /// Puts rows to their groups. A row whose group has as many values as may be is refused, and those before it are put.
+// Not inlined, so that its loop has the registers to itself.
+#[inline(never)]
 pub fn bound_each(
     op: Reduction,
     bounds: &mut [BoundState],

@@ -63,6 +63,8 @@ impl LenState {
 }
 
 /// Puts rows to their groups. A row whose group has as many values as may be is refused, and those before it are counted.
+// Not inlined, so that its loop has the registers to itself.
+#[inline(never)]
 pub fn count_each(lens: &mut [LenState], groups: &[u32]) -> Result<(), Fault>
     requires { All (λ group. group < length lens.old) groups.now }
     ensures len { length lens.new ≡ length lens.old }

@@ -88,6 +88,8 @@ fn is_picked(op: Reduction, place: (u64, u64), other: (u64, u64)) -> bool
 
 /// Puts rows to their groups, of which the first has this place and each other one the next. A row whose group has as many values as may be
 /// is refused, and those before it are put.
+// Not inlined, so that its loop has the registers to itself.
+#[inline(never)]
 pub fn pick_each(
     op: Reduction,
     picks: &mut [PickState],

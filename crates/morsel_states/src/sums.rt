@@ -97,6 +97,8 @@ fn total_with(total: i128, len: u64, number: i64) -> i128
 }
 
 /// Puts rows to their groups. A row whose group has as many values as may be is refused, and those before it are added.
+// Not inlined, so that its loop has the registers to itself.
+#[inline(never)]
 pub fn add_each(
     sums: &mut [SumState],
     groups: &[u32],
