@@ -52,11 +52,22 @@ fn choose<T: Message, B: Board, S: LaneSender<T, B>, R: Rng>(
     let held = look(lanes, next, cx);
     let mut best = (next, held);
     for _turn in 0..DRAWN {
-        let lane = rng.next_u32() as usize % count;
+        let lane = drawn(rng, count);
         let held = look(lanes, lane, cx);
         best = shorter(best, (lane, held));
     }
     best.0
+}
+
+/// A place below `count` that is drawn.
+// By a product, since a division takes many times as long.
+#[inline(always)]
+fn drawn<R: Rng>(rng: &mut R, count: usize) -> usize
+    requires { 0 < count }
+    ensures { result < count }
+{
+    let place = (u64::from(rng.next_u32()).wrapping_mul(count as u64) >> 32) as usize;
+    if place < count { place } else { 0 }
 }
 
 /// Of two lanes with what they hold, the second where it holds less.
@@ -103,7 +114,7 @@ pub fn try_lanes<T: Message, B: Board, S: LaneSender<T, B>, R: Rng>(
     match offer(&mut lanes[lane], lane, log, cx, value) {
         Ok(()) => Ok(()),
         Err(refused) => {
-            let start = rng.next_u32() as usize % lanes.len();
+            let start = drawn(rng, lanes.len());
             pass_from(lanes, log, job, start, cx, value_of(refused))
         }
     }

@@ -5,7 +5,7 @@ ghost use Rattle.morsel_prims.specs.Woken.{AreFoundWoken, KeepsWakes};
 ghost use Rattle.morsel_merge.specs.Boards.{OnEarlierEnd, OnLaterEnd};
 ghost use Rattle.morsel_merge.specs.Spread.{AreFoundEach};
 
-use morsel_prims::{Board, Cx, LaneSender, Message};
+use morsel_prims::{Board, Cx, LaneReceiver, LaneSender, Message};
 
 /// Finishes the lanes; what tells what was sent through each is put into `receipts`, which has the room.
 pub fn finish_lanes<T: Message, B: Board, S: LaneSender<T, B> + Drop>(
@@ -44,5 +44,23 @@ pub fn cut_lanes<T: Message, B: Board, S: LaneSender<T, B> + Drop>(lanes: Vec<S>
 {
     for lane in lanes {
         lane.cut(cx);
+    }
+}
+
+/// Closes the receiving ends of lanes.
+pub fn cut_receivers<T: Message, B: Board, R: LaneReceiver<T, B> + Drop>(
+    receivers: Vec<R>,
+    cx: &mut Cx<B>,
+)
+    requires home { All (λ end. R.home end ≡ (B.id cx.old.board).lane_table) receivers.items }
+    ensures cut { All (λ end. OnEarlierEnd B.waits_at cx.new.board cx.new.wakes (λ board. R.has_cut board end)) receivers.items }
+    ensures woken { AreFoundWoken (AreFoundEach (λ end left tasks. OnLaterEnd B.waits_at cx.old.board (λ board. R.found_waiting_cut board end tasks)) receivers.items receivers.items) cx.new.wakes }
+    ensures keeps_waiting { KeepsWaiting (B.waits_at cx.old.board) (B.waits_at cx.new.board) cx.new.wakes }
+    ensures same_board { B.id cx.new.board ≡ B.id cx.old.board }
+    ensures same_task { cx.new.me ≡ cx.old.me }
+    ensures wakes { KeepsWakes cx.old.wakes cx.new.wakes }
+{
+    for receiver in receivers {
+        receiver.cut(cx);
     }
 }

@@ -6,6 +6,7 @@ ghost use Rattle.std.specs.Prelude.{◌≡◌, ◌<◌, ◌≤◌, true, All, �
 ghost use Rattle.morsel_merge.specs.Merging.{AreHeldOrWhole};
 
 use crate::ask::{Cause, ask_lanes};
+use crate::close::cut_receivers;
 use crate::greatest::take_greatest;
 use crate::inserter::{Inserter, inserters_of};
 use crate::make::{make_lanes, nothing_held};
@@ -59,8 +60,10 @@ impl<T: Message + Ord, M: Tokens + Lanes<T>> Linearizer<T, M> {
     ghost use Rattle.std.specs.List.{flat_map};
     ghost use Rattle.morsel_prims.specs.Polled.{IfReady, OnPending};
     ghost use Rattle.morsel_meaning.specs.declared.fault.Fault.TheVariants.{OutOfMemory};
-    ghost use Rattle.morsel_prims.specs.Waiting.{KeepsOthersWaiting, SameWaiting};
-    ghost use Rattle.morsel_prims.specs.Woken.{KeepsWakes};
+    ghost use Rattle.morsel_prims.specs.Waiting.{KeepsOthersWaiting, KeepsWaiting, SameWaiting};
+    ghost use Rattle.morsel_prims.specs.Woken.{AreFoundWoken, KeepsWakes};
+    ghost use Rattle.morsel_merge.specs.Boards.{OnEarlierEnd, OnLaterEnd};
+    ghost use Rattle.morsel_merge.specs.Spread.{AreFoundEach};
     ghost use Rattle.morsel_merge.specs.Ends.{IsNewSender, receiver_seen};
     ghost use Rattle.morsel_merge.specs.Got.{IfItem, got_list};
     ghost use Rattle.morsel_merge.specs.Merging.{AreNone, IsMerged, IsMerging, IsNextCut};
@@ -121,6 +124,20 @@ impl<T: Message + Ord, M: Tokens + Lanes<T>> Linearizer<T, M> {
             receipts.push_reserved(receiver.receipt());
         }
         receipts
+    }
+
+    /// Closes all lanes before their ends. What is held, and what was sent and not taken, is not given.
+    pub fn cut(self, cx: &mut Cx<M::Board>)
+        requires home { (M.Board.id self.board.value).lane_table ≡ (M.Board.id cx.old.board).lane_table }
+        ensures cut { All (λ end. OnEarlierEnd M.Board.waits_at cx.new.board cx.new.wakes (λ board. M.Receiver.has_cut board end)) self.receivers.items }
+        ensures woken { AreFoundWoken (AreFoundEach (λ end left tasks. OnLaterEnd M.Board.waits_at cx.old.board (λ board. M.Receiver.found_waiting_cut board end tasks)) self.receivers.items self.receivers.items) cx.new.wakes }
+        ensures keeps_waiting { KeepsWaiting (M.Board.waits_at cx.old.board) (M.Board.waits_at cx.new.board) cx.new.wakes }
+        ensures same_board { M.Board.id cx.new.board ≡ M.Board.id cx.old.board }
+        ensures same_task { cx.new.me ≡ cx.old.me }
+        ensures wakes { KeepsWakes cx.old.wakes cx.new.wakes }
+    {
+        let Linearizer { receivers, .. } = self;
+        cut_receivers(receivers, cx);
     }
 
     /// Gives the greatest value that is held, once each lane holds one or has ended whole; or registers who polls at a
