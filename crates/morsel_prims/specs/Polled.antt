@@ -14,6 +14,14 @@ pub record BoardId : Type 0 where
   pub lane_table : TableId
   pub group_table : TableId
 
+-- the identity of no table
+abbrev pub no_table : TableId
+no_table = record { words = 0; slots = 0; views_name = 0; atom = 0; block = 0; offset = 0; slot_names = [] }
+
+-- the one identity of the board `()`: its lanes and groups have tables of their own
+abbrev pub shared_board : BoardId
+shared_board = record { lane_table = no_table; group_table = no_table }
+
 -- which lane or group it is: a table, and its place there; in shared memory the table is its own
 pub record LaneId : Type 0 where
   pub table : TableId

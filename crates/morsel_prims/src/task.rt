@@ -17,6 +17,15 @@ pub trait Board {
     ghost waits_at: { Self → WaitPlace → Option TaskNo };
 }
 
+impl Board for () {
+    ghost use Rattle.std.specs.Prelude.{None};
+    ghost use Rattle.morsel_prims.specs.Polled.{shared_board};
+
+    ghost id = { λ _. shared_board };
+
+    ghost waits_at = { λ _ _. None };
+}
+
 /// What a poll works with: who polls, the tasks that it makes ready, and the board.
 #[derive(Drop)]
 pub struct Cx<B> {

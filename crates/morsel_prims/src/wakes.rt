@@ -67,7 +67,7 @@ impl Wakes {
     }
 
     /// Puts the task last where there is one that is not there. A number that is not below the bound is left out.
-    pub(crate) fn wake(&mut self, task: Option<TaskNo>)
+    pub fn wake(&mut self, task: Option<TaskNo>)
         ensures none { IsNone task → self.new ≡ self.old }
         ensures put { IfSome task (λ some. some.0 < self.old.bound → self.new ≡ with_woken self.old some.0) }
         ensures beyond { IfSome task (λ some. self.old.bound ≤ some.0 → self.new ≡ self.old) }
