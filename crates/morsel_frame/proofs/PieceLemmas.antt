@@ -1,7 +1,7 @@
 -- Texts in a buffer: reading one, dropping the last ones, appending.
 use Rattle.std.proofs.Common.{◌≡◌, ℕ, zero, suc, ◌+◌, ◌-◌, ◌<◌, ◌≤◌, List, [], ◌∷◌, ◌++◌, length, take, drop, get_or, replicate, refl, ap, sym, subst, ◌∙◌, arith, length-append, length-drop}
 use Rattle.std.proofs.lemmas.Str.{IsCharBoundary-start, IsCharBoundary-end, IsUtf8-between}
-use Rattle.std.proofs.lemmas.List.{length-take-le}
+use Rattle.std.proofs.lemmas.List.{length-take-le, get_or_default, take_rest}
 use Rattle.std.specs.Prelude.{slice_range}
 use Rattle.std.specs.Str.{IsCharBoundary, IsUtf8}
 use Rattle.morsel_frame.specs.Pieces.{pieces, ArePieces, moved}
@@ -41,6 +41,26 @@ cut_at_end from (end ∷ ends) bytes (suc at) within are = cut_at_end end ends b
 pub cut_at_start : (from : ℕ) (ends bytes : List ℕ) (at : ℕ) → at ≤ length ends → IsCharBoundary bytes from → ArePieces from ends bytes → IsCharBoundary bytes (get_or (from ∷ ends) at 0)
 cut_at_start from ends bytes zero within cut are = cut
 cut_at_start from ends bytes (suc at) within cut are = cut_at_end from ends bytes at (omega arith) are
+
+-- a text begins within the bytes
+pub start_within : (ends bytes : List ℕ) (at : ℕ) → at < length ends → ArePieces 0 ends bytes → get_or (0 ∷ ends) at 0 ≤ length bytes
+start_within ends bytes at within are =
+    let before = starts_before 0 ends bytes at within are in
+    let cut = cut_at_end 0 ends bytes at within are in omega (arith, before, cut.0)
+
+-- where a text ends, and its bytes at the front of all those from where it begins
+pub front-piece : (ends bytes : List ℕ) (at begin end : ℕ) → at < length ends → ArePieces 0 ends bytes → begin ≡ get_or (0 ∷ ends) at 0 → end ≡ get_or ends at end → (begin ≤ end) × (end ≤ length bytes) × (take (end - begin) (take (length bytes - begin) (drop begin bytes)) ≡ get_or (pieces 0 ends bytes) at [])
+front-piece ends bytes at begin end within are starts read =
+    let stops : end ≡ get_or ends at 0 = read ∙ get_or_default ends at end 0 within in
+    let before = starts_before 0 ends bytes at within are in
+    let cut = cut_at_end 0 ends bytes at within are in (
+      omega (arith, before),
+      omega (arith, cut.0),
+      ap (take (end - begin)) (take_rest bytes begin)
+          ∙ ap (λ n. take (n - begin) (drop begin bytes)) stops
+          ∙ ap (λ n. take (get_or ends at 0 - n) (drop n bytes)) starts
+          ∙ sym (get_or-pieces 0 ends bytes at within),
+    )
 
 -- the first texts
 pub take-pieces : (from : ℕ) (ends bytes : List ℕ) (n : ℕ) → n ≤ length ends → ArePieces from ends bytes → pieces from (take n ends) (take (get_or (from ∷ ends) n 0) bytes) ≡ take n (pieces from ends bytes)

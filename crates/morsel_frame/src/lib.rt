@@ -10,6 +10,7 @@ mod gathers;
 mod made;
 mod mismatch;
 mod packed;
+mod part_meta;
 mod row_number;
 mod schema;
 mod selects;
@@ -23,5 +24,6 @@ pub use morsel_meaning::{
     ColType, ComputeKind, Fault, Field, Name, QUERY_FILE, TaskNo, Value, Why,
 };
 pub use morsel_outside::{FileNo, Gate, Io, IoErr, MemIo, OpenGate, SureMemIo};
+pub use part_meta::PartMeta;
 pub use schema::Schema;
 pub use texts::Texts;

@@ -70,6 +70,17 @@ impl Texts {
         span(self.bytes.as_str(), self.ends.as_slice(), at, at + 1)
     }
 
+    /// The bytes from the beginning of the text at this place on, and how many of them are its own; the others are those of the texts after it.
+    #[inline(always)]
+    pub fn bytes_from(&self, at: usize) -> (&[u8], usize)
+        requires { at < length self.now }
+        ensures within { result.1 ≤ length result.0.now }
+        ensures text { take result.1 result.0.now ≡ get_or self.now at [] }
+    {
+        let begin = start(self.ends.as_slice(), at);
+        (&self.bytes.as_bytes()[begin..], self.ends[at] - begin)
+    }
+
     /// Takes memory for the ends of so many more texts, so that pushing them does not grow the list again and again.
     pub fn reserve(&mut self, more: usize) -> Result<(), Fault>
         ensures same { self.new ≡ self.old }
