@@ -64,7 +64,7 @@ whole_word false false false true = refl
 whole_word false false false false = refl
 
 -- a word that is set to what it was
-set_same : (ws : List ℕ) → set ws 0 (get_or ws 0 0) ≡ ws
+pub set_same : (ws : List ℕ) → set ws 0 (get_or ws 0 0) ≡ ws
 set_same [] = refl
 set_same (a ∷ ws) = refl
 
@@ -222,8 +222,8 @@ module _ {T J : Type 0} (suits : J → T → Type 0) (job : J) where
       there : get_elem? s.views other ≡ some w
       there = sym (set_else s.views id other (joined_view v w) apart) ∙ at'
 
-      for_job : v.job ≡ Some job
-      for_job = subst (λ z. KnowsJob job z v.job) first (k.seats id v at).0
+      for_job : w.job ≡ Some job
+      for_job = subst (λ z. KnowsJob job z w.job) second (k.seats other w there).0
 
       sends : (id ≡ k.sender) × (v.sending ≡ k.sending)
       sends = subst (λ z. KnowsLane k.sending k.taking k.sender k.receiver z id v.sending v.taking) first (k.seats id v at).1

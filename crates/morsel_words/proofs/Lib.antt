@@ -7,3 +7,4 @@ pub mod LookLemmas
 pub mod SinceLemmas
 pub mod OpenSteps
 pub mod CloseSteps
+pub mod HistorySteps

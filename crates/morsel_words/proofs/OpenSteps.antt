@@ -10,7 +10,7 @@ use Rattle.morsel_words.specs.Lane.{KnowsJob, KnowsLane, IsLane}
 use Rattle.morsel_words.specs.Steps.{first_view, sender_part, receiver_part}
 use Rattle.morsel_words.proofs.LaneMoves.{elsewhere}
 
-at_new : {A : Type 0} (l : List A) (a b : A) (j : ℕ) → get_elem? (l ++ a ∷ []) j ≡ some b → (get_elem? l j ≡ some b) ⊎ ((j ≡ length l) × (a ≡ b))
+pub at_new : {A : Type 0} (l : List A) (a b : A) (j : ℕ) → get_elem? (l ++ a ∷ []) j ≡ some b → (get_elem? l j ≡ some b) ⊎ ((j ≡ length l) × (a ≡ b))
 at_new [] a b zero e = inr (refl, some-injective a b e)
 at_new [] a b (suc j) e = absurd (some-ne-none b (sym e))
 at_new (x ∷ xs) a b zero e = inl e

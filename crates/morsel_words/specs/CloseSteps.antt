@@ -34,7 +34,7 @@ module _ {T J : Type 0} where
 
 -- the seats of both ends come together in one; the other is spent
 abbrev pub joined_view : {T J : Type 0} → LaneView T J → LaneView T J → LaneView T J
-joined_view v w = record { part = part.Both; sending = v.sending; taking = w.taking; found = v.found; job = v.job }
+joined_view v w = record { part = part.Both; sending = v.sending; taking = w.taking; found = v.found; job = w.job }
 
 abbrev pub spent_view : {T J : Type 0} → LaneView T J
 spent_view = record { part = part.Spent; sending = send_side sending.Idle [] 0 0; taking = take_side taking.Idle [] 0 0; found = []; job = None }

@@ -3,5 +3,6 @@ pub mod Lane
 pub mod Steps
 pub mod TakeSteps
 pub mod CloseSteps
+pub mod HistorySteps
 pub mod Since
 pub mod Ends

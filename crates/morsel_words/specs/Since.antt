@@ -5,8 +5,8 @@ use Rattle.morsel_words.specs.declared.view.Found.{Found}
 use Rattle.morsel_words.specs.declared.view.Found.TheVariants as found
 
 -- a step since then found this
-abbrev pub WasFound : List Found → List Found → Found → Type 0
-WasFound old new what = (later : List Found) × (earlier : List Found) × (new ≡ (later ++ what ∷ earlier) ++ old)
+abbrev pub WasFound : {F : Type 0} → List F → List F → F → Type 0
+WasFound old new what = (later : List _) × (earlier : List _) × (new ≡ (later ++ what ∷ earlier) ++ old)
 
 -- what was found by then was found since
 abbrev pub Follows : List Found → List Found → Type 0

@@ -50,7 +50,8 @@ impl<T, J> Play<Option<T>, LaneView<T, J>> for SeekAgreed {
     ghost then = { FindsAgreed };
 }
 
-struct JoinEnds;
+/// The seats of both ends come together.
+pub(crate) struct JoinEnds;
 
 impl<T, J> Join<LaneView<T, J>> for JoinEnds {
     ghost use Rattle.morsel_words.specs.CloseSteps.{joined_view, spent_view};

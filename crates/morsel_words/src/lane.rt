@@ -11,7 +11,8 @@ use morsel_prims::Message;
 use std::alloc::Global;
 use std::sync::Arc;
 
-struct PartEnds;
+/// The seat of both ends is parted.
+pub(crate) struct PartEnds;
 
 impl<T, J> Split<LaneView<T, J>> for PartEnds {
     ghost use Rattle.morsel_words.specs.Steps.{sender_part, receiver_part};

@@ -6,6 +6,7 @@
 
 mod close_word;
 mod closing;
+mod history;
 mod lane;
 mod receiver;
 mod sender;
@@ -16,9 +17,11 @@ mod view;
 mod word;
 
 pub use closing::{WordSent, WordTaken, agree_receipts};
+pub use history::tell_history;
 pub use lane::word_lane;
 pub use receiver::WordReceiver;
 pub use sender::WordSender;
+pub use sending::task_of;
 
 #[cfg(test)]
 mod tests;

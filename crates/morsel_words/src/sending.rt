@@ -13,8 +13,8 @@ use crate::word::{
 use morsel_meaning::TaskNo;
 use morsel_prims::{Message, SendError};
 
-/// The task that waits under this number.
-pub(crate) fn task_of(number: u64) -> Option<TaskNo>
+/// The task that waits under this number: one more than its own, or 0 where nobody waits.
+pub fn task_of(number: u64) -> Option<TaskNo>
     requires { number ≤ 4294967296 }
     ensures { IsNumberOf number result }
 {
