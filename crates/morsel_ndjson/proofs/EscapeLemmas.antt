@@ -1,13 +1,15 @@
 -- Bytes that need no escape: what a lane tells of them, and how they are written.
-use Rattle.std.proofs.Common.{◌≡◌, ◌⊎◌, inl, inr, refl, ℕ, zero, suc, subst, ◌+◌, ◌%◌, ◌^◌, ◌<◌, ◌≤◌, ◌∙◌, sym, ap, arith, Bool, true, false, cond, ◌||◌, ◌&&◌, ◌==◌, List, [], ◌∷◌, ◌++◌, length, get_or, take, drop, map, replicate, bit_or, eqb, ltb}
+use Rattle.std.proofs.Common.{◌≡◌, ◌⊎◌, inl, inr, refl, ℕ, zero, suc, subst, ◌+◌, ◌%◌, ◌^◌, ◌<◌, ◌≤◌, ◌∙◌, sym, ap, arith, append_assoc, Bool, true, false, cond, ◌||◌, ◌&&◌, ◌==◌, List, [], ◌∷◌, ◌++◌, length, get_or, take, drop, map, replicate, bit_or, eqb, ltb}
 use Rattle.std.proofs.lemmas.Bool.{or_parts, eqb-true, ne_eqb, ltb-false, cases_lt, OnTrue_from}
 use Rattle.std.proofs.lemmas.List.{length-map}
-use Rattle.std.proofs.lemmas.Simd.{zip2_splat, zip2_of_maps, mask_l-mod, none_from_empty_mask, length-chunk}
+use Rattle.std.proofs.lemmas.Simd.{zip2_splat, zip2_of_maps, mask_l-mod, none_from_empty_mask, trailing_mask_l, run_in_chunk_fails, length-chunk}
 use Rattle.std.specs.Bool.{OnTrue}
 use Rattle.std.specs.List.{flat_map}
+use lib.Count.{count_trailing_zeros}
 use lib.Lanes.{chunk, mask_l, zip2, top}
-use Rattle.morsel_ndjson.specs.Ndjson.{escaped}
+use Rattle.morsel_ndjson.specs.Ndjson.{escaped, json_string}
 use Rattle.morsel_ndjson.specs.Members.{needs_escape, ArePlain}
+use Rattle.morsel_ndjson.proofs.PutLemmas.{cut_words}
 
 -- how a comparison of lanes tells: all bits, or none
 abbrev all_bits : Bool → ℕ
@@ -48,12 +50,25 @@ escapes_of_lane n lane long fits =
     ∙ mask_l-mod (map needs_escape lane) 64 (omega (arith, length-map lane needs_escape, long, fits)))
 
 -- where no bit of a lane is set, none of its bytes needs an escape
+pub plain_lane_none : (n : ℕ) (text : List ℕ) (from : ℕ) → from + n ≤ length text → n ≤ 64 → escapes_told n (chunk from n text) ≡ 0 → ArePlain from (from + n) text
+plain_lane_none n text from within fits none =
+    none_from_empty_mask needs_escape text from n 0 within (sym (escapes_of_lane n (chunk from n text) (length-chunk from n text within) fits) ∙ none)
+
 pub plain_lane : (n : ℕ) (text : List ℕ) (from : ℕ) → from + n ≤ length text → n ≤ 64
     → OnTrue (escapes_told n (chunk from n text) == 0) (ArePlain from (from + n) text)
 plain_lane n text from within fits =
-    let told = escapes_of_lane n (chunk from n text) (length-chunk from n text within) fits in
     OnTrue_from (escapes_told n (chunk from n text) == 0) (ArePlain from (from + n) text)
-    (λ none. none_from_empty_mask needs_escape text from n 0 within (sym told ∙ eqb-true (escapes_told n (chunk from n text)) 0 none))
+    (λ none. plain_lane_none n text from within fits (eqb-true (escapes_told n (chunk from n text)) 0 none))
+
+-- the lowest bit that is set is of the first byte that needs an escape
+pub plain_to_first : (n : ℕ) (text : List ℕ) → n ≤ length text → n ≤ 64 → 0 < escapes_told n (chunk 0 n text) → ArePlain 0 (count_trailing_zeros 64 (escapes_told n (chunk 0 n text))) text
+plain_to_first n text within fits some =
+    let room : 0 + n ≤ length text = omega arith in
+    let long = length-chunk 0 n text room in
+    let told = escapes_of_lane n (chunk 0 n text) long fits in
+    let first : ℕ = count_trailing_zeros 64 (escapes_told n (chunk 0 n text)) in
+    let counted = ap (count_trailing_zeros 64) told ∙ trailing_mask_l needs_escape 64 (chunk 0 n text) (omega (arith, long)) (omega (arith, told, some)) in
+    λ k low high. run_in_chunk_fails needs_escape text 0 n first 0 room counted k low (omega (arith, high))
 
 -- bytes that need no escape, and more of them
 pub plain_more : (text : List ℕ) (from mid to : ℕ) (last : ℕ) → last ≤ mid → ArePlain from mid text → ArePlain last to text → ArePlain from to text
@@ -90,3 +105,26 @@ plain_front [] (suc n) within plain = absurd (omega arith)
 plain_front (b ∷ text) (suc n) within plain =
     ap (λ s. s ++ flat_map escaped text) (plain_byte b (plain zero (omega arith) (omega arith)))
     ∙ ap (λ s. b ∷ s) (plain_front text n (omega arith) (λ k low high. plain (suc k) (omega arith) (omega arith)))
+
+-- they are as they are by themselves too
+plain_taken : (text : List ℕ) (n : ℕ) → n ≤ length text → ArePlain 0 n text → flat_map escaped (take n text) ≡ take n text
+plain_taken text zero within plain = refl
+plain_taken [] (suc n) within plain = absurd (omega arith)
+plain_taken (b ∷ text) (suc n) within plain =
+    ap (λ s. s ++ flat_map escaped (take n text)) (plain_byte b (plain zero (omega arith) (omega arith)))
+    ∙ ap (λ s. b ∷ s) (plain_taken text n (omega arith) (λ k low high. plain (suc k) (omega arith) (omega arith)))
+
+-- a lane of which the first `len` bytes need no escape, between quotes
+pub quoted_lane : (old opened laned closed bytes : List ℕ) (at begin len first end : ℕ) → begin ≡ at + 1 → end ≡ begin + len + 1
+    → len ≤ first → len ≤ 16 → 16 ≤ length bytes → begin ≤ length opened → begin + 16 ≤ length laned → ArePlain 0 first bytes
+    → take begin opened ≡ take at old ++ 34 ∷ [] → take (begin + 16) laned ≡ take begin opened ++ take 16 bytes
+    → take end closed ≡ take (begin + len) laned ++ 34 ∷ [] → take (at + len + 2) closed ≡ take at old ++ json_string (take len bytes)
+quoted_lane old opened laned closed bytes at begin len first end next last enough short long room lane_room plain quote lane close =
+    let place : at + len + 2 ≡ end = omega arith in
+    let text : List ℕ = take len bytes in
+    let body : take (begin + len) laned ≡ take begin opened ++ text = cut_words opened laned bytes begin 16 len short room long lane_room lane in
+    ap (λ (n : ℕ). take n closed) place
+    ∙ (close
+    ∙ (ap (λ (s : List ℕ). s ++ 34 ∷ []) (body ∙ (ap (λ (s : List ℕ). s ++ text) quote ∙ append_assoc (take at old) (34 ∷ []) text))
+    ∙ (append_assoc (take at old) (34 ∷ text) (34 ∷ [])
+    ∙ ap (λ (s : List ℕ). take at old ++ (34 ∷ s ++ 34 ∷ [])) (sym (plain_taken bytes len (omega arith) (λ k low high. plain k low (omega arith)))))))

@@ -60,6 +60,8 @@ fn make_usual_room(out: &mut Vec<u8>, at: usize, begins: &[Beginning], rows: usi
 }
 
 /// Puts each row as a line, with the members of each column at hand.
+// Not inlined, so that its loop has the registers to itself.
+#[inline(never)]
 fn put_lines(
     out: &mut Vec<u8>,
     at: usize,

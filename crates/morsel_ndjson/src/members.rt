@@ -9,7 +9,7 @@ ghost use Rattle.morsel_ndjson.specs.Members.{beginnings, members_from, members_
 
 use crate::beginning::Beginning;
 use crate::cursor::make_room;
-use crate::values::put_value;
+use crate::values::{put_text, put_value};
 use morsel_frame::{Cell, Column, Frame, Texts};
 use morsel_meaning::{ColType, Value};
 use std::alloc::{AllocError, Global};
@@ -108,7 +108,8 @@ impl<'a> Member<'a> {
             Lent::Ints(numbers) => { Ok(put_int_member(out, at, self.begin, valid, numbers, row)) }
             Lent::Bools(flags) => Ok(put_bool_member(out, at, self.begin, valid, flags, row)),
             Lent::Texts(texts) => {
-                put_text_member(out, at, self.begin, valid, texts.get(row), room)
+                let (bytes, len) = texts.bytes_from(row);
+                put_text_member(out, at, self.begin, valid, bytes, len, room)
             }
         }
     }
@@ -172,14 +173,6 @@ fn bool_at(valid: bool, flags: &[bool], at: usize) -> Cell<'static>
     } else {
         Cell::Null
     }
-}
-
-/// A text under its mark.
-#[inline(always)]
-fn text_cell(valid: bool, text: &str) -> Cell<'_>
-    ensures { value_of result ≡ (if valid then Value.Text text.now else Value.Null) }
-{
-    if valid { Cell::Text(text) } else { Cell::Null }
 }
 
 /// Puts a beginning and a number under its mark.
@@ -270,39 +263,54 @@ fn put_bool_at(
     put_value(out, to, bool_at(valid, flags, row))
 }
 
-/// Puts a beginning and a text under its mark, for which there is room.
+/// Puts a beginning and a text under its mark, for which there is room. The text is the first `len` of these bytes.
 #[inline(always)]
-fn put_text_at(out: &mut [u8], at: usize, begin: &Beginning, valid: bool, text: &str) -> usize
-    requires { at + (length begin.now + 20 + 6 * length text.now) ≤ length out.old }
+fn put_text_at(
+    out: &mut [u8],
+    at: usize,
+    begin: &Beginning,
+    valid: bool,
+    bytes: &[u8],
+    len: usize,
+) -> usize
+    requires within { len ≤ length bytes.now }
+    requires room { at + (length begin.now + 36 + 6 * len) ≤ length out.old }
     ensures rises { at ≤ result }
-    ensures within { result ≤ at + (length begin.now + 20 + 6 * length text.now) }
+    ensures within { result ≤ at + (length begin.now + 20 + 6 * len) }
     ensures written { take result out.new ≡ take at out.old ++
-        (begin.now ++ json_value (if valid then Value.Text text.now else Value.Null)) }
+        (begin.now ++ json_value (if valid then Value.Text (take len bytes.now) else Value.Null)) }
 {
     let to = begin.put(out, at);
-    put_value(out, to, text_cell(valid, text))
+    if valid {
+        put_text(out, to, bytes, len)
+    } else {
+        put_value(out, to, Cell::Null)
+    }
 }
 
-/// Puts a beginning and a text under its mark, with so much room after it, which is also enough for what is no text.
-#[inline(never)]
+/// Puts a beginning and a text under its mark, with so much room after it, which is also enough for what is no text. The text is the first
+/// `len` of these bytes.
+#[inline(always)]
 fn put_text_member(
     out: &mut Vec<u8>,
     at: usize,
     begin: &Beginning,
     valid: bool,
-    text: &str,
+    bytes: &[u8],
+    len: usize,
     room: usize,
 ) -> Result<usize, AllocError>
+    requires text { len ≤ length bytes.now }
     requires within { at ≤ length out.old.items }
     requires own { length begin.now + 20 ≤ room }
     requires small { room ≤ 2 ^ 60 }
     ensures put { Puts out.old.items at
-        (begin.now ++ json_value (if valid then Value.Text text.now else Value.Null)) result out.new.items }
+        (begin.now ++ json_value (if valid then Value.Text (take len bytes.now) else Value.Null)) result out.new.items }
     ensures left { IfOk result (λ end. end + room ≤ length out.new.items) }
 {
-    if text.len() > MOST_ROOM {
+    if len > MOST_ROOM {
         return Err(AllocError);
     }
-    make_room(out, at, 2 * room + 6 * text.len())?;
-    Ok(put_text_at(out.as_mut_slice(), at, begin, valid, text))
+    make_room(out, at, 2 * room + 6 * len)?;
+    Ok(put_text_at(out.as_mut_slice(), at, begin, valid, bytes, len))
 }

@@ -30,8 +30,61 @@ pub fn put_value(out: &mut [u8], at: usize, cell: Cell<'_>) -> usize
     }
 }
 
+/// Puts a text in quotes, which is the first `len` of these bytes.
+#[inline(always)]
+pub fn put_text(out: &mut [u8], at: usize, bytes: &[u8], len: usize) -> usize
+    requires within { len ≤ length bytes.now }
+    requires room { at + (6 * len + 18) ≤ length out.old }
+    ensures rises { at ≤ result }
+    ensures within { result ≤ at + 6 * len + 2 }
+    ensures written { take result out.new ≡ take at out.old ++ json_string (take len bytes.now) }
+{
+    if len <= 16 && bytes.len() >= 16 && put_short(out, at, bytes, len) {
+        return at + len + 2;
+    }
+    put_string(out, at, &bytes[..len])
+}
+
+/// Puts a text of at most 16 bytes in quotes as it is, and says whether none of them needs an escape.
+///
+/// The bytes after the text are put too, and written over.
+#[inline(always)]
+fn put_short(out: &mut [u8], at: usize, bytes: &[u8], len: usize) -> bool
+    requires long { 16 ≤ length bytes.now }
+    requires short { len ≤ 16 }
+    requires room { at + 18 ≤ length out.old }
+    ensures same_front { take at out.new ≡ take at out.old }
+    ensures written { OnTrue result (take (at + len + 2) out.new ≡ take at out.old ++ json_string (take len bytes.now)) }
+{
+    let begin = put_byte(out, at, b'"');
+    if put_plain_lane(out, begin, bytes) < len {
+        return false;
+    }
+    put_byte(out, begin + len, b'"');
+    true
+}
+
+/// Puts 16 bytes as they are, and says how many come before the first that needs an escape.
+#[inline(always)]
+fn put_plain_lane(out: &mut [u8], at: usize, bytes: &[u8]) -> usize
+    requires long { 16 ≤ length bytes.now }
+    requires room { at + 16 ≤ length out.old }
+    ensures plain { ArePlain 0 result bytes.now }
+    ensures written { take (at + 16) out.new ≡ take at out.old ++ take 16 bytes.now }
+{
+    let lane = u8x16::from_slice(bytes);
+    lane.copy_to_slice(&mut out[at..]);
+    let quotes = lane.simd_eq(u8x16::splat(b'"'));
+    let backslashes = lane.simd_eq(u8x16::splat(b'\\'));
+    let escapes = (quotes | backslashes | lane.simd_lt(u8x16::splat(32))).to_bitmask();
+    if escapes == 0 {
+        return 16;
+    }
+    escapes.trailing_zeros() as usize
+}
+
 /// Puts a text in quotes.
-#[inline]
+#[inline(never)]
 pub fn put_string(out: &mut [u8], at: usize, text: &[u8]) -> usize
     requires { at + 6 * length text.now + 2 ≤ length out.old }
     ensures rises { at ≤ result }

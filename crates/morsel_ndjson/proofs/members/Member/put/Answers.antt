@@ -23,8 +23,8 @@ put_bool_member-requires-clause-row c =
     let lends : lent_values c.self.inside.lent ≡ map values.Bool items = ap lent_values c.in-Bools.is in
     omega (arith, within, c.self.invariant, ap length lends, length-map items values.Bool)
 
-pub get-requires : goal.get-requires
-get-requires c =
+pub bytes_from-len-requires : goal.bytes_from-len-requires
+bytes_from-len-requires c =
     let items = c.in-Texts.texts.now in
     let within = lent_within c.args.self.now c.self.inside.begin.now c.self.inside.valid.now c.self.inside.lent c.args.row c.self.view_is c.self.invariant c.requires.row in
     let lends : lent_values c.self.inside.lent ≡ map values.Text items = ap lent_values c.in-Texts.is in
@@ -74,6 +74,6 @@ returns-in-Texts-clause-put c =
     let same : length valid ≡ length (map values.Text items) = c.self.invariant ∙ ap length lends in
     let here : c.args.row < length items = omega (arith, within, same, length-map items values.Text) in
     let member = member_lent self c.self.inside.begin.now valid c.self.inside.lent (map values.Text items) c.args.row _ c.self.view_is lends
-    (ap (λ (t : List ℕ). if get_or valid c.args.row false then values.Text t else values.Null) c.get.ensures
+    (ap (λ (t : List ℕ). if get_or valid c.args.row false then values.Text t else values.Null) c.bytes_from-len.ensures.text
     ∙ sym (value_lent values.Text valid items c.args.row [] here same)) in
     puts_same c.args.out.now.items c.put_text_member.new.out.items _ _ c.args.at c.put_text_member.result member c.put_text_member.ensures.put
