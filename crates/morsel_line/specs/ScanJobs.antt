@@ -47,6 +47,7 @@ pub record IsWholePart (s : CsvScan) (piece : Piece) (rows : List Row) (part : P
   pub to : part.to ≡ piece.to
   pub skip : part.skip ≡ 0
   pub last : part.last ≡ true
+  pub meta : part.meta ≡ None
 
 -- a piece is made into the text of its rows; or it has a fault
 abbrev pub EncodesPiece : CsvScan → Piece → Result Part Fault → Type 0

@@ -1,5 +1,5 @@
 //! What a line makes of a piece.
-ghost use Rattle.std.specs.Prelude.{◌≡◌, ◌⊎◌, true, length, IfOk, IfErr, IsOkUnless};
+ghost use Rattle.std.specs.Prelude.{◌≡◌, ◌⊎◌, None, true, length, IfOk, IfErr, IsOkUnless};
 ghost use Rattle.morsel_meaning.specs.declared.fault.Fault.TheVariants.{OutOfMemory};
 ghost use Rattle.morsel_meaning.specs.Values.{names_of};
 ghost use Rattle.morsel_ndjson.specs.Ndjson.{ndjson};
@@ -32,6 +32,7 @@ fn part_of(alloc: Global, frame: &Frame, from: u64, to: u64) -> Result<Encoded, 
     ensures text { IfOk result (λ part. part.bytes ≡ ndjson (names_of frame.now.schema) frame.now.rows) }
     ensures stretch { IfOk result (λ part. (part.from ≡ from) × (part.to ≡ to)) }
     ensures whole { IfOk result (λ part. (part.skip ≡ 0) × (part.last ≡ true)) }
+    ensures meta { IfOk result (λ part. part.meta ≡ None) }
     ensures out_of_memory { IsOkUnless result Fault.OutOfMemory }
 {
     let rows = frame.height() as u64;
@@ -43,6 +44,7 @@ fn part_of(alloc: Global, frame: &Frame, from: u64, to: u64) -> Result<Encoded, 
             to,
             skip: 0,
             last: true,
+            meta: None,
         }),
         Err(fault) => Err(fault),
     }

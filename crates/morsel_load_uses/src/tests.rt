@@ -146,6 +146,7 @@ fn the_greater_number_is_the_lesser_load(rt: HostRuntime) -> Result<(), Fail> {
         to: 0,
         skip: 0,
         last: true,
+        meta: None,
     };
     compared(&rt, &low, &Load::Part(MorselSeq::new(1), part));
     Ok(())

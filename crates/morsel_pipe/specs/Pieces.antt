@@ -1,5 +1,6 @@
 -- Pieces of files, and the texts of rows, as contracts see them.
-use Rattle.std.specs.Prelude.{ℕ, Bool, List}
+use Rattle.std.specs.Prelude.{ℕ, Bool, List, Option}
+use Rattle.morsel_frame.specs.declared.part_meta.PartMeta.{PartMeta}
 use Rattle.morsel_pipe.specs.declared.piece.RawPart.{RawPart}
 
 -- a piece of a file: bytes that can be decoded by themselves, and where they stand in the scan
@@ -24,3 +25,4 @@ pub record Part : Type 0 where
   pub to : ℕ  -- and where it ends
   pub skip : ℕ  -- how many rows of the stretch come before them
   pub last : Bool  -- whether they are the last of the stretch
+  pub meta : Option PartMeta  -- what the file keeps of it; nothing for a text

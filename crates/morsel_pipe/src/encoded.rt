@@ -1,4 +1,5 @@
 //! The text of rows, on its way to a sink.
+use morsel_frame::PartMeta;
 use std::marker::Model;
 
 /// The text of some of the rows that a stretch of a scan's bytes gives.
@@ -18,6 +19,8 @@ pub struct Encoded {
     pub skip: u64,
     /// Whether its rows are the last ones of its stretch.
     pub last: bool,
+    /// What the file keeps of it, where the sink is made of parts of columns. A text sink keeps nothing.
+    pub meta: Option<PartMeta>,
 }
 
 impl Model for Encoded {
@@ -32,5 +35,6 @@ impl Model for Encoded {
       to = part.to;
       skip = part.skip;
       last = part.last;
+      meta = part.meta;
     } };
 }
