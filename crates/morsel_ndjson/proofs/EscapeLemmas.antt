@@ -1,7 +1,8 @@
 -- Bytes that need no escape: what a lane tells of them, and how they are written.
 use Rattle.std.proofs.Common.{◌≡◌, ◌⊎◌, inl, inr, refl, ℕ, zero, suc, subst, ◌+◌, ◌%◌, ◌^◌, ◌<◌, ◌≤◌, ◌∙◌, sym, ap, arith, append_assoc, Bool, true, false, cond, ◌||◌, ◌&&◌, ◌==◌, List, [], ◌∷◌, ◌++◌, length, get_or, take, drop, map, replicate, bit_or, eqb, ltb}
 use Rattle.std.proofs.lemmas.Bool.{or_parts, eqb-true, ne_eqb, ltb-false, cases_lt, OnTrue_from}
-use Rattle.std.proofs.lemmas.List.{length-map}
+use Rattle.std.proofs.lemmas.Grind.{flat_map-append}
+use Rattle.std.proofs.lemmas.List.{length-map, take-append-drop}
 use Rattle.std.proofs.lemmas.Simd.{zip2_splat, zip2_of_maps, mask_l-mod, none_from_empty_mask, trailing_mask_l, run_in_chunk_fails, length-chunk}
 use Rattle.std.specs.Bool.{OnTrue}
 use Rattle.std.specs.List.{flat_map}
@@ -98,21 +99,20 @@ plain_byte b is =
     let no_9 : (b == 9) ≡ false = ne_eqb b 9 (omega arith) in
     rw (marks.0, marks.1, no_8, no_12, no_10, no_13, no_9, parts.1) refl
 
--- bytes that need no escape are as they are, and what follows them has its escapes
-pub plain_front : (text : List ℕ) (n : ℕ) → n ≤ length text → ArePlain 0 n text → flat_map escaped text ≡ take n text ++ flat_map escaped (drop n text)
-plain_front text zero within plain = refl
-plain_front [] (suc n) within plain = absurd (omega arith)
-plain_front (b ∷ text) (suc n) within plain =
-    ap (λ s. s ++ flat_map escaped text) (plain_byte b (plain zero (omega arith) (omega arith)))
-    ∙ ap (λ s. b ∷ s) (plain_front text n (omega arith) (λ k low high. plain (suc k) (omega arith) (omega arith)))
-
--- they are as they are by themselves too
+-- bytes that need no escape are as they are
 plain_taken : (text : List ℕ) (n : ℕ) → n ≤ length text → ArePlain 0 n text → flat_map escaped (take n text) ≡ take n text
 plain_taken text zero within plain = refl
 plain_taken [] (suc n) within plain = absurd (omega arith)
 plain_taken (b ∷ text) (suc n) within plain =
     ap (λ s. s ++ flat_map escaped (take n text)) (plain_byte b (plain zero (omega arith) (omega arith)))
     ∙ ap (λ s. b ∷ s) (plain_taken text n (omega arith) (λ k low high. plain (suc k) (omega arith) (omega arith)))
+
+-- what follows them has its escapes
+pub plain_front : (text : List ℕ) (n : ℕ) → n ≤ length text → ArePlain 0 n text → flat_map escaped text ≡ take n text ++ flat_map escaped (drop n text)
+plain_front text n within plain =
+    ap (flat_map escaped) (sym (take-append-drop n text))
+    ∙ (flat_map-append escaped (take n text) (drop n text)
+    ∙ ap (λ s. s ++ flat_map escaped (drop n text)) (plain_taken text n within plain))
 
 -- a lane of which the first `len` bytes need no escape, between quotes
 pub quoted_lane : (old opened laned closed bytes : List ℕ) (at begin len first end : ℕ) → begin ≡ at + 1 → end ≡ begin + len + 1

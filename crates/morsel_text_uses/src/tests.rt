@@ -3,6 +3,7 @@
 //! A helper says `expect` where memory may be out, and gives what it makes to `drop`: a value that is let go at several
 //! exits has each of them proved.
 mod csv;
+mod escapes;
 mod ndjson;
 
 use morsel_frame::Schema;

@@ -9,7 +9,7 @@ use std::mem::drop;
 use std::process::Abort;
 
 /// A frame of one column.
-fn one_column(rt: &impl Abort, alloc: Global, name: &str, column: Column) -> Frame {
+pub fn one_column(rt: &impl Abort, alloc: Global, name: &str, column: Column) -> Frame {
     let name = Name::new(alloc, name).expect(rt, "memory");
     let kind = column.kind();
     let height = column.len();
@@ -20,7 +20,7 @@ fn one_column(rt: &impl Abort, alloc: Global, name: &str, column: Column) -> Fra
 }
 
 /// The lines of the frame are these.
-fn has_lines(rt: &impl Abort, alloc: Global, frame: Frame, wanted: &[u8]) {
+pub fn has_lines(rt: &impl Abort, alloc: Global, frame: Frame, wanted: &[u8]) {
     let mut out = Vec::new(alloc);
     write_ndjson(&mut out, &frame).expect(rt, "memory");
     drop(frame);
