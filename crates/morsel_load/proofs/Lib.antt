@@ -1,2 +1,3 @@
+pub mod SourceSteps
 pub mod SplitLemmas
 pub mod LinearizedLemmas

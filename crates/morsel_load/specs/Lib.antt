@@ -1,4 +1,5 @@
 -- What the lanes of a query carry.
+pub mod Sources
 pub mod Morsels
 pub mod Loads
 pub mod Lent

@@ -1,7 +1,8 @@
 -- What a lane of a query carries, as contracts see it.
-use Rattle.std.specs.Prelude.{ℕ, Bool, Option, None}
+use Rattle.std.specs.Prelude.{ℕ, Option, None}
 use Rattle.morsel_meaning.specs.Values.{Table}
 use Rattle.morsel_pipe.specs.Pieces.{Piece, Part}
+use Rattle.morsel_load.specs.Sources.{SourceSeen}
 use Rattle.morsel_load.specs.declared.morsels.Stretch.{Stretch}
 use Rattle.morsel_load.specs.declared.load.Load.{Load}
 use Rattle.morsel_load.specs.declared.load.Load.TheVariants as loads
@@ -10,7 +11,7 @@ use Rattle.morsel_load.specs.declared.load.LoadKind.TheVariants.{Morsels, Pieces
 
 -- a load, but for the token that tells that it was consumed
 pub data LoadSeen : Type 0 where
-  SeenMorsel : Table → ℕ → Bool → Stretch → LoadSeen
+  SeenMorsel : Table → ℕ → SourceSeen → Stretch → LoadSeen
   SeenPiece : Piece → LoadSeen
   SeenPart : ℕ → Part → LoadSeen
 

@@ -6,6 +6,7 @@ mod linearized;
 mod load;
 mod morsels;
 mod order;
+mod source_flag;
 mod source_token;
 mod split;
 

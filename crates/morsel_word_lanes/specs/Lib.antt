@@ -1,0 +1,3 @@
+-- What the calls on connectors found.
+pub mod Ends
+pub mod Groups
