@@ -1,5 +1,5 @@
 -- What the code keeps for groups.
-use Rattle.std.specs.Prelude.{◌≡◌, ◌-◌, ◌++◌, ◌⊎◌, ℕ, Option, None, List, length, map, replicate}
+use Rattle.std.specs.Prelude.{◌≡◌, ◌≢◌, ◌-◌, ◌++◌, ◌⊎◌, ℕ, Option, None, List, length, map, replicate}
 use Rattle.std.specs.List.{All}
 use Rattle.morsel_meaning.specs.declared.value.ColType.{ColType}
 use Rattle.morsel_meaning.specs.declared.value.ColType.TheVariants as types
@@ -33,7 +33,7 @@ IsFlat op kind (flats.Lens lens) = op ≡ ops.Len
 IsFlat op kind (flats.Sums sums) = (op ≡ ops.Sum) × (kind ≡ types.Int)
 IsFlat op kind (flats.Bounds bounds) = ((op ≡ ops.Min) ⊎ (op ≡ ops.Max)) × (kind ≡ types.Int)
 IsFlat op kind (flats.Picks picks) = ((op ≡ ops.First) ⊎ (op ≡ ops.Last)) × (kind ≡ types.Int)
-IsFlat op kind (flats.Others accs) = (op ≡ ops.Sum → kind ≡ types.Int) × AreAccs op kind accs.items
+IsFlat op kind (flats.Others accs) = (op ≢ ops.Len) × (op ≢ ops.Sum) × (kind ≢ types.Int) × AreAccs op kind accs.items
 
 -- what is kept for groups, with nothing for those that follow up to so many
 abbrev pub with_groups : ℕ → List (Option Entry) → List (Option Entry)

@@ -1,7 +1,8 @@
 //! Plain accumulators of many groups, for what has no flat form.
 ghost use Rattle.std.specs.Prelude.{◌≡◌, ◌<◌, ◌≤◌, ◌+◌, ◌^◌, ◌++◌, ◌∷◌, [], All, None, OnOk, OnErr, IfOk, IsOkUnless, get_or, length, map, set};
+ghost use Rattle.morsel_meaning.specs.Values.{IsOfType};
 ghost use Rattle.morsel_frame.specs.Refusals.{Refuses};
-ghost use Rattle.morsel_keys.specs.Reductions.{finished, input_place, total_fault};
+ghost use Rattle.morsel_keys.specs.Reductions.{finished, input_place, reduced_kind, total_fault};
 ghost use Rattle.morsel_states.specs.GroupRows.{group_rows, PutsGroupRows};
 ghost use Rattle.morsel_states.specs.States.{AreAccs, with_groups};
 
@@ -90,6 +91,7 @@ pub fn finish_at(
     ensures accs { AreAccs op kind accs.new }
     ensures taken { map (λ acc. acc.entry) accs.new ≡ set (map (λ acc. acc.entry) accs.old) group None }
     ensures ok { IfOk result (λ value. value ≡ finished op (get_or (map (λ acc. acc.entry) accs.old) group None)) }
+    ensures of_type { IfOk result (λ value. IsOfType (reduced_kind op kind) value) }
     ensures refused { Refuses (total_fault op (get_or (map (λ acc. acc.entry) accs.old) group None)) result }
     ensures too_large { IsOkUnless result (Fault.ComputeError ComputeKind.SumTooLarge 4294967295 0) }
 {

@@ -1,14 +1,17 @@
 //! The least and the greatest numbers of many groups.
 ghost use Rattle.std.specs.Prelude.{◌≡◌, ◌<◌, ◌⊎◌, ◌↔◌, ◌≢◌, ℕ, [], ◌∷◌, ◌++◌, OnOk, OnErr, IsOkUnless, All, IsTrue, None, if◌then◌else◌, length, map};
+ghost use Rattle.morsel_meaning.specs.Values.{IsOfType};
+ghost use Rattle.morsel_keys.specs.declared.reduction.Reduction.{Reduction};
 ghost use Rattle.morsel_frame.specs.Columns.{masked};
-ghost use Rattle.morsel_keys.specs.Reductions.{bound_of, entry_len, finished, len_limit};
+ghost use Rattle.morsel_keys.specs.Reductions.{bound_of, entry_len, finished, len_limit, reduced_kind};
 ghost use Rattle.morsel_states.specs.GroupRows.{group_rows, with_value, PutsGroupRows};
 ghost use Rattle.morsel_states.specs.Numbers.{number_or_null};
 ghost use Rattle.morsel_states.specs.States.{with_groups};
 
 use crate::flat::{LEN_LIMIT, number_or_null, too_long};
+use crate::joins::Joins;
 use morsel_keys::Reduction;
-use morsel_meaning::{Fault, Value};
+use morsel_meaning::{ColType, Fault, Value};
 use std::marker::Model;
 
 /// The number of values of a group and the least or the greatest of those that are no nulls, which contracts see as what an accumulator of
@@ -56,6 +59,7 @@ impl BoundState {
     pub fn finish(&self) -> Value
         ensures least { result ≡ finished Reduction.Min self.now }
         ensures greatest { result ≡ finished Reduction.Max self.now }
+        ensures of_type { (op : Reduction) → (op ≡ Reduction.Min) ⊎ (op ≡ Reduction.Max) → IsOfType (reduced_kind op ColType.Int) result }
     {
         number_or_null(self.bound)
     }
@@ -69,6 +73,25 @@ impl BoundState {
     {
         self.bound = bound_with(op, self.bound, valid, number);
         self.len += 1;
+    }
+}
+
+impl Joins for BoundState {
+    ghost use Rattle.std.specs.Prelude.{◌≡◌, ◌⊎◌};
+    ghost use Rattle.morsel_keys.specs.declared.reduction.Reduction.TheVariants.{Min, Max};
+
+    ghost entry = { λ state. state };
+
+    ghost is_of = { λ op kind state. (op ≡ Min) ⊎ (op ≡ Max) };
+
+    fn join(&mut self, op: Reduction, _kind: ColType, other: BoundState) -> Result<(), Fault> {
+        if other.len > LEN_LIMIT - self.len {
+            return Err(too_long());
+        }
+        let number = other.bound.unwrap_or(0);
+        self.bound = bound_with(op, self.bound, other.bound.is_some(), number);
+        self.len += other.len;
+        Ok(())
     }
 }
 

@@ -1,13 +1,16 @@
 //! Counts of many groups.
-ghost use Rattle.std.specs.Prelude.{◌≡◌, ◌<◌, ◌↔◌, ◌≢◌, ℕ, List, [], ◌∷◌, ◌++◌, All, IsTrue, None, OnOk, OnErr, IsOkUnless, length};
+ghost use Rattle.std.specs.Prelude.{◌≡◌, ◌<◌, ◌↔◌, ◌≢◌, ◌≤◌, ℕ, List, [], ◌∷◌, ◌++◌, All, IsTrue, None, OnOk, OnErr, IsOkUnless, length};
 ghost use Rattle.morsel_meaning.specs.declared.value.Value.{Value};
+ghost use Rattle.morsel_meaning.specs.Values.{IsOfType};
 ghost use Rattle.morsel_keys.specs.Reductions.{ValueAt, entry_len, finished, len_limit};
+ghost use Rattle.morsel_states.specs.GroupParts.{AreWithinLimit};
 ghost use Rattle.morsel_states.specs.GroupRows.{group_rows, with_value, PutsGroupRows};
 ghost use Rattle.morsel_states.specs.States.{with_groups};
 
 use crate::flat::{LEN_LIMIT, too_long};
+use crate::joins::Joins;
 use morsel_keys::Reduction;
-use morsel_meaning::{Fault, Value};
+use morsel_meaning::{ColType, ComputeKind, Fault, Value};
 use std::marker::Model;
 
 /// How many values a group has, which contracts see as what an accumulator of `Len` has.
@@ -40,14 +43,16 @@ impl LenState {
     /// Whether the group has as many values as may be.
     #[inline(always)]
     pub fn is_full(&self) -> bool
-        ensures { IsTrue result ↔ (entry_len self.now ≡ len_limit) }
+        ensures full { IsTrue result ↔ (entry_len self.now ≡ len_limit) }
+        ensures within { entry_len self.now ≤ len_limit }
     {
         self.len >= LEN_LIMIT
     }
 
     /// How many values there are.
     pub fn finish(&self) -> Value
-        ensures { result ≡ finished Reduction.Len self.now }
+        ensures value { result ≡ finished Reduction.Len self.now }
+        ensures of_type { IsOfType ColType.Int result }
     {
         Value::Int(self.len as i64)
     }
@@ -62,6 +67,23 @@ impl LenState {
     }
 }
 
+impl Joins for LenState {
+    ghost use Rattle.std.specs.Prelude.{◌≡◌};
+    ghost use Rattle.morsel_keys.specs.declared.reduction.Reduction.TheVariants.{Len};
+
+    ghost entry = { λ state. state };
+
+    ghost is_of = { λ op kind state. op ≡ Len };
+
+    fn join(&mut self, _op: Reduction, _kind: ColType, other: LenState) -> Result<(), Fault> {
+        if other.len > LEN_LIMIT - self.len {
+            return Err(too_long());
+        }
+        self.len += other.len;
+        Ok(())
+    }
+}
+
 /// Puts rows to their groups. A row whose group has as many values as may be is refused, and those before it are counted.
 // Not inlined, so that its loop has the registers to itself.
 #[inline(never)]
@@ -69,6 +91,8 @@ pub fn count_each(lens: &mut [LenState], groups: &[u32]) -> Result<(), Fault>
     requires { All (λ group. group < length lens.old) groups.now }
     ensures len { length lens.new ≡ length lens.old }
     ensures rows { (at : ℕ) (vs : List Value) → length vs ≡ length groups.now → PutsGroupRows Reduction.Len lens.old (group_rows at groups.now vs) lens.new result }
+    ensures room { OnOk result (AreWithinLimit groups.now lens.new) }
+    ensures too_long { IsOkUnless result (Fault.ComputeError ComputeKind.LenTooLarge 4294967295 0) }
 {
     for i in 0..groups.len() {
         let group = groups[i] as usize;

@@ -4,11 +4,12 @@
 mod accs;
 mod bounds;
 mod flat;
+mod joins;
 mod laws;
 mod lens;
 mod picks;
 mod states;
 mod sums;
 
-pub use laws::states_keep_groups;
+pub use laws::{states_keep_groups, states_keep_parts};
 pub use states::States;

@@ -1,13 +1,16 @@
 //! The first and the last numbers of many groups.
 ghost use Rattle.std.specs.Prelude.{◌≡◌, ◌<◌, ◌≤◌, ◌+◌, ◌^◌, ◌⊎◌, ◌↔◌, ◌≢◌, ℕ, [], ◌∷◌, ◌++◌, OnOk, OnErr, IsOkUnless, All, IsTrue, None, if◌then◌else◌, length, map};
+ghost use Rattle.morsel_meaning.specs.Values.{IsOfType};
+ghost use Rattle.morsel_keys.specs.declared.reduction.Reduction.{Reduction};
 ghost use Rattle.morsel_frame.specs.Columns.{masked};
-ghost use Rattle.morsel_keys.specs.Reductions.{entry_len, finished, input_place, len_limit, picks_second};
+ghost use Rattle.morsel_keys.specs.Reductions.{entry_len, finished, input_place, len_limit, picks_second, reduced_kind};
 ghost use Rattle.morsel_states.specs.GroupRows.{group_rows, with_value, PutsGroupRows};
 ghost use Rattle.morsel_states.specs.States.{with_groups};
 
 use crate::flat::{LEN_LIMIT, number_or_null, too_long};
+use crate::joins::Joins;
 use morsel_keys::Reduction;
-use morsel_meaning::{Fault, Value};
+use morsel_meaning::{ColType, Fault, Value};
 use std::marker::Model;
 
 /// The number of values of a group and the first or the last of them with its place, which contracts see as what an accumulator of `First` has;
@@ -57,6 +60,7 @@ impl PickState {
     pub fn finish(&self) -> Value
         ensures first { result ≡ finished Reduction.First self.now }
         ensures last { result ≡ finished Reduction.Last self.now }
+        ensures of_type { (op : Reduction) → (op ≡ Reduction.First) ⊎ (op ≡ Reduction.Last) → IsOfType (reduced_kind op ColType.Int) result }
     {
         number_or_null(self.value)
     }
@@ -73,6 +77,30 @@ impl PickState {
             self.value = valid.then_some(number);
         }
         self.len += 1;
+    }
+}
+
+impl Joins for PickState {
+    ghost use Rattle.std.specs.Prelude.{◌≡◌, ◌⊎◌};
+    ghost use Rattle.morsel_keys.specs.declared.reduction.Reduction.TheVariants.{First, Last};
+
+    ghost entry = { λ state. state };
+
+    ghost is_of = { λ op kind state. (op ≡ First) ⊎ (op ≡ Last) };
+
+    fn join(&mut self, op: Reduction, _kind: ColType, other: PickState) -> Result<(), Fault> {
+        if other.len > LEN_LIMIT - self.len {
+            return Err(too_long());
+        }
+        if other.len == 0 {
+            return Ok(());
+        }
+        if self.len == 0 || is_picked(op, other.place, self.place) {
+            self.place = other.place;
+            self.value = other.value;
+        }
+        self.len += other.len;
+        Ok(())
     }
 }
 

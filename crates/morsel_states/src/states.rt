@@ -1,14 +1,18 @@
 //! Accumulators of many groups.
-ghost use Rattle.std.specs.Prelude.{◌≡◌, ◌<◌, ◌≤◌, ◌+◌, ◌^◌, [], None, OnOk, OnErr, IfOk, IsOkUnless, All, get_or, length, map, set};
-ghost use Rattle.morsel_keys.specs.Reductions.{finished, input_place, total_fault};
+ghost use Rattle.std.specs.Prelude.{◌≡◌, ℕ, List, ◌<◌, ◌≤◌, ◌+◌, ◌^◌, [], None, OnOk, OnErr, IfOk, IsOkUnless, All, get_or, length, map, set};
+ghost use Rattle.morsel_keys.specs.Reductions.{finished, input_place, reduced_kind, total_fault};
 ghost use Rattle.morsel_frame.specs.Columns.{masked};
 ghost use Rattle.morsel_frame.specs.Refusals.{Refuses};
+ghost use Rattle.morsel_meaning.specs.declared.value.Value.{Value};
+ghost use Rattle.morsel_meaning.specs.Values.{IsOfType};
+ghost use Rattle.morsel_states.specs.GroupParts.{PutsGroupParts, AreWithinLimit};
 ghost use Rattle.morsel_states.specs.GroupRows.{group_rows, PutsGroupRows};
 ghost use Rattle.morsel_states.specs.States.{with_groups, flat_entries, IsFlat};
 
 use crate::accs::{finish_at, grow_accs, put_each};
 use crate::bounds::{BoundState, bound_each, grow_bounds};
 use crate::flat::Flat;
+use crate::joins::join_each;
 use crate::lens::{LenState, count_each, grow_lens};
 use crate::picks::{PickState, grow_picks, pick_each};
 use crate::sums::{SumState, add_each, grow_sums};
@@ -100,6 +104,63 @@ impl States {
         }
     }
 
+    /// Counts rows of groups, whatever their values are. A row whose group has as many as may be is refused, and those before it are counted. It
+    /// takes no memory.
+    pub fn count(&mut self, groups: &[u32]) -> Result<(), Fault>
+        requires op { self.old.op ≡ Reduction.Len }
+        requires within { All (λ group. group < length self.old.entries) groups.now }
+        ensures op { self.new.op ≡ self.old.op }
+        ensures kind { self.new.kind ≡ self.old.kind }
+        ensures len { length self.new.entries ≡ length self.old.entries }
+        ensures rows { (at : ℕ) (vs : List Value) → length vs ≡ length groups.now → PutsGroupRows self.old.op self.old.entries (group_rows at groups.now vs) self.new.entries result }
+        ensures room { OnOk result (AreWithinLimit groups.now self.new.entries) }
+        ensures too_long { IsOkUnless result (Fault.ComputeError ComputeKind.LenTooLarge 4294967295 0) }
+    {
+        match &mut self.flat {
+            Flat::Lens(lens) => count_each(lens, groups),
+            _ => unreachable!(),
+        }
+    }
+
+    /// Puts what another has of its groups to these groups, one after the other. One that would have more values than may be is refused, and those
+    /// before it are put. It takes no memory.
+    pub fn merge(&mut self, groups: &[u32], other: States) -> Result<(), Fault>
+        requires same_op { other.op ≡ self.old.op }
+        requires same_kind { other.kind ≡ self.old.kind }
+        requires count { length groups.now ≡ length other.entries }
+        requires within { All (λ group. group < length self.old.entries) groups.now }
+        ensures op { self.new.op ≡ self.old.op }
+        ensures kind { self.new.kind ≡ self.old.kind }
+        ensures len { length self.new.entries ≡ length self.old.entries }
+        ensures parts { PutsGroupParts self.old.op self.old.entries groups.now other.entries self.new.entries result }
+        ensures room { OnOk result (AreWithinLimit groups.now self.new.entries) }
+        ensures too_long { IsOkUnless result (Fault.ComputeError ComputeKind.LenTooLarge 4294967295 0) }
+    {
+        let (op, kind) = (self.op, self.kind);
+        match &mut self.flat {
+            Flat::Lens(lens) => match other.flat {
+                Flat::Lens(others) => join_each(op, kind, lens, groups, others),
+                _ => unreachable!(),
+            },
+            Flat::Sums(sums) => match other.flat {
+                Flat::Sums(others) => join_each(op, kind, sums, groups, others),
+                _ => unreachable!(),
+            },
+            Flat::Bounds(bounds) => match other.flat {
+                Flat::Bounds(others) => join_each(op, kind, bounds, groups, others),
+                _ => unreachable!(),
+            },
+            Flat::Picks(picks) => match other.flat {
+                Flat::Picks(others) => join_each(op, kind, picks, groups, others),
+                _ => unreachable!(),
+            },
+            Flat::Others(accs) => match other.flat {
+                Flat::Others(others) => join_each(op, kind, accs, groups, others),
+                _ => unreachable!(),
+            },
+        }
+    }
+
     /// Puts groups last, each without values, up to so many.
     pub fn grow(&mut self, groups: usize) -> Result<(), Fault>
         ensures ok { OnOk result (self.new ≡ record self.old { entries = with_groups groups self.old.entries }) }
@@ -121,6 +182,7 @@ impl States {
         requires { group < length self.old.entries }
         ensures taken { self.new ≡ record self.old { entries = set self.old.entries group None } }
         ensures ok { IfOk result (λ value. value ≡ finished self.old.op (get_or self.old.entries group None)) }
+        ensures of_type { IfOk result (λ value. IsOfType (reduced_kind self.old.op self.old.kind) value) }
         ensures refused { Refuses (total_fault self.old.op (get_or self.old.entries group None)) result }
         ensures too_large { IsOkUnless result (Fault.ComputeError ComputeKind.SumTooLarge 4294967295 0) }
     {

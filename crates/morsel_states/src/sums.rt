@@ -1,6 +1,7 @@
 //! Totals of many groups.
 ghost use Rattle.std.specs.Prelude.{◌≡◌, ◌<◌, ◌≤◌, ◌+◌, ◌+ℤ◌, ◌↔◌, ◌≢◌, ℕ, [], ◌∷◌, ◌++◌, OnOk, OnErr, IfOk, IsOkUnless, All, IsTrue, None, if◌then◌else◌, length, map};
 ghost use Rattle.morsel_meaning.specs.declared.value.Value.{Value};
+ghost use Rattle.morsel_meaning.specs.Values.{IsOfType};
 ghost use Rattle.morsel_frame.specs.Columns.{masked};
 ghost use Rattle.morsel_keys.specs.Reductions.{addend, entry_len, finished, len_limit, total_fault};
 ghost use Rattle.morsel_frame.specs.Refusals.{Refuses};
@@ -9,8 +10,9 @@ ghost use Rattle.morsel_states.specs.GroupRows.{group_rows, with_value, PutsGrou
 ghost use Rattle.morsel_states.specs.States.{with_groups};
 
 use crate::flat::{LEN_LIMIT, too_long};
+use crate::joins::Joins;
 use morsel_keys::Reduction;
-use morsel_meaning::{ComputeKind, Fault, QUERY_FILE, Value};
+use morsel_meaning::{ColType, ComputeKind, Fault, QUERY_FILE, Value};
 use std::marker::Model;
 
 /// The number of values of a group and their total, which contracts see as what an accumulator of `Sum` has. So many numbers of 64 bits as
@@ -53,6 +55,7 @@ impl SumState {
     /// The total. It is refused where it is outside 64 bits.
     pub fn finish(&self) -> Result<Value, Fault>
         ensures ok { IfOk result (λ value. value ≡ finished Reduction.Sum self.now) }
+        ensures of_type { IfOk result (λ value. IsOfType ColType.Int value) }
         ensures refused { Refuses (total_fault Reduction.Sum self.now) result }
         ensures too_large { IsOkUnless result (Fault.ComputeError ComputeKind.SumTooLarge 4294967295 0) }
     {
@@ -74,6 +77,24 @@ impl SumState {
     {
         self.total = total_with(self.total, self.len, added(valid, number));
         self.len += 1;
+    }
+}
+
+impl Joins for SumState {
+    ghost use Rattle.std.specs.Prelude.{◌≡◌};
+    ghost use Rattle.morsel_keys.specs.declared.reduction.Reduction.TheVariants.{Sum};
+
+    ghost entry = { λ state. state };
+
+    ghost is_of = { λ op kind state. op ≡ Sum };
+
+    fn join(&mut self, _op: Reduction, _kind: ColType, other: SumState) -> Result<(), Fault> {
+        if other.len > LEN_LIMIT - self.len {
+            return Err(too_long());
+        }
+        self.len += other.len;
+        self.total += other.total;
+        Ok(())
     }
 }
 

@@ -136,3 +136,76 @@ fn a_total_outside_64_bits_is_refused(rt: HostRuntime) -> Result<(), Fail> {
     assert_eq!(rt; sum_of_two(alloc, i64::MIN, i64::MAX)?, Value::Int(-1));
     Ok(())
 }
+
+/// Puts what others have to these groups, where there is a group for each of theirs and no other groups than there are.
+fn merge(states: &mut States, groups: &[u32], others: States) -> Result<(), Fault>
+    requires op { others.op ≡ states.old.op }
+    requires kind { others.kind ≡ states.old.kind }
+    ensures op { states.new.op ≡ states.old.op }
+    ensures kind { states.new.kind ≡ states.old.kind }
+{
+    let count = states.len();
+    if groups.len() != others.len() || !groups.iter().all(|group| (*group as usize) < count) {
+        return Ok(());
+    }
+    states.merge(groups, others)
+}
+
+/// What a reduction says of a group, where 5 and 9 are in groups 0 and 1, and others that came before, null and 7, are put to groups 1 and 0.
+fn of_merged(alloc: Global, op: Reduction, group: u32) -> Result<Value, Fault> {
+    let mut states = States::new(alloc, op, ColType::Int);
+    states.grow(2)?;
+    put_numbers(
+        alloc,
+        &mut states,
+        &[0, 1],
+        &[Cell::Int(5), Cell::Int(9)],
+        (3, 0),
+    )?;
+    let mut others = States::new(alloc, op, ColType::Int);
+    others.grow(2)?;
+    put_numbers(
+        alloc,
+        &mut others,
+        &[0, 1],
+        &[Cell::Null, Cell::Int(7)],
+        (2, 0),
+    )?;
+    merge(&mut states, &[1, 0], others)?;
+    finished(&mut states, group)
+}
+
+#[test]
+fn what_others_have_is_put_to_its_group(rt: HostRuntime) -> Result<(), Fail> {
+    let alloc = rt.alloc();
+    assert_eq!(rt; of_merged(alloc, Reduction::Len, 1)?, Value::Int(2));
+    assert_eq!(rt; of_merged(alloc, Reduction::Sum, 0)?, Value::Int(12));
+    assert_eq!(rt; of_merged(alloc, Reduction::Min, 1)?, Value::Int(9));
+    assert_eq!(rt; of_merged(alloc, Reduction::Max, 0)?, Value::Int(7));
+    assert_eq!(rt; of_merged(alloc, Reduction::First, 1)?, Value::Null);
+    assert_eq!(rt; of_merged(alloc, Reduction::First, 0)?, Value::Int(7));
+    assert_eq!(rt; of_merged(alloc, Reduction::Last, 1)?, Value::Int(9));
+    Ok(())
+}
+
+/// Counts rows of groups, where there are such groups.
+fn count(states: &mut States, groups: &[u32]) -> Result<(), Fault>
+    requires { states.old.op ≡ Reduction.Len }
+    ensures { states.new.op ≡ states.old.op }
+{
+    let count = states.len();
+    if !groups.iter().all(|group| (*group as usize) < count) {
+        return Ok(());
+    }
+    states.count(groups)
+}
+
+#[test]
+fn rows_are_counted_without_their_values(rt: HostRuntime) -> Result<(), Fail> {
+    let mut states = States::new(rt.alloc(), Reduction::Len, ColType::Text);
+    states.grow(3)?;
+    count(&mut states, &[2, 0, 2])?;
+    assert_eq!(rt; finished(&mut states, 2)?, Value::Int(2));
+    assert_eq!(rt; finished(&mut states, 1)?, Value::Int(0));
+    Ok(())
+}
