@@ -41,6 +41,24 @@ fn pushed_texts_come_back_in_order(rt: HostRuntime) {
     are(&rt, texts, &["x", "", "née", "yz"]);
 }
 
+/// The text at this place is lent as these bytes, of which so many are its own.
+fn is_lent(rt: &impl Abort, texts: &Texts, at: usize, wanted: &str, own: usize) {
+    assert!(rt; at < texts.len());
+    let (bytes, len) = texts.bytes_from(at);
+    assert_eq!(rt; bytes, wanted.as_bytes(), "at {at}");
+    assert_eq!(rt; len, own, "at {at}");
+}
+
+#[test]
+fn a_text_is_lent_with_those_after_it(rt: HostRuntime) {
+    let texts = texts_of(&rt, rt.alloc(), &["x", "", "née", "yz"]);
+    is_lent(&rt, &texts, 0, "xnéeyz", 1);
+    is_lent(&rt, &texts, 1, "néeyz", 0);
+    is_lent(&rt, &texts, 2, "néeyz", 4);
+    is_lent(&rt, &texts, 3, "yz", 2);
+    drop(texts);
+}
+
 /// Two texts, and after them a range of four others.
 fn with_range(rt: &impl Abort, alloc: Global, from: usize, to: usize) -> Texts {
     let mut texts = texts_of(rt, alloc, &["a", "bc"]);
