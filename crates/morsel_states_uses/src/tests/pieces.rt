@@ -28,7 +28,8 @@ pub fn push_cell(column: &mut Column, cell: Cell<'_>) -> Result<(), Fault>
 /// Puts a piece to the groups, where it has a group for each row and no other groups than there are.
 pub fn put_piece(states: &mut States, piece: &Piece) -> Result<(), Fault>
     requires { piece.now.column.kind ≡ states.old.kind }
-    ensures { states.new.kind ≡ states.old.kind }
+    ensures op { states.new.op ≡ states.old.op }
+    ensures kind { states.new.kind ≡ states.old.kind }
 {
     let count = states.len();
     let rows = piece.groups.len();

@@ -29,7 +29,8 @@ fn put_numbers(
     place: (u64, u64),
 ) -> Result<(), Fault>
     requires { states.old.kind ≡ ColType.Int }
-    ensures { states.new.kind ≡ states.old.kind }
+    ensures op { states.new.op ≡ states.old.op }
+    ensures kind { states.new.kind ≡ states.old.kind }
 {
     let piece = Piece {
         groups: Vec::from_slice(alloc, groups)?,
