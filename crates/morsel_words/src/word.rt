@@ -23,6 +23,20 @@
 //!    clears it. So no task is registered at an end that is ready.
 //! 6. An end closes by setting `CLOSED`, the sender also `WHOLE` where it had sent all. Where the other end waits, which
 //!    `FULL` and `WAITING` tell, its task is woken.
+//!
+//! Between any two steps the lane is in one of these states (`specs/Lane.antt`), and each step leads from one to another:
+//!
+//! | `FULL` | The sender | The receiver | The slot | Sent and not taken |
+//! |---|---|---|---|---|
+//! | 0 | is open or has ended | is open or has closed | is at home, empty | none |
+//! | 0 | has the slot | is open or has closed | is the sender's | none |
+//! | 0 | has ended | has still to put that back, or has seen it | is at home, empty | none |
+//! | 1 | is open or has ended | is open or has closed | is at home with a value | that value |
+//! | 1 | is open or has ended | has the slot | is the receiver's, who has the value | that value |
+//! | 1 | takes its value back | has closed | is the sender's | none |
+//!
+//! `CLOSED` is set where an end has closed, and `WHOLE` where the sender did and had sent all, but while an end that swapped
+//! them away has still to put them back.
 ghost use Rattle.std.specs.Prelude.{◌≡◌, ℕ, ◌≤◌, ◌<◌, ◌++◌, [], ◌∷◌, None, Some};
 ghost use Rattle.morsel_words.specs.Lane.{has_bit};
 ghost use Rattle.morsel_words.specs.Steps.{send_side, noted, with_side, at_phase, looked_to_send, looked_to_wait, filled};
