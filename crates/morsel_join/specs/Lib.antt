@@ -1,0 +1,3 @@
+-- Joins: items, orders, columns.
+pub mod Items
+pub mod Laws
