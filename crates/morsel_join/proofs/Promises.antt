@@ -1,5 +1,5 @@
 -- The list of the items keeps the strongest order, and who keeps an order keeps the weaker ones.
-use Rattle.std.proofs.Common.{◌≡◌, ◌≤◌, ◌<◌, [], ◌∷◌, List, ℕ, suc, arith, refl, Bool, true, false, not, if◌then◌else◌, map, inl}
+use Rattle.std.proofs.Common.{◌++◌, ◌≡◌, ◌≤◌, ◌<◌, [], ◌∷◌, List, ℕ, suc, arith, refl, Bool, true, false, not, if◌then◌else◌, map, inl}
 use Rattle.morsel_join.specs.declared.join_type.JoinType.{JoinType}
 use Rattle.morsel_join.specs.declared.join_type.MaintainOrderJoin.TheVariants as orders
 use Rattle.std.specs.List.{list_any}
@@ -35,12 +35,15 @@ right-lone : {X Y : Type 0} (same : X → Y → Bool) (wanted : Bool) (xs : List
 right-lone same true xs ys = all-lone (places (λ y. not (list_any (λ x. same x y) xs)) 0 ys)
 right-lone same false xs ys = tt
 
--- the list that the code makes keeps the strongest promise of its side
+-- the list of the items keeps the strongest order, whichever lone rows are wanted
+pub halves-promised : {X Y : Type 0} (l r : Bool) (same : X → Y → Bool) (xs : List X) (ys : List Y) → IsPromised orders.LeftRight (left_items same l 0 xs ys ++ right_items same r xs ys)
+halves-promised l r same xs ys = InOrder-append LeftRight (left_items same l 0 xs ys) (right_items same r xs ys)
+    (left-in_order same l 0 xs ys)
+    (right-in_order same r xs ys)
+    (AllEach-by LeftRight (λ a. 0 < left_of a) (λ b. left_of b ≡ 0) (λ a b l e. (inl e, λ f. absurd (omega arith))) (left_items same l 0 xs ys) (right_items same r xs ys) (left-from same l 0 xs ys) (right-lone same r xs ys))
+
 pub items-promised : {X Y : Type 0} (how : JoinType) (same : X → Y → Bool) (xs : List X) (ys : List Y) → IsPromised orders.LeftRight (join_items how same xs ys)
-items-promised how same xs ys = InOrder-append LeftRight (left_items same (wants_left how) 0 xs ys) (right_items same (wants_right how) xs ys)
-    (left-in_order same (wants_left how) 0 xs ys)
-    (right-in_order same (wants_right how) xs ys)
-    (AllEach-by LeftRight (λ a. 0 < left_of a) (λ b. left_of b ≡ 0) (λ a b l e. (inl e, λ f. absurd (omega arith))) (left_items same (wants_left how) 0 xs ys) (right_items same (wants_right how) xs ys) (left-from same (wants_left how) 0 xs ys) (right-lone same (wants_right how) xs ys))
+items-promised how same xs ys = halves-promised (wants_left how) (wants_right how) same xs ys
 
 after-map : (R S : Item → Item → Type 0) (g : Item → Item) → ((a b : Item) → R a b → S (g a) (g b)) → (a : Item) (bs : List Item) → AllAfter R a bs → AllAfter S (g a) (map g bs)
 after-map R S g f a [] h = tt
