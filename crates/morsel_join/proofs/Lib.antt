@@ -1,0 +1,16 @@
+pub mod Weights
+pub mod Grid
+pub mod InOrders
+pub mod Promises
+pub mod Counts
+pub mod ChainSteps
+pub mod PayloadLemmas
+pub mod KeyLemmas
+pub mod ProbeLemmas
+pub mod BuildLemmas
+pub mod MatchLemmas
+pub mod AgreeLemmas
+pub mod RowLemmas
+pub mod OrderLemmas
+pub mod GatherLemmas
+pub mod RuleLemmas

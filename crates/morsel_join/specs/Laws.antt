@@ -1,0 +1,41 @@
+-- What holds of the items of joins, and of their orders.
+use Rattle.std.specs.Prelude.{◌≡◌, List, if◌then◌else◌, map}
+use Rattle.morsel_join.specs.declared.join_type.JoinType.{JoinType}
+use Rattle.morsel_join.specs.declared.join_type.JoinType.TheVariants as kinds
+use Rattle.morsel_join.specs.declared.join_type.MaintainOrderJoin.TheVariants as orders
+use Rattle.morsel_join.specs.Items.{Item, Both, LoneLeft, LoneRight, join_items, JoinItems, IsPromised, is_item, count_of}
+use Rattle.std.specs.Prelude.{Bool}
+
+-- the items of a join stand once each in its lists, and nothing else stands there
+abbrev pub HasEachOnce : Type 0 → Type 0 → Type 0
+HasEachOnce X Y = (how : JoinType) (same : X → Y → Bool) (xs : List X) (ys : List Y) (list : List Item) → JoinItems how same xs ys list
+    → (item : Item) → count_of item list ≡ (if is_item how same xs ys item then 1 else 0)
+
+-- in the list of the items, they come by the left row and then by the right one
+abbrev pub ComesByLeftRight : Type 0 → Type 0 → Type 0
+ComesByLeftRight X Y = (how : JoinType) (same : X → Y → Bool) (xs : List X) (ys : List Y) → IsPromised orders.LeftRight (join_items how same xs ys)
+
+-- an item with its sides exchanged
+abbrev pub mirrored : Item → Item
+mirrored (Both i j) = Both j i
+mirrored (LoneLeft i) = LoneRight i
+mirrored (LoneRight j) = LoneLeft j
+
+-- the kind with its sides exchanged
+abbrev pub mirrored_kind : JoinType → JoinType
+mirrored_kind kinds.Inner = kinds.Inner
+mirrored_kind kinds.Left = kinds.Right
+mirrored_kind kinds.Right = kinds.Left
+mirrored_kind kinds.Full = kinds.Full
+
+-- the items of the exchanged sides, exchanged, are the items
+abbrev pub IsMirrored : Type 0 → Type 0 → Type 0
+IsMirrored X Y = (how : JoinType) (same : X → Y → Bool) (xs : List X) (ys : List Y) → JoinItems how same xs ys (map mirrored (join_items (mirrored_kind how) (λ y x. same x y) ys xs))
+
+-- and they come by the right row and then by the left one
+abbrev pub MirrorsOrder : Type 0
+MirrorsOrder = (list : List Item) → IsPromised orders.LeftRight list → IsPromised orders.RightLeft (map mirrored list)
+
+-- who keeps the stronger order keeps the weaker one of the same side, and any order is promised where none is asked
+abbrev pub KeepsWeaker : Type 0
+KeepsWeaker = (list : List Item) → (IsPromised orders.LeftRight list → IsPromised orders.Left list) × (IsPromised orders.RightLeft list → IsPromised orders.Right list) × IsPromised orders.None list
