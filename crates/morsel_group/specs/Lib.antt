@@ -1,0 +1,5 @@
+-- What is asked of a group-by, and what it means.
+pub mod Asked
+pub mod GroupFlaws
+pub mod Grouping
+pub mod Kept

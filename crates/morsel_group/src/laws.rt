@@ -1,0 +1,11 @@
+//! The laws of groups, each the contract of a function that does nothing.
+ghost use Rattle.morsel_group.specs.Kept.{MergesKeys, MergesKept, KeepsNothing, KeepsGrouped};
+
+/// What is kept of rows in parts, and put together key by key, is what is kept of all of them; and it says the group-by of the rows in the order
+/// of the input, in whatever order and in whatever parts they came.
+pub fn parts_are_grouped()
+    ensures keys { MergesKeys }
+    ensures kept { MergesKept }
+    ensures nothing { KeepsNothing }
+    ensures grouped { KeepsGrouped }
+{}

@@ -1,0 +1,12 @@
+//! Groups: one row for each distinct key, with what reductions say of the rows of this key.
+//!
+//! What is asked of a group-by and the columns of its rows, and the laws by which its rows are made in parts.
+#![tactic(auto)]
+
+mod laws;
+mod plan;
+mod spec;
+
+pub use laws::parts_are_grouped;
+pub use plan::group_schema;
+pub use spec::{Agg, GroupSpec};

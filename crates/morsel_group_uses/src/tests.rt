@@ -1,0 +1,2 @@
+//! Group-bys that are asked for.
+mod asked;

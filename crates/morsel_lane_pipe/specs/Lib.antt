@@ -1,0 +1,6 @@
+-- What the tasks of a pipe do, and what a pipe hands on.
+pub mod Tasks
+pub mod Stepped
+pub mod Stretches
+pub mod Settled
+pub mod PipeTasks
