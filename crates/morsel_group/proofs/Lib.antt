@@ -1,3 +1,7 @@
 mod PlanLemmas
 mod KeyLemmas
 mod GroupingLemmas
+mod TakeLemmas
+mod CountLemmas
+mod FreshLemmas
+mod JoinLemmas
