@@ -114,7 +114,7 @@ rows_stop old grown count new rows fault is op too_long stops =
     let third = subst (λ (f : Fault). StopsRows ops.Len (with_groups count old.entries) rows f new) too_long second in
     subst (λ (f : Fault). RefusesLens (with_group_rows ops.Len (with_groups count old.entries) rows) f) (sym too_long) (rows_past ops.Len (with_groups count old.entries) new rows third)
 
-grown_len : (count : ℕ) (entries : List (Option Entry)) → length entries ≤ count → length (with_groups count entries) ≡ count
+pub grown_len : (count : ℕ) (entries : List (Option Entry)) → length entries ≤ count → length (with_groups count entries) ≡ count
 grown_len count entries few = let a = length-append entries (replicate (count - length entries) None) in let c = length-replicate {A = Option Entry} (count - length entries) None in omega (arith, a, c, few)
 
 -- counts that stop at one of others

@@ -4,7 +4,7 @@ use Rattle.std.specs.Prelude.{◌⊎◌}
 use Rattle.std.proofs.lemmas.Option.{slice_get_within, get_or_from_slice_get}
 use Rattle.morsel_meaning.specs.declared.fault.Fault.{Fault}
 use Rattle.morsel_meaning.specs.declared.fault.Fault.TheVariants.{OutOfMemory}
-use Rattle.morsel_group.specs.declared.part.Part.{Part}
+use Rattle.morsel_group.specs.declared.part.AggStates.{AggStates}
 use Rattle.morsel_group.specs.Parts.{joined_part, joined_parts, RefusesGroup, RefusesSome}
 
 -- an item that follows others in a list is at the place of their number
@@ -15,19 +15,19 @@ slice_next {X = X} before rest whole x all = sym (ap (λ xs. slice_get xs (lengt
     here [] = refl
     here (y ∷ xs) = here xs
 
-joined_at : (count : ℕ) (numbers : List ℕ) (parts before : List Part) (d : Part) → length before < length parts → get_or (joined_parts count numbers (take (length before) parts) before ++ drop (length before) parts) (length before) d ≡ get_or parts (length before) d
+joined_at : (count : ℕ) (numbers : List ℕ) (parts before : List AggStates) (d : AggStates) → length before < length parts → get_or (joined_parts count numbers (take (length before) parts) before ++ drop (length before) parts) (length before) d ≡ get_or parts (length before) d
 joined_at count numbers [] before d within = absurd (omega (arith, within))
 joined_at count numbers (part ∷ parts) [] d within = refl
 joined_at count numbers (part ∷ parts) (other ∷ before) d within = joined_at count numbers parts before d (omega (arith, within))
 
-joined_more : (count : ℕ) (numbers : List ℕ) (parts before : List Part) (other new d : Part) → length before < length parts → new ≡ joined_part count numbers other (get_or parts (length before) d)
+joined_more : (count : ℕ) (numbers : List ℕ) (parts before : List AggStates) (other new d : AggStates) → length before < length parts → new ≡ joined_part count numbers other (get_or parts (length before) d)
     → set (joined_parts count numbers (take (length before) parts) before ++ drop (length before) parts) (length before) new ≡ joined_parts count numbers (take (suc (length before)) parts) (before ++ other ∷ []) ++ drop (suc (length before)) parts
 joined_more count numbers [] before other new d within made = absurd (omega (arith, within))
 joined_more count numbers (part ∷ parts) [] other new d within made = ap (λ p. p ∷ parts) made
 joined_more count numbers (part ∷ parts) (b ∷ before) other new d within made = ap (λ ps. joined_part count numbers b part ∷ ps) (joined_more count numbers parts before other new d (omega (arith, within)) made)
 
 -- the part at the next place is as it was
-pub merge_at : (count : ℕ) (numbers : List ℕ) (parts now before : List Part) (d : Part) (at : ℕ) → at < length parts → at ≡ length before → now ≡ joined_parts count numbers (take at parts) before ++ drop at parts → get_or now at d ≡ get_or parts at d
+pub merge_at : (count : ℕ) (numbers : List ℕ) (parts now before : List AggStates) (d : AggStates) (at : ℕ) → at < length parts → at ≡ length before → now ≡ joined_parts count numbers (take at parts) before ++ drop at parts → get_or now at d ≡ get_or parts at d
 merge_at count numbers parts now before d at within is done =
     ap (λ ps. get_or ps at d) done
     ∙ ap (λ n. get_or (joined_parts count numbers (take n parts) before ++ drop n parts) n d) is
@@ -35,7 +35,7 @@ merge_at count numbers parts now before d at within is done =
     ∙ sym (ap (λ n. get_or parts n d) is)
 
 -- one part more
-pub merge_step : (count : ℕ) (numbers : List ℕ) (parts now before : List Part) (other new d : Part) (at : ℕ) → at < length parts → at ≡ length before → now ≡ joined_parts count numbers (take at parts) before ++ drop at parts
+pub merge_step : (count : ℕ) (numbers : List ℕ) (parts now before : List AggStates) (other new d : AggStates) (at : ℕ) → at < length parts → at ≡ length before → now ≡ joined_parts count numbers (take at parts) before ++ drop at parts
     → new ≡ joined_part count numbers other (get_or now at d) → set now at new ≡ joined_parts count numbers (take (at + 1) parts) (before ++ other ∷ []) ++ drop (at + 1) parts
 merge_step count numbers parts now before other new d at within is done made =
     let next : suc (length before) ≡ at + 1 = omega (arith, is) in
@@ -45,7 +45,7 @@ merge_step count numbers parts now before other new d at within is done made =
     ∙ ap (λ n. joined_parts count numbers (take n parts) (before ++ other ∷ []) ++ drop n parts) next
 
 -- a refusal of one of them
-pub refuses_some : (before rest parts : List Part) (part : Part) (fault : Fault) → before ++ part ∷ rest ≡ parts → (fault ≡ OutOfMemory) ⊎ RefusesGroup part fault → (fault ≡ OutOfMemory) ⊎ RefusesSome parts fault
+pub refuses_some : (before rest parts : List AggStates) (part : AggStates) (fault : Fault) → before ++ part ∷ rest ≡ parts → (fault ≡ OutOfMemory) ⊎ RefusesGroup part fault → (fault ≡ OutOfMemory) ⊎ RefusesSome parts fault
 refuses_some before rest parts part fault all (inl memory) = inl memory
 refuses_some before rest parts part fault all (inr refused) = inr (length before, part, slice_next before rest parts part all, refused)
 

@@ -5,3 +5,5 @@ mod TakeLemmas
 mod CountLemmas
 mod FreshLemmas
 mod JoinLemmas
+mod HeldLemmas
+mod GroupsLemmas

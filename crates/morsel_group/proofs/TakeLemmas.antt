@@ -21,7 +21,7 @@ use Rattle.morsel_keys.proofs.GroupLemmas.{both_parts-none}
 use Rattle.morsel_group.specs.Asked.{Reducer, GroupShape}
 use Rattle.morsel_group.specs.Grouping.{same_key, is_among, arrived, RowAt, value_in, rows_at_key, distinct_keys}
 use Rattle.morsel_group.specs.Kept.{valued, kept_at}
-use Rattle.morsel_group.specs.Takes.{placed_rows, NumbersKeys, TakesRows, NumbersOthers, TakesOthers}
+use Rattle.morsel_group.specs.Takes.{placed_rows, NumbersKeys, TakesMoreRows, NumbersOthers, TakesOthers}
 use Rattle.morsel_group.proofs.KeyLemmas.{same_key-itself, same_key-only, among_at, new_of_not_among, numbers_arrived, arrived-append, arrived-once, arrived-longer, none_once}
 use Rattle.morsel_group.proofs.GroupingLemmas.{merges_keys, merges_kept, keeps_nothing}
 
@@ -200,7 +200,7 @@ numbers_keys shape rows place more numbers keys all =
     ∙ arrived-append [] (map (λ r. cells_at shape.keys r.row) rows) (map (λ r. cells_at shape.keys r.row) (placed_rows place more))
     ∙ ap (arrived (distinct_keys shape rows)) (placed_keys shape place more))
 
-pub takes_rows : TakesRows
+pub takes_rows : TakesMoreRows
 takes_rows shape agg rows place more numbers keys all =
     let is = numbers_arrived (distinct_keys shape rows) (map (cells_at shape.keys) more) numbers keys all in
     rows_taken shape agg rows place more numbers keys all

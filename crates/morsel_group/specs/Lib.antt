@@ -7,3 +7,4 @@ pub mod Takes
 pub mod Parts
 pub mod Fresh
 pub mod Arrivals
+pub mod Locals

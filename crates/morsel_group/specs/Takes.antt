@@ -21,8 +21,8 @@ NumbersKeys = (shape : GroupShape) (rows : List RowAt) (place : ℕ) (more : Lis
     → NumbersAll (distinct_keys shape rows) (map (cells_at shape.keys) more) numbers keys → keys ≡ distinct_keys shape (rows ++ placed_rows place more)
 
 -- where the rows are put to the groups of these numbers, each group has what is kept of all rows
-abbrev pub TakesRows : Type 0
-TakesRows = (shape : GroupShape) (agg : Reducer) (rows : List RowAt) (place : ℕ) (more : List Row) (numbers : List ℕ) (keys : List Row)
+abbrev pub TakesMoreRows : Type 0
+TakesMoreRows = (shape : GroupShape) (agg : Reducer) (rows : List RowAt) (place : ℕ) (more : List Row) (numbers : List ℕ) (keys : List Row)
     → NumbersAll (distinct_keys shape rows) (map (cells_at shape.keys) more) numbers keys
     → with_group_rows agg.op (with_groups (length keys) (map (kept_at shape rows agg) (distinct_keys shape rows))) (group_rows place numbers (map (value_in agg.column) more))
     ≡ map (kept_at shape (rows ++ placed_rows place more) agg) keys

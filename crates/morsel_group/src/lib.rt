@@ -5,6 +5,7 @@
 
 mod counts;
 mod fresh;
+mod groups;
 mod laws;
 mod part;
 mod plan;

@@ -6,7 +6,7 @@ ghost use Rattle.morsel_keys.specs.Slots.{no_number};
 ghost use Rattle.morsel_states.specs.GroupRows.{group_rows, PutsGroupRows};
 ghost use Rattle.morsel_group.specs.Grouping.{value_in};
 ghost use Rattle.morsel_group.specs.Parts.{ReadsColumn, AreSameReduction, updated_part, joined_part, joined_parts, finished_values, RefusesGroup, RefusesSome, RefusesNone};
-ghost use Rattle.morsel_group.specs.declared.part.Part.{Part as PartView};
+ghost use Rattle.morsel_group.specs.declared.part.AggStates.{AggStates as PartView};
 
 use morsel_frame::{Column, Frame};
 use morsel_meaning::{ColType, Fault};
@@ -15,7 +15,7 @@ use std::alloc::Global;
 
 /// What a reduction has of each group, the place of the column that it reads, none where rows are counted, and the type of what it says.
 #[derive(Drop)]
-pub struct Part {
+pub struct AggStates {
     pub column: Option<usize>,
     pub kind: ColType,
     pub states: States,
@@ -23,7 +23,7 @@ pub struct Part {
 
 /// Puts the rows of a frame to their groups, of which there are so many. A group that has too many rows was refused before.
 pub fn update_parts(
-    parts: &mut [Part],
+    parts: &mut [AggStates],
     frame: &Frame,
     numbers: &[u32],
     count: usize,
@@ -45,7 +45,7 @@ pub fn update_parts(
 
 /// Puts the rows of a frame to their groups, of which there are so many. A group that has too many rows was refused before.
 fn update_part(
-    part: &mut Part,
+    part: &mut AggStates,
     frame: &Frame,
     numbers: &[u32],
     count: usize,
@@ -91,8 +91,8 @@ fn put_rows(
 /// Puts what others have of their groups to these groups, of which there are so many, each to the one at its place. A group that has too many
 /// rows was refused before.
 pub fn merge_parts(
-    parts: &mut [Part],
-    others: Vec<Part>,
+    parts: &mut [AggStates],
+    others: Vec<AggStates>,
     numbers: &[u32],
     count: usize,
 ) -> Result<(), Fault>
@@ -113,7 +113,12 @@ pub fn merge_parts(
 }
 
 /// Puts what another has of its groups to these groups, of which there are so many. A group that has too many rows was refused before.
-fn merge_part(part: &mut Part, other: Part, numbers: &[u32], count: usize) -> Result<(), Fault>
+fn merge_part(
+    part: &mut AggStates,
+    other: AggStates,
+    numbers: &[u32],
+    count: usize,
+) -> Result<(), Fault>
     requires op { other.states.op ≡ part.old.states.op }
     requires kind { other.states.kind ≡ part.old.states.kind }
     requires few { length part.old.states.entries ≤ count }
@@ -130,7 +135,11 @@ fn merge_part(part: &mut Part, other: Part, numbers: &[u32], count: usize) -> Re
 }
 
 /// What each reduction says of each group, of which there are so many: a column for each.
-pub fn finished_columns(alloc: Global, parts: Vec<Part>, count: usize) -> Result<Vec<Column>, Fault>
+pub fn finished_columns(
+    alloc: Global,
+    parts: Vec<AggStates>,
+    count: usize,
+) -> Result<Vec<Column>, Fault>
     requires kind { All (λ part. part.kind ≡ reduced_kind part.states.op part.states.kind) parts.items }
     requires count { All (λ part. length part.states.entries ≡ count) parts.items }
     requires few { count ≤ no_number }
@@ -149,7 +158,7 @@ pub fn finished_columns(alloc: Global, parts: Vec<Part>, count: usize) -> Result
 }
 
 /// What a reduction says of each group.
-fn finished_column(alloc: Global, part: Part, count: usize) -> Result<Column, Fault>
+fn finished_column(alloc: Global, part: AggStates, count: usize) -> Result<Column, Fault>
     requires kind { part.kind ≡ reduced_kind part.states.op part.states.kind }
     requires count { length part.states.entries ≡ count }
     requires few { count ≤ no_number }
