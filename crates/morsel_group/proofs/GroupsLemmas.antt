@@ -22,7 +22,7 @@ use Rattle.morsel_group.specs.Grouping.{RowAt, value_in, distinct_keys}
 use Rattle.morsel_group.specs.Kept.{kept_at}
 use Rattle.morsel_group.specs.Takes.{placed_rows}
 use Rattle.morsel_group.specs.Parts.{IsPart, ReadsColumn, updated_part}
-use Rattle.morsel_group.specs.Locals.{Held, HasRows, KeepsRows, IsGroupFault, reducer_in, row_count}
+use Rattle.morsel_group.specs.Locals.{HeldGroups, HasGroupedRows, KeepsGroupedRows, IsGroupFault, reducer_in, len_reducer}
 use Rattle.morsel_group.proofs.CountLemmas.{grown_len}
 use Rattle.morsel_group.proofs.HeldLemmas.{entries_in, many_keys, long_group, few_joined, none_placed, kept_updated}
 use Rattle.morsel_group.proofs.TakeLemmas.{numbered, numbers_keys, takes_rows}
@@ -53,41 +53,41 @@ length-placed place [] = refl
 length-placed place (row ∷ more) = let later = length-placed (place + 1) more in omega (arith, later)
 
 -- counts of rows that were put to their groups are those of all rows
-pub counts_put : (held : Held) (rows : List RowAt) (place : ℕ) (more : List Row) (numbers : List ℕ) (keys : List Row) → HasRows held rows → NumbersAll held.keys (map (cells_at held.shape.keys) more) numbers keys
-    → with_group_rows ops.Len (with_groups (length keys) held.counts) (group_rows place numbers (map (value_in None) more)) ≡ map (kept_at held.shape (rows ++ placed_rows place more) row_count) keys
+pub counts_put : (held : HeldGroups) (rows : List RowAt) (place : ℕ) (more : List Row) (numbers : List ℕ) (keys : List Row) → HasGroupedRows held rows → NumbersAll held.keys (map (cells_at held.shape.keys) more) numbers keys
+    → with_group_rows ops.Len (with_groups (length keys) held.counts) (group_rows place numbers (map (value_in None) more)) ≡ map (kept_at held.shape (rows ++ placed_rows place more) len_reducer) keys
 counts_put held rows place more numbers keys has numbers_all =
     let all = subst (λ (ks : List Row). NumbersAll ks (map (cells_at held.shape.keys) more) numbers keys) has.keys numbers_all in
-    ap (λ es. with_group_rows ops.Len (with_groups (length keys) es) (group_rows place numbers (map (value_in None) more))) (has.counts ∙ ap (map (kept_at held.shape rows row_count)) has.keys)
-    ∙ takes_rows held.shape row_count rows place more numbers keys all
+    ap (λ es. with_group_rows ops.Len (with_groups (length keys) es) (group_rows place numbers (map (value_in None) more))) (has.counts ∙ ap (map (kept_at held.shape rows len_reducer)) has.keys)
+    ∙ takes_rows held.shape len_reducer rows place more numbers keys all
 
 -- what groups have to which rows were put is what all rows come to
-pub held_put : (old new : Held) (rows : List RowAt) (place : ℕ) (more : List Row) (numbers : List ℕ) (parts : List AggStates) → HasRows old rows → NumbersAll old.keys (map (cells_at old.shape.keys) more) numbers new.keys → length new.keys ≤ no_number
+pub held_put : (old new : HeldGroups) (rows : List RowAt) (place : ℕ) (more : List Row) (numbers : List ℕ) (parts : List AggStates) → HasGroupedRows old rows → NumbersAll old.keys (map (cells_at old.shape.keys) more) numbers new.keys → length new.keys ≤ no_number
     → old.shape.aggs ≡ map reducer_in parts → old.kept ≡ map entries_in parts → new.shape ≡ old.shape → new.took ≡ old.took + length more
     → new.counts ≡ with_group_rows ops.Len (with_groups (length new.keys) old.counts) (group_rows place numbers (map (value_in None) more)) → AreWithinLimit numbers new.counts
-    → new.kept ≡ map entries_in (map (updated_part (length new.keys) place numbers more) parts) → HasRows new (rows ++ placed_rows place more)
+    → new.kept ≡ map entries_in (map (updated_part (length new.keys) place numbers more) parts) → HasGroupedRows new (rows ++ placed_rows place more)
 held_put old new rows place more numbers parts has numbers_all low aggs kept shape took counts within now =
     let whole = rows ++ placed_rows place more in
     let all = subst (λ (ks : List Row). NumbersAll ks (map (cells_at old.shape.keys) more) numbers new.keys) has.keys numbers_all in
     let keys_are = numbers_keys old.shape rows place more numbers new.keys all in
     let counts_are = counts ∙ counts_put old rows place more numbers new.keys has numbers_all in
-    let before = subst (λ (ks : List Row). KeepsRows old.shape rows ks (map reducer_in parts) (map entries_in parts)) has.keys
-    (subst (λ (es : List (List (Option Entry))). KeepsRows old.shape rows old.keys (map reducer_in parts) es) kept (subst (λ (rs : List Reducer). KeepsRows old.shape rows old.keys rs old.kept) aggs has.kept)) in
-    let after = subst (λ (rs : List Reducer). KeepsRows old.shape whole new.keys rs (map entries_in (map (updated_part (length new.keys) place numbers more) parts))) (sym aggs) (kept_updated old.shape rows place more numbers new.keys parts all before) in
-    let made : HasRows (record new { shape = old.shape }) whole = record {
+    let before = subst (λ (ks : List Row). KeepsGroupedRows old.shape rows ks (map reducer_in parts) (map entries_in parts)) has.keys
+    (subst (λ (es : List (List (Option Entry))). KeepsGroupedRows old.shape rows old.keys (map reducer_in parts) es) kept (subst (λ (rs : List Reducer). KeepsGroupedRows old.shape rows old.keys rs old.kept) aggs has.kept)) in
+    let after = subst (λ (rs : List Reducer). KeepsGroupedRows old.shape whole new.keys rs (map entries_in (map (updated_part (length new.keys) place numbers more) parts))) (sym aggs) (kept_updated old.shape rows place more numbers new.keys parts all before) in
+    let made : HasGroupedRows (record new { shape = old.shape }) whole = record {
       took = omega (arith, took, has.took, length-append rows (placed_rows place more), length-placed place more);
       keys = keys_are;
       counts = counts_are;
-      kept = subst (λ (es : List (List (Option Entry))). KeepsRows old.shape whole new.keys old.shape.aggs es) (sym now) after;
+      kept = subst (λ (es : List (List (Option Entry))). KeepsGroupedRows old.shape whole new.keys old.shape.aggs es) (sym now) after;
       few = few_joined old.shape rows (placed_rows place more) (map (cells_at old.shape.keys) more) new.keys numbers new.counts has.few low keys_are (numbered (distinct_keys old.shape rows) (map (cells_at old.shape.keys) more) numbers new.keys all) counts_are within (none_placed old.shape place more);
     } in
-    subst (λ (s : GroupShape). HasRows (record new { shape = s }) whole) (sym shape) made
+    subst (λ (s : GroupShape). HasGroupedRows (record new { shape = s }) whole) (sym shape) made
 
 -- rows whose keys are refused
-pub keys_refused : (held : Held) (rows : List RowAt) (place : ℕ) (more : List Row) (fault : Fault) → HasRows held rows → RefusesKeys held.keys (map (cells_at held.shape.keys) more) fault → IsGroupFault held.shape (rows ++ placed_rows place more) fault
+pub keys_refused : (held : HeldGroups) (rows : List RowAt) (place : ℕ) (more : List Row) (fault : Fault) → HasGroupedRows held rows → RefusesKeys held.keys (map (cells_at held.shape.keys) more) fault → IsGroupFault held.shape (rows ++ placed_rows place more) fault
 keys_refused held rows place more fault has refused = many_keys held.shape rows place more fault (subst (λ (ks : List Row). RefusesKeys ks (map (cells_at held.shape.keys) more) fault) has.keys refused)
 
 -- rows of which a group has too many
-pub lens_refused : (held : Held) (rows : List RowAt) (place : ℕ) (more : List Row) (numbers : List ℕ) (keys : List Row) (count : ℕ) (fault : Fault) → HasRows held rows → NumbersAll held.keys (map (cells_at held.shape.keys) more) numbers keys → count ≡ length keys
+pub lens_refused : (held : HeldGroups) (rows : List RowAt) (place : ℕ) (more : List Row) (numbers : List ℕ) (keys : List Row) (count : ℕ) (fault : Fault) → HasGroupedRows held rows → NumbersAll held.keys (map (cells_at held.shape.keys) more) numbers keys → count ≡ length keys
     → RefusesLens (with_group_rows ops.Len (with_groups count held.counts) (group_rows place numbers (map (value_in None) more))) fault → IsGroupFault held.shape (rows ++ placed_rows place more) fault
 lens_refused held rows place more numbers keys count fault has numbers_all is refused =
     long_group held.shape (rows ++ placed_rows place more) keys (with_group_rows ops.Len (with_groups (length keys) held.counts) (group_rows place numbers (map (value_in None) more))) fault (counts_put held rows place more numbers keys has numbers_all)

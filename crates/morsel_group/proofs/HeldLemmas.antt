@@ -20,7 +20,7 @@ use Rattle.morsel_group.specs.Kept.{valued, kept_at}
 use Rattle.morsel_group.specs.Takes.{placed_rows}
 use Rattle.morsel_group.specs.Parts.{updated_part, joined_parts}
 use Rattle.morsel_group.specs.Arrivals.{RefusesKeys, RefusesLens}
-use Rattle.morsel_group.specs.Locals.{AreFewEnough, IsGroupFault, KeepsRows, reducer_in, row_count}
+use Rattle.morsel_group.specs.Locals.{AreFewEnough, IsGroupFault, KeepsGroupedRows, reducer_in, len_reducer}
 use Rattle.morsel_group.proofs.CountLemmas.{entry_len-of}
 use Rattle.morsel_group.proofs.KeyLemmas.{same_key-only, arrived-append, among-arrived}
 use Rattle.morsel_group.proofs.GroupingLemmas.{passing-append, no_rows, merges_keys}
@@ -30,15 +30,15 @@ use Rattle.morsel_group.proofs.TakeLemmas.{AreNumbered, placed_keys, takes_rows,
 abbrev pub entries_in : AggStates → List (Option Entry)
 entries_in part = part.states.entries
 
-pub kept_len : (shape : GroupShape) (rows : List RowAt) (key : Row) → entry_len (kept_at shape rows row_count key) ≡ length (rows_at_key shape key rows)
-kept_len shape rows key = entry_len-of ops.Len (valued row_count (rows_at_key shape key rows)) ∙ length-map (rows_at_key shape key rows) _
+pub kept_len : (shape : GroupShape) (rows : List RowAt) (key : Row) → entry_len (kept_at shape rows len_reducer key) ≡ length (rows_at_key shape key rows)
+kept_len shape rows key = entry_len-of ops.Len (valued len_reducer (rows_at_key shape key rows)) ∙ length-map (rows_at_key shape key rows) _
 
 -- a group that has too many values is a key that has too many rows
-pub long_group : (shape : GroupShape) (rows : List RowAt) (keys : List Row) (entries : List (Option Entry)) (fault : Fault) → entries ≡ map (kept_at shape rows row_count) keys → RefusesLens entries fault → IsGroupFault shape rows fault
+pub long_group : (shape : GroupShape) (rows : List RowAt) (keys : List Row) (entries : List (Option Entry)) (fault : Fault) → entries ≡ map (kept_at shape rows len_reducer) keys → RefusesLens entries fault → IsGroupFault shape rows fault
 long_group shape rows keys entries fault are (inl memory) = inl memory
 long_group shape rows keys entries fault are (inr (is, (group, within, past))) =
-    let n = ap length are ∙ length-map keys (kept_at shape rows row_count) in
-    let here = ap (λ es. get_or es group None) are ∙ get_or-map (kept_at shape rows row_count) keys group [] None (omega (arith, n, within)) in
+    let n = ap length are ∙ length-map keys (kept_at shape rows len_reducer) in
+    let here = ap (λ es. get_or es group None) are ∙ get_or-map (kept_at shape rows len_reducer) keys group [] None (omega (arith, n, within)) in
     let len = ap entry_len here ∙ kept_len shape rows (get_or keys group []) in
     inr (inr (is, (get_or keys group [], omega (arith, len, past))))
 
@@ -72,7 +72,7 @@ at_number keys (v ∷ vs) (at ∷ ats) key (first, later) there = by (same_key k
 
 -- where the groups of the keys that came have no more than may be, there are no more rows of any key than may be
 pub few_joined : (shape : GroupShape) (rows more : List RowAt) (vs keys : List Row) (ats : List ℕ) (entries : List (Option Entry)) → AreFewEnough shape rows → length keys ≤ no_number → keys ≡ distinct_keys shape (rows ++ more)
-    → AreNumbered keys vs ats → entries ≡ map (kept_at shape (rows ++ more) row_count) keys → AreWithinLimit ats entries → ((key : Row) → is_among key vs ≡ false → rows_at_key shape key more ≡ []) → AreFewEnough shape (rows ++ more)
+    → AreNumbered keys vs ats → entries ≡ map (kept_at shape (rows ++ more) len_reducer) keys → AreWithinLimit ats entries → ((key : Row) → is_among key vs ≡ false → rows_at_key shape key more ≡ []) → AreFewEnough shape (rows ++ more)
 few_joined shape rows more vs keys ats entries few low are all held within none = record {
   keys = subst (λ (ks : List Row). length ks ≤ no_number) are low;
   rows_each = each;
@@ -87,7 +87,7 @@ few_joined shape rows more vs keys ats entries few low are all held within none 
           let there = at_number keys vs ats key all t in
           let group = get_or ats there.0 0 in
           let inside = slice_get_within keys group key there.2 in
-          let here = ap (λ es. get_or es group None) held ∙ get_or-map (kept_at shape (rows ++ more) row_count) keys group [] None inside ∙ ap (kept_at shape (rows ++ more) row_count) (get_or_from_slice_get keys group key [] there.2) in
+          let here = ap (λ es. get_or es group None) held ∙ get_or-map (kept_at shape (rows ++ more) len_reducer) keys group [] None inside ∙ ap (kept_at shape (rows ++ more) len_reducer) (get_or_from_slice_get keys group key [] there.2) in
           let len = ap entry_len here ∙ kept_len shape (rows ++ more) key in
           let limit : entry_len (get_or entries group None) ≤ len_limit = within there.0 0 there.1 in
           omega (arith, len, limit)
@@ -107,8 +107,8 @@ none_distinct shape more key none = no_rows shape more key (sym (among-arrived k
 
 -- parts of which the rows were put to their groups keep more rows
 pub kept_updated : (shape : GroupShape) (rows : List RowAt) (place : ℕ) (more : List Row) (numbers : List ℕ) (keys : List Row) (parts : List AggStates) → NumbersAll (distinct_keys shape rows) (map (cells_at shape.keys) more) numbers keys
-    → KeepsRows shape rows (distinct_keys shape rows) (map reducer_in parts) (map entries_in parts)
-    → KeepsRows shape (rows ++ placed_rows place more) keys (map reducer_in parts) (map entries_in (map (updated_part (length keys) place numbers more) parts))
+    → KeepsGroupedRows shape rows (distinct_keys shape rows) (map reducer_in parts) (map entries_in parts)
+    → KeepsGroupedRows shape (rows ++ placed_rows place more) keys (map reducer_in parts) (map entries_in (map (updated_part (length keys) place numbers more) parts))
 kept_updated shape rows place more numbers keys [] all kept = tt
 kept_updated shape rows place more numbers keys (part ∷ parts) all (here, later) = (
   ap (λ es. with_group_rows part.states.op (with_groups (length keys) es) (group_rows place numbers (map (value_in part.column) more))) here ∙ takes_rows shape (reducer_in part) rows place more numbers keys all,
@@ -123,9 +123,9 @@ reducers_updated count place numbers more (part ∷ parts) = ap (λ rs. reducer_
 -- parts to which those of others were put keep the rows of both
 pub kept_joined : (shape : GroupShape) (rows more : List RowAt) (numbers : List ℕ) (keys : List Row) (parts others : List AggStates) → NumbersAll (distinct_keys shape rows) (distinct_keys shape more) numbers keys
     → map reducer_in others ≡ map reducer_in parts
-    → KeepsRows shape rows (distinct_keys shape rows) (map reducer_in parts) (map entries_in parts)
-    → KeepsRows shape more (distinct_keys shape more) (map reducer_in others) (map entries_in others)
-    → KeepsRows shape (rows ++ more) keys (map reducer_in parts) (map entries_in (joined_parts (length keys) numbers parts others))
+    → KeepsGroupedRows shape rows (distinct_keys shape rows) (map reducer_in parts) (map entries_in parts)
+    → KeepsGroupedRows shape more (distinct_keys shape more) (map reducer_in others) (map entries_in others)
+    → KeepsGroupedRows shape (rows ++ more) keys (map reducer_in parts) (map entries_in (joined_parts (length keys) numbers parts others))
 kept_joined shape rows more numbers keys [] [] all same kept kept_more = tt
 kept_joined shape rows more numbers keys [] (other ∷ others) all same kept kept_more = cc
 kept_joined shape rows more numbers keys (part ∷ parts) [] all same kept kept_more = cc

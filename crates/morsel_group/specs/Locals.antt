@@ -44,7 +44,7 @@ reducer_in part = record { op = part.states.op; column = part.column }
 
 -- a local group-by, as contracts see it: the columns of its input, its shape, the columns of its rows, how many rows it took, its keys as they
 -- arrived, how many rows each has, and what is kept of them
-pub record Held : Type 0 where
+pub record HeldGroups : Type 0 where
   pub input : List Field
   pub shape : GroupShape
   pub output : List Field
@@ -54,7 +54,7 @@ pub record Held : Type 0 where
   pub kept : List (List (Option Entry))
 
 -- the same, of the code's own parts
-abbrev pub held_in : Groups → Held
+abbrev pub held_in : Groups → HeldGroups
 held_in g = record {
   input = g.input;
   shape = record { keys = g.keys.items; aggs = map reducer_in g.parts.items };
@@ -78,26 +78,26 @@ pub record AreGroups (g : Groups) : Type 0 where
   pub reduced_kinds : kinds_of g.reduced ≡ map (λ part. part.kind) g.parts.items
 
 -- what each reduction has of each key, where it took these rows
-abbrev pub KeepsRows : GroupShape → List RowAt → List Row → List Reducer → List (List (Option Entry)) → Type 0
-KeepsRows shape rows keys [] [] = Unit {0}
-KeepsRows shape rows keys [] (entries ∷ kept) = ⊥
-KeepsRows shape rows keys (agg ∷ aggs) [] = ⊥
-KeepsRows shape rows keys (agg ∷ aggs) (entries ∷ kept) = (entries ≡ map (kept_at shape rows agg) keys) × KeepsRows shape rows keys aggs kept
+abbrev pub KeepsGroupedRows : GroupShape → List RowAt → List Row → List Reducer → List (List (Option Entry)) → Type 0
+KeepsGroupedRows shape rows keys [] [] = Unit {0}
+KeepsGroupedRows shape rows keys [] (entries ∷ kept) = ⊥
+KeepsGroupedRows shape rows keys (agg ∷ aggs) [] = ⊥
+KeepsGroupedRows shape rows keys (agg ∷ aggs) (entries ∷ kept) = (entries ≡ map (kept_at shape rows agg) keys) × KeepsGroupedRows shape rows keys aggs kept
 
 -- a count of rows
-abbrev pub row_count : Reducer
-row_count = record { op = ops.Len; column = None }
+abbrev pub len_reducer : Reducer
+len_reducer = record { op = ops.Len; column = None }
 
 -- what a local group-by has is what these rows come to, in whatever order they arrived
-pub record HasRows (held : Held) (rows : List RowAt) : Type 0 where
+pub record HasGroupedRows (held : HeldGroups) (rows : List RowAt) : Type 0 where
   pub took : held.took ≡ length rows
   pub keys : held.keys ≡ distinct_keys held.shape rows
-  pub counts : held.counts ≡ map (kept_at held.shape rows row_count) held.keys
-  pub kept : KeepsRows held.shape rows held.keys held.shape.aggs held.kept
+  pub counts : held.counts ≡ map (kept_at held.shape rows len_reducer) held.keys
+  pub kept : KeepsGroupedRows held.shape rows held.keys held.shape.aggs held.kept
   pub few : AreFewEnough held.shape rows
 
 -- two are the same group-by over the same columns; after a fault, any
-abbrev pub AreAlike : Option Held → Option Held → Type 0
-AreAlike None other = Unit {0}
-AreAlike (Some held) None = Unit {0}
-AreAlike (Some held) (Some other) = (other.input ≡ held.input) × (other.shape ≡ held.shape) × (other.output ≡ held.output)
+abbrev pub AreSameGroupBy : Option HeldGroups → Option HeldGroups → Type 0
+AreSameGroupBy None other = Unit {0}
+AreSameGroupBy (Some held) None = Unit {0}
+AreSameGroupBy (Some held) (Some other) = (other.input ≡ held.input) × (other.shape ≡ held.shape) × (other.output ≡ held.output)

@@ -3,7 +3,7 @@ ghost use Rattle.std.specs.Prelude.{◌≡◌, ◌++◌, ◌+◌, List, Some, le
 ghost use Rattle.morsel_keys.specs.Reductions.{input_place};
 ghost use Rattle.morsel_group.specs.Grouping.{RowAt};
 ghost use Rattle.morsel_group.specs.Takes.{placed_rows};
-ghost use Rattle.morsel_group.specs.Locals.{held_in, AreGroups, AreAlike, HasRows, IsGroupFault};
+ghost use Rattle.morsel_group.specs.Locals.{held_in, AreGroups, AreSameGroupBy, HasGroupedRows, IsGroupFault};
 
 use crate::counts::count_rows;
 use crate::fresh::take_keys;
@@ -39,9 +39,9 @@ pub fn put_rows(groups: &mut Groups, frame: &Frame, number: u64) -> Result<(), F
     requires groups { AreGroups groups.old }
     requires columns { frame.now.schema ≡ groups.old.input }
     ensures groups { OnOk result (AreGroups groups.new) }
-    ensures same { OnOk result (AreAlike (Some (held_in groups.old)) (Some (held_in groups.new))) }
-    ensures rows { (rows : List RowAt) → HasRows (held_in groups.old) rows → OnOk result (HasRows (held_in groups.new) (rows ++ placed_rows (input_place number (length rows)) frame.now.rows)) }
-    ensures refused { (rows : List RowAt) → HasRows (held_in groups.old) rows → IfErr result (IsGroupFault (held_in groups.old).shape (rows ++ placed_rows (input_place number (length rows)) frame.now.rows)) }
+    ensures same { OnOk result (AreSameGroupBy (Some (held_in groups.old)) (Some (held_in groups.new))) }
+    ensures rows { (rows : List RowAt) → HasGroupedRows (held_in groups.old) rows → OnOk result (HasGroupedRows (held_in groups.new) (rows ++ placed_rows (input_place number (length rows)) frame.now.rows)) }
+    ensures refused { (rows : List RowAt) → HasGroupedRows (held_in groups.old) rows → IfErr result (IsGroupFault (held_in groups.old).shape (rows ++ placed_rows (input_place number (length rows)) frame.now.rows)) }
 {
     let height = frame.height();
     let Some(took) = groups.took.checked_add(height as u64) else {
@@ -67,9 +67,9 @@ fn put_numbered(
     requires len { length numbers.old ≡ length frame.now.rows }
     requires took { took ≡ groups.old.took + length frame.now.rows }
     ensures groups { OnOk result (AreGroups groups.new) }
-    ensures same { OnOk result (AreAlike (Some (held_in groups.old)) (Some (held_in groups.new))) }
-    ensures rows { (rows : List RowAt) → HasRows (held_in groups.old) rows → OnOk result (HasRows (held_in groups.new) (rows ++ placed_rows (input_place number (length rows)) frame.now.rows)) }
-    ensures refused { (rows : List RowAt) → HasRows (held_in groups.old) rows → IfErr result (IsGroupFault (held_in groups.old).shape (rows ++ placed_rows (input_place number (length rows)) frame.now.rows)) }
+    ensures same { OnOk result (AreSameGroupBy (Some (held_in groups.old)) (Some (held_in groups.new))) }
+    ensures rows { (rows : List RowAt) → HasGroupedRows (held_in groups.old) rows → OnOk result (HasGroupedRows (held_in groups.new) (rows ++ placed_rows (input_place number (length rows)) frame.now.rows)) }
+    ensures refused { (rows : List RowAt) → HasGroupedRows (held_in groups.old) rows → IfErr result (IsGroupFault (held_in groups.old).shape (rows ++ placed_rows (input_place number (length rows)) frame.now.rows)) }
 {
     let count = match take_keys(
         groups.alloc,

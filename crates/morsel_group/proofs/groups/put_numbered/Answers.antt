@@ -14,7 +14,7 @@ use Rattle.morsel_group.specs.Asked.{Reducer}
 use Rattle.morsel_group.specs.Grouping.{value_in}
 use Rattle.morsel_group.specs.Takes.{placed_rows}
 use Rattle.morsel_group.specs.Parts.{IsPart, updated_part}
-use Rattle.morsel_group.specs.Locals.{Held, held_in, reducer_in, HasRows}
+use Rattle.morsel_group.specs.Locals.{HeldGroups, held_in, reducer_in, HasGroupedRows}
 use Rattle.morsel_group.proofs.CountLemmas.{grown_len}
 use Rattle.morsel_group.proofs.HeldLemmas.{entries_in, reducers_updated}
 use Rattle.morsel_group.proofs.GroupsLemmas.{parts_updated, kinds_updated, held_put, keys_refused, lens_refused}
@@ -89,7 +89,7 @@ returns-clause-rows c rows has =
     all_written g.parts.len c.update_parts.new.parts g.parts.items (omega (arith, g.parts.ok.0, c.update_parts.auto.parts, ap length c.deref_mut.ensures.value)) ∙ c.in-Ok-update_parts.ensures.ok ∙ ap (map (updated_part count place numbers more)) c.deref_mut.ensures.value in
     let counted = c.in-Ok-count_rows.ensures.rows place (map (value_in None) more) (omega (arith, length-map more (value_in None), c.requires.len, c.take_keys.auto.numbers)) in
     let all = subst (λ (ps : List ℕ). NumbersAll (keyed_in g.table).keys (map (cells_at ps) more) numbers new) c.deref.ensures.value c.in-Ok.ensures.numbers in
-    let next : Held = record {
+    let next : HeldGroups = record {
       input = g.input;
       shape = record { keys = g.keys.items; aggs = map reducer_in final };
       output = c.take_keys.new.keys.schema ++ g.reduced;
@@ -98,7 +98,7 @@ returns-clause-rows c rows has =
       counts = c.count_rows.new.counts.entries;
       kept = map entries_in final;
     } in
-    subst (λ (n : ℕ). HasRows next (rows ++ placed_rows (input_place c.args.number n) more)) has.took
+    subst (λ (n : ℕ). HasGroupedRows next (rows ++ placed_rows (input_place c.args.number n) more)) has.took
     (held_put (held_in g) next rows place more numbers g.parts.items has all (omega (arith, c.in-Ok.ensures.count, c.in-Ok.ensures.few)) refl refl
     (ap (λ (rs : List Reducer). record { keys = g.keys.items; aggs = rs }) (ap (map reducer_in) parts_are ∙ reducers_updated count place numbers more g.parts.items))
     c.requires.took
