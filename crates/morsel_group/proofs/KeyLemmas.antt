@@ -59,7 +59,7 @@ new_of_not_among keys key none at e = false≢true (sym none ∙ at_among keys a
 abbrev pub with_key : List Row → Row → List Row
 with_key known key = if is_among key known then known else known ++ key ∷ []
 
-gives_with_key : (old : List Row) (key : Row) (at : ℕ) (new : List Row) → GivesNumber old key at new → new ≡ with_key old key
+pub gives_with_key : (old : List Row) (key : Row) (at : ℕ) (new : List Row) → GivesNumber old key at new → new ≡ with_key old key
 gives_with_key old key at new (inl (held, same)) = same ∙ sym (ap (λ t. if t then old else old ++ key ∷ []) (at_among old at key held))
 gives_with_key old key at new (inr (absent, next, last)) = last ∙ sym (ap (λ t. if t then old else old ++ key ∷ []) (not_among old key absent))
 

@@ -1,3 +1,9 @@
 mod PlanLemmas
 mod KeyLemmas
 mod GroupingLemmas
+mod TakeLemmas
+mod CountLemmas
+mod FreshLemmas
+mod JoinLemmas
+mod HeldLemmas
+mod GroupsLemmas

@@ -3,3 +3,8 @@ pub mod Asked
 pub mod GroupFlaws
 pub mod Grouping
 pub mod Kept
+pub mod Takes
+pub mod Parts
+pub mod Fresh
+pub mod Arrivals
+pub mod Locals

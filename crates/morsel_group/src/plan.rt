@@ -225,7 +225,7 @@ fn output_schema(
 }
 
 /// Puts the fields at these places last.
-fn push_key_fields(
+pub fn push_key_fields(
     alloc: Global,
     fields: &mut Vec<Field>,
     input: &Schema,
@@ -245,7 +245,7 @@ fn push_key_fields(
 }
 
 /// Puts the fields of the reductions last.
-fn push_agg_fields(
+pub fn push_agg_fields(
     alloc: Global,
     fields: &mut Vec<Field>,
     input: &Schema,
@@ -276,7 +276,7 @@ pub fn kind_in(input: &Schema, column: Option<usize>) -> ColType
 }
 
 /// The type of what a reduction says of values of a type.
-fn reduced_kind(op: Reduction, kind: ColType) -> ColType
+pub fn reduced_kind(op: Reduction, kind: ColType) -> ColType
     ensures { result ≡ reduced_kind op kind }
 {
     match op {

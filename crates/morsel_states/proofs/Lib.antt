@@ -1,2 +1,2 @@
 pub mod RowLemmas
-mod PartLemmas
+pub mod PartLemmas
