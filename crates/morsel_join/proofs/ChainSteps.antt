@@ -4,7 +4,7 @@ use Rattle.std.proofs.lemmas.List.{get_or-set_other, get_or-set_same, length-set
 use Rattle.std.proofs.Math.Seq.{drop-cons}
 use Rattle.std.proofs.lemmas.Bool.{cases_eq}
 use Rattle.morsel_join.proofs.InOrders.{Each, places-rise}
-use Rattle.morsel_join.specs.Chains.{Chain, Rises, AreChained}
+use Rattle.morsel_join.specs.Chains.{Chain, LinksRise, AreRowChains}
 use Rattle.morsel_join.specs.Items.{places}
 
 -- a walk from a head has come to a place
@@ -19,7 +19,7 @@ one_more next at j row lefts rights now_lefts now_rights js (k ∷ rest) e c one
     let k_is : k ≡ j = omega (arith, e, c.0) in
     (rest, rw (← k_is) c.1, append_assoc now_lefts (row ∷ []) (map (λ (j : ℕ). row) rest) ∙ one, rw (← k_is, append_assoc now_rights (k ∷ []) rest) same)
 
-pub follow_more : (next : List ℕ) (head at j row : ℕ) (lefts rights now_lefts now_rights : List ℕ) → at ≡ j + 1 → Rises next → Followed next head at row lefts rights now_lefts now_rights
+pub follow_more : (next : List ℕ) (head at j row : ℕ) (lefts rights now_lefts now_rights : List ℕ) → at ≡ j + 1 → LinksRise next → Followed next head at row lefts rights now_lefts now_rights
     → Followed next head (get_or next j 0) row lefts rights (now_lefts ++ row ∷ []) (now_rights ++ j ∷ [])
 follow_more next head at j row lefts rights now_lefts now_rights e r f = record {
   within = (r j).0;
@@ -51,11 +51,11 @@ weaker : (row head len : ℕ) → (head ≤ len) × ((head ≡ 0) ⊎ (row + 1 <
 weaker row head len (a, inl z) = (a, inl z)
 weaker row head len (a, inr m) = (a, inr (omega arith))
 
-old_chain : (numbers first next : List ℕ) (row n : ℕ) → AreChained numbers first next (row + 1) → n < length first → Chain next (get_or first n 0) (places (λ m. m == n) (suc row) (drop (suc row) numbers))
+old_chain : (numbers first next : List ℕ) (row n : ℕ) → AreRowChains numbers first next (row + 1) → n < length first → Chain next (get_or first n 0) (places (λ m. m == n) (suc row) (drop (suc row) numbers))
 old_chain numbers first next row n h b = let e : row + 1 ≡ suc row = omega arith in rw (← e) (h.chain n b)
 
 -- a row whose number is no key's
-pub chained_past : (numbers first next : List ℕ) (row : ℕ) → length first ≤ get_or numbers row 0 → row < length numbers → AreChained numbers first next (row + 1) → AreChained numbers first next row
+pub chained_past : (numbers first next : List ℕ) (row : ℕ) → length first ≤ get_or numbers row 0 → row < length numbers → AreRowChains numbers first next (row + 1) → AreRowChains numbers first next row
 chained_past numbers first next row past l h = record {
   width = h.width;
   rises = h.rises;
@@ -70,7 +70,7 @@ zeros zero i = refl
 zeros (suc n) zero = refl
 zeros (suc n) (suc i) = zeros n i
 
-pub chained_more : (numbers first next : List ℕ) (row key old slot : ℕ) → key ≡ get_or numbers row 0 → old ≡ get_or first key 0 → slot ≡ row + 1 → row < length numbers → key < length first → AreChained numbers first next (row + 1) → AreChained numbers (set first key slot) (set next row old) row
+pub chained_more : (numbers first next : List ℕ) (row key old slot : ℕ) → key ≡ get_or numbers row 0 → old ≡ get_or first key 0 → slot ≡ row + 1 → row < length numbers → key < length first → AreRowChains numbers first next (row + 1) → AreRowChains numbers (set first key slot) (set next row old) row
 chained_more numbers first next row key old slot k o s l w h = record {
   width = length-set next row old ∙ h.width;
   rises = λ j. elim (cases_eq j row) as (λ _. (get_or (set next row old) j 0 ≤ length (set next row old)) × ((get_or (set next row old) j 0 ≡ 0) ⊎ (j + 1 < get_or (set next row old) j 0))) [
@@ -93,7 +93,7 @@ chained_more numbers first next row key old slot k o s l w h = record {
       rw (get_or-set_other first key n slot 0 other) (chain_kept next row old (get_or first n 0) later far (old_chain numbers first next row n h (omega (arith, b, length-set first key slot))))));
 }
 
-pub chained_first : (numbers : List ℕ) (keys : ℕ) → AreChained numbers (replicate keys 0) (replicate (length numbers) 0) (length numbers)
+pub chained_first : (numbers : List ℕ) (keys : ℕ) → AreRowChains numbers (replicate keys 0) (replicate (length numbers) 0) (length numbers)
 chained_first numbers keys = record {
   width = length-replicate (length numbers) 0;
   rises = λ j. rw (zeros (length numbers) j) (omega arith, inl refl);

@@ -3,7 +3,7 @@ use Rattle.std.proofs.Common.{◌≡◌, ◌<◌, [], ◌∷◌, List, ℕ, ◌+
 use Rattle.std.specs.Prelude.{Option}
 use Rattle.std.specs.List.{list_any}
 use Rattle.morsel_join.specs.declared.join_type.JoinType.{JoinType}
-use Rattle.morsel_join.specs.Items.{Item, Both, LoneLeft, LoneRight, left_items, right_items, join_items, wants_left, wants_right, is_item, is_alone, are_paired, same_item, count_of}
+use Rattle.morsel_join.specs.Items.{JoinItem, Both, LoneLeft, LoneRight, left_items, right_items, join_items, wants_left, wants_right, is_item, is_alone, are_paired, same_item, count_of}
 use Rattle.morsel_join.proofs.Weights.{weigh, weighed, weigh-append}
 use Rattle.morsel_join.proofs.Grid.{row, grid, left-weighed, right-weighed}
 
@@ -74,13 +74,13 @@ none-if : (w : Bool) (n : ℕ) → n ≡ 0 → (if w then n else 0) ≡ 0
 none-if true n e = e
 none-if false n e = refl
 
-pub each-once : {X Y : Type 0} (how : JoinType) (same : X → Y → Bool) (xs : List X) (ys : List Y) (item : Item) → count_of item (join_items how same xs ys) ≡ (if is_item how same xs ys item then 1 else 0)
+pub each-once : {X Y : Type 0} (how : JoinType) (same : X → Y → Bool) (xs : List X) (ys : List Y) (item : JoinItem) → count_of item (join_items how same xs ys) ≡ (if is_item how same xs ys item then 1 else 0)
 each-once {X} {Y} how same xs ys item = all item
   where
-    sums : (item : Item) → count_of item (join_items how same xs ys) ≡ weigh (λ other. if same_item item other then 1 else 0) (left_items same (wants_left how) 0 xs ys) + weigh (λ other. if same_item item other then 1 else 0) (right_items same (wants_right how) xs ys)
+    sums : (item : JoinItem) → count_of item (join_items how same xs ys) ≡ weigh (λ other. if same_item item other then 1 else 0) (left_items same (wants_left how) 0 xs ys) + weigh (λ other. if same_item item other then 1 else 0) (right_items same (wants_right how) xs ys)
     sums item = weighed (λ other. if same_item item other then 1 else 0) (join_items how same xs ys) ∙ weigh-append (λ other. if same_item item other then 1 else 0) (left_items same (wants_left how) 0 xs ys) (right_items same (wants_right how) xs ys)
 
-    all : (item : Item) → count_of item (join_items how same xs ys) ≡ (if is_item how same xs ys item then 1 else 0)
+    all : (item : JoinItem) → count_of item (join_items how same xs ys) ≡ (if is_item how same xs ys item then 1 else 0)
     all (Both a b) =
         let s = sums (Both a b) in
         let l = left-weighed same (wants_left how) (λ other. if same_item (Both a b) other then 1 else 0) 0 xs ys in

@@ -1,7 +1,7 @@
 -- Lists in order: what is put together of two, and the items with a left row.
 use Rattle.std.proofs.Common.{◌≡◌, ◌≤◌, ◌<◌, ◌++◌, [], ◌∷◌, List, ℕ, suc, arith, refl, Bool, true, false, if◌then◌else◌, map, inr}
 use Rattle.morsel_meaning.specs.Sequences.{AllAfter, InOrder}
-use Rattle.morsel_join.specs.Items.{Item, Both, places, or_lone, left_items, BeforeBoth, left_of, right_of}
+use Rattle.morsel_join.specs.Items.{JoinItem, Both, places, or_lone, left_items, BeforeBoth, left_of, right_of}
 
 -- each of one list before all of another
 abbrev pub AllEach : {X : Type 0} → (X → X → Type 0) → List X → List X → Type 0
@@ -46,7 +46,7 @@ pub places-rise : {Y : Type 0} (test : Y → Bool) (j : ℕ) (ys : List Y) → E
 places-rise test j [] = tt
 places-rise test j (y ∷ ys) = rise-step (test y) j (places test (suc j) ys) (Each-weaker (λ k. suc j ≤ k) (λ k. j ≤ k) (λ k l. omega arith) (places test (suc j) ys) (places-rise test (suc j) ys))
 
-abbrev LeftRight : Item → Item → Type 0
+abbrev LeftRight : JoinItem → JoinItem → Type 0
 LeftRight a b = BeforeBoth left_of right_of a b
 
 pair-order : (i : ℕ) (j k : ℕ) → j ≤ k → LeftRight (Both i j) (Both i k)

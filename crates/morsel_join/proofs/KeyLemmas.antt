@@ -10,19 +10,19 @@ use Rattle.morsel_meaning.specs.declared.fault.Fault.TheVariants.{SchemaMismatch
 use Rattle.morsel_meaning.specs.Values.{kinds_of}
 use Rattle.morsel_frame.specs.Tables.{same_kind, fields_at}
 use Rattle.morsel_frame.proofs.SelectLemmas.{fields_at-more}
-use Rattle.morsel_join.specs.Payloads.{place_of, key_places, key_absence, absence_before, type_fault}
+use Rattle.morsel_join.specs.Payloads.{key_place, key_places, key_absence, absence_before, type_fault}
 
 -- one key more is found
-pub key-done : (fields : List Field) (keys : List (List ℕ)) (i at : ℕ) (name text : List ℕ) (places new : List ℕ) → text ≡ name → i < length keys → name ≡ get_or keys i name → place_of fields text ≡ Some at → places ≡ key_places fields (take i keys) → new ≡ places ++ at ∷ [] → new ≡ key_places fields (take (i + 1) keys)
+pub key-done : (fields : List Field) (keys : List (List ℕ)) (i at : ℕ) (name text : List ℕ) (places new : List ℕ) → text ≡ name → i < length keys → name ≡ get_or keys i name → key_place fields text ≡ Some at → places ≡ key_places fields (take i keys) → new ≡ places ++ at ∷ [] → new ≡ key_places fields (take (i + 1) keys)
 key-done fields keys i at name text places new same l read found done is =
-    let here : unwrap_or (place_of fields (get_or keys i name)) 0 ≡ at = ap (λ (n : List ℕ). unwrap_or (place_of fields n) 0) (sym read ∙ sym same) ∙ ap (λ (o : Option ℕ). unwrap_or o 0) found in
-    is ∙ ap (λ xs. xs ++ at ∷ []) done ∙ ap (λ n. key_places fields (take i keys) ++ n ∷ []) (sym here) ∙ sym (map_more (λ (n : List ℕ). unwrap_or (place_of fields n) 0) keys i name l)
+    let here : unwrap_or (key_place fields (get_or keys i name)) 0 ≡ at = ap (λ (n : List ℕ). unwrap_or (key_place fields n) 0) (sym read ∙ sym same) ∙ ap (λ (o : Option ℕ). unwrap_or o 0) found in
+    is ∙ ap (λ xs. xs ++ at ∷ []) done ∙ ap (λ n. key_places fields (take i keys) ++ n ∷ []) (sym here) ∙ sym (map_more (λ (n : List ℕ). unwrap_or (key_place fields n) 0) keys i name l)
 
 -- the first key that is no column is one of those from a place on
-pub key-due : (fields : List Field) (keys : List (List ℕ)) (i : ℕ) (name text : List ℕ) (o : Option ℕ) → text ≡ name → i < length keys → name ≡ get_or keys i name → place_of fields text ≡ o → key_absence fields (drop i keys) ≡ absence_before text o (key_absence fields (drop (i + 1) keys))
+pub key-due : (fields : List Field) (keys : List (List ℕ)) (i : ℕ) (name text : List ℕ) (o : Option ℕ) → text ≡ name → i < length keys → name ≡ get_or keys i name → key_place fields text ≡ o → key_absence fields (drop i keys) ≡ absence_before text o (key_absence fields (drop (i + 1) keys))
 key-due fields keys i name text o same l read found =
     at_drop_more (key_absence fields) keys i name l
-    ∙ ap (λ (n : List ℕ). absence_before n (place_of fields n) (key_absence fields (drop (i + 1) keys))) (sym read ∙ sym same)
+    ∙ ap (λ (n : List ℕ). absence_before n (key_place fields n) (key_absence fields (drop (i + 1) keys))) (sym read ∙ sym same)
     ∙ ap (λ (p : Option ℕ). absence_before text p (key_absence fields (drop (i + 1) keys))) found
 
 -- one type more

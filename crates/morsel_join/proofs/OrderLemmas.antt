@@ -6,7 +6,7 @@ use Rattle.morsel_frame.specs.Tables.{cells_at}
 use Rattle.morsel_join.specs.declared.join_type.JoinType.{JoinType}
 use Rattle.morsel_join.specs.declared.join_type.MaintainOrderJoin.{MaintainOrderJoin}
 use Rattle.morsel_join.specs.declared.join_type.MaintainOrderJoin.TheVariants as orders
-use Rattle.morsel_join.specs.Items.{Item, Both, LoneLeft, LoneRight, places, or_lone, left_items, right_items, join_items, wants_left, wants_right, IsPromised}
+use Rattle.morsel_join.specs.Items.{JoinItem, Both, LoneLeft, LoneRight, places, or_lone, left_items, right_items, join_items, wants_left, wants_right, IsPromised}
 use Rattle.morsel_join.specs.Laws.{mirrored}
 use Rattle.morsel_join.specs.Chains.{left_mark, right_mark}
 use Rattle.morsel_join.specs.Probes.{PutsItems}
@@ -31,20 +31,20 @@ right-test : {X Y : Type 0} (same other : X → Y → Bool) (wanted : Bool) (xs 
 right-test same other false xs ys h = refl
 right-test same other true xs ys h = ap (map LoneRight) (places-test (λ y. not (list_any (λ x. same x y) xs)) (λ y. not (list_any (λ x. other x y) xs)) 0 ys (λ y. ap not (any-test (λ x. same x y) (λ x. other x y) xs (λ x. h x y))))
 
-left-mirrored : (list : List Item) → map left_mark (map mirrored list) ≡ map right_mark list
+left-mirrored : (list : List JoinItem) → map left_mark (map mirrored list) ≡ map right_mark list
 left-mirrored [] = refl
 left-mirrored (Both i j ∷ list) = ap (λ ns. j ∷ ns) (left-mirrored list)
 left-mirrored (LoneLeft i ∷ list) = ap (λ ns. right_mark (LoneLeft i) ∷ ns) (left-mirrored list)
 left-mirrored (LoneRight j ∷ list) = ap (λ ns. j ∷ ns) (left-mirrored list)
 
-right-mirrored : (list : List Item) → map right_mark (map mirrored list) ≡ map left_mark list
+right-mirrored : (list : List JoinItem) → map right_mark (map mirrored list) ≡ map left_mark list
 right-mirrored [] = refl
 right-mirrored (Both i j ∷ list) = ap (λ ns. i ∷ ns) (right-mirrored list)
 right-mirrored (LoneLeft i ∷ list) = ap (λ ns. i ∷ ns) (right-mirrored list)
 right-mirrored (LoneRight j ∷ list) = ap (λ ns. left_mark (LoneRight j) ∷ ns) (right-mirrored list)
 
 -- the orders that are kept where the right rows are kept by their keys
-order-straight : (how : JoinType) (order : MaintainOrderJoin) (list : List Item) → keeps_left how order ≡ false → IsPromised orders.LeftRight list → IsPromised order list
+order-straight : (how : JoinType) (order : MaintainOrderJoin) (list : List JoinItem) → keeps_left how order ≡ false → IsPromised orders.LeftRight list → IsPromised order list
 order-straight how orders.None list keeps held = any-promised list
 order-straight how orders.Left list keeps held = left-promised list held
 order-straight how orders.LeftRight list keeps held = held
@@ -52,7 +52,7 @@ order-straight how orders.Right list keeps held = absurd (cc)
 order-straight how orders.RightLeft list keeps held = absurd (cc)
 
 -- and where the left rows are
-order-mirrored : (how : JoinType) (order : MaintainOrderJoin) (list : List Item) → keeps_left how order ≡ true → IsPromised orders.RightLeft list → IsPromised order list
+order-mirrored : (how : JoinType) (order : MaintainOrderJoin) (list : List JoinItem) → keeps_left how order ≡ true → IsPromised orders.RightLeft list → IsPromised order list
 order-mirrored how orders.None list keeps held = any-promised list
 order-mirrored how orders.Left list keeps held = absurd (cc)
 order-mirrored how orders.LeftRight list keeps held = absurd (cc)
@@ -80,7 +80,7 @@ items-exchanged rules lefts rights left_marks right_marks keeps put =
     let same : Row → Row → Bool = λ x y. rows_match rules.join_nulls rules.left_keys.items rules.right_keys.items x y in
     let flipped : Row → Row → Bool = λ y x. rows_match rules.join_nulls rules.right_keys.items rules.left_keys.items y x in
     let turned : (y x : Row) → flipped y x ≡ same x y = λ (y x : Row). keys-mirrored rules.join_nulls (cells_at rules.right_keys.items y) (cells_at rules.left_keys.items x) in
-    let list : List Item = left_items flipped (wants_right rules.how) 0 rights lefts ++ right_items flipped (wants_left rules.how) rights lefts in
+    let list : List JoinItem = left_items flipped (wants_right rules.how) 0 rights lefts ++ right_items flipped (wants_left rules.how) rights lefts in
     let alike : left_items (λ y x. same x y) (wants_right rules.how) 0 rights lefts ++ right_items (λ y x. same x y) (wants_left rules.how) rights lefts ≡ list =
     ap (λ items. items ++ right_items (λ y x. same x y) (wants_left rules.how) rights lefts) (left-test (λ y x. same x y) flipped (wants_right rules.how) 0 rights lefts (λ (y x : Row). sym (turned y x)))
     ∙ ap (λ items. left_items flipped (wants_right rules.how) 0 rights lefts ++ items) (right-test (λ y x. same x y) flipped (wants_left rules.how) rights lefts (λ (y x : Row). sym (turned y x))) in

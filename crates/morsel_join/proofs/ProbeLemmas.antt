@@ -2,9 +2,9 @@
 use Rattle.std.proofs.Common.{◌≡◌, ◌<◌, ◌≤◌, ◌++◌, [], ◌∷◌, List, ℕ, ◌+◌, suc, zero, length, take, get_or, arith, refl, ap, ◌∙◌, sym, subst, Bool, true, false, not, ◌==◌, if◌then◌else◌, map, nat_lt, append_assoc}
 use Rattle.std.proofs.lemmas.List.{map-append, take_more, length-take-le}
 use Rattle.morsel_frame.specs.Columns.{no_row}
-use Rattle.morsel_join.specs.Items.{Item, Both, LoneRight, places, or_lone, left_items}
-use Rattle.morsel_join.specs.Chains.{Chain, AreChained, same_number, left_mark, right_mark}
-use Rattle.morsel_join.specs.Probes.{PutsItems, PutsChain, PutsRow, PutsRows, PutsLone}
+use Rattle.morsel_join.specs.Items.{JoinItem, Both, LoneRight, places, or_lone, left_items}
+use Rattle.morsel_join.specs.Chains.{Chain, AreRowChains, same_number, left_mark, right_mark}
+use Rattle.morsel_join.specs.Probes.{PutsItems, PutsChain, PutsRow, PutsLookedUp, PutsLone}
 
 append-nil : {X : Type 0} (xs : List X) → xs ++ [] ≡ xs
 append-nil [] = refl
@@ -15,7 +15,7 @@ pub puts-none : (lefts rights : List ℕ) → PutsItems [] lefts rights lefts ri
 puts-none lefts rights = record { left_side = sym (append-nil lefts); right_side = sym (append-nil rights) }
 
 -- items were put, and then others
-pub puts-more : (items more : List Item) (lefts rights mid_lefts mid_rights new_lefts new_rights : List ℕ) → PutsItems items lefts rights mid_lefts mid_rights → PutsItems more mid_lefts mid_rights new_lefts new_rights → PutsItems (items ++ more) lefts rights new_lefts new_rights
+pub puts-more : (items more : List JoinItem) (lefts rights mid_lefts mid_rights new_lefts new_rights : List ℕ) → PutsItems items lefts rights mid_lefts mid_rights → PutsItems more mid_lefts mid_rights new_lefts new_rights → PutsItems (items ++ more) lefts rights new_lefts new_rights
 puts-more items more lefts rights mid_lefts mid_rights new_lefts new_rights a b = record {
   left_side = b.left_side ∙ ap (λ xs. xs ++ map left_mark more) a.left_side ∙ append_assoc lefts (map left_mark items) (map left_mark more) ∙ ap (λ xs. lefts ++ xs) (sym (map-append left_mark items more));
   right_side = b.right_side ∙ ap (λ xs. xs ++ map right_mark more) a.right_side ∙ append_assoc rights (map right_mark items) (map right_mark more) ∙ ap (λ xs. rights ++ xs) (sym (map-append right_mark items more));
@@ -66,7 +66,7 @@ past-end (x ∷ first) zero past = absurd (omega (arith, past))
 past-end (x ∷ first) (suc n) past = past-end first n (omega (arith, past))
 
 -- the rows of a key's number stand in the chain of its link
-pub number-chain : (build first next : List ℕ) (n : ℕ) → AreChained build first next 0 → Chain next (get_or first n 0) (places (same_number (length first) n) 0 build)
+pub number-chain : (build first next : List ℕ) (n : ℕ) → AreRowChains build first next 0 → Chain next (get_or first n 0) (places (same_number (length first) n) 0 build)
 number-chain build first next n h = by (nat_lt n (length first)) refl
   where
     by : (t : Bool) → nat_lt n (length first) ≡ t → Chain next (get_or first n 0) (places (same_number (length first) n) 0 build)
@@ -89,12 +89,12 @@ items-more keys wanted numbers build row l =
     ∙ ap (λ t. left_items (same_number keys) wanted 0 (take row numbers) build ++ t) (append-nil (or_lone wanted row (places (same_number keys n) 0 build)))
 
 -- one row more is looked up
-pub rows-more : (build first next numbers : List ℕ) (wanted : Bool) (row head : ℕ) (lefts rights mid_lefts mid_rights new_lefts new_rights : List ℕ) → row < length numbers → head ≡ get_or first (get_or numbers row 0) 0 → AreChained build first next 0
-    → PutsRows (length first) build (take row numbers) wanted lefts rights mid_lefts mid_rights → PutsRow next head wanted row mid_lefts mid_rights new_lefts new_rights → PutsRows (length first) build (take (row + 1) numbers) wanted lefts rights new_lefts new_rights
+pub rows-more : (build first next numbers : List ℕ) (wanted : Bool) (row head : ℕ) (lefts rights mid_lefts mid_rights new_lefts new_rights : List ℕ) → row < length numbers → head ≡ get_or first (get_or numbers row 0) 0 → AreRowChains build first next 0
+    → PutsLookedUp (length first) build (take row numbers) wanted lefts rights mid_lefts mid_rights → PutsRow next head wanted row mid_lefts mid_rights new_lefts new_rights → PutsLookedUp (length first) build (take (row + 1) numbers) wanted lefts rights new_lefts new_rights
 rows-more build first next numbers wanted row head lefts rights mid_lefts mid_rights new_lefts new_rights l is h a b =
     let js = places (same_number (length first) (get_or numbers row 0)) 0 build in
     let c : Chain next head js = subst (λ (n : ℕ). Chain next n js) (sym is) (number-chain build first next (get_or numbers row 0) h) in
-    subst (λ (items : List Item). PutsItems items lefts rights new_lefts new_rights) (sym (items-more (length first) wanted numbers build row l))
+    subst (λ (items : List JoinItem). PutsItems items lefts rights new_lefts new_rights) (sym (items-more (length first) wanted numbers build row l))
     (puts-more (left_items (same_number (length first)) wanted 0 (take row numbers) build) (or_lone wanted row js) lefts rights mid_lefts mid_rights new_lefts new_rights a (b js c))
 
 places-append : {X : Type 0} (test : X → Bool) (at k : ℕ) (xs ys : List X) → k ≡ length xs + at → places test at (xs ++ ys) ≡ places test at xs ++ places test k ys
@@ -110,10 +110,10 @@ pub lone-more : (seen : List Bool) (numbers : List ℕ) (row number : ℕ) (left
     → PutsLone seen 0 (take row numbers) lefts rights mid_lefts mid_rights → PutsLone seen row (number ∷ []) mid_lefts mid_rights new_lefts new_rights → PutsLone seen 0 (take (row + 1) numbers) lefts rights new_lefts new_rights
 lone-more seen numbers row number lefts rights mid_lefts mid_rights new_lefts new_rights l is a b =
     let test : ℕ → Bool = λ m. not (get_or seen m false) in
-    let front : List Item = map LoneRight (places test 0 (take row numbers)) in
-    let back : List Item = map LoneRight (places test row (number ∷ [])) in
+    let front : List JoinItem = map LoneRight (places test 0 (take row numbers)) in
+    let back : List JoinItem = map LoneRight (places test row (number ∷ [])) in
     let all : map LoneRight (places test 0 (take (row + 1) numbers)) ≡ front ++ back =
     ap (λ ms. map LoneRight (places test 0 ms)) (take_more numbers row 0 l ∙ ap (λ n. take row numbers ++ n ∷ []) (sym is))
     ∙ ap (map LoneRight) (places-append test 0 row (take row numbers) (number ∷ []) (omega (arith, length-take-le row numbers (omega (arith, l)))))
     ∙ map-append LoneRight (places test 0 (take row numbers)) (places test row (number ∷ [])) in
-    subst (λ (items : List Item). PutsItems items lefts rights new_lefts new_rights) (sym all) (puts-more front back lefts rights mid_lefts mid_rights new_lefts new_rights a b)
+    subst (λ (items : List JoinItem). PutsItems items lefts rights new_lefts new_rights) (sym all) (puts-more front back lefts rights mid_lefts mid_rights new_lefts new_rights a b)

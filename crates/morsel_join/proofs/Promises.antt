@@ -4,11 +4,11 @@ use Rattle.morsel_join.specs.declared.join_type.JoinType.{JoinType}
 use Rattle.morsel_join.specs.declared.join_type.MaintainOrderJoin.TheVariants as orders
 use Rattle.std.specs.List.{list_any}
 use Rattle.morsel_meaning.specs.Sequences.{AllAfter, InOrder}
-use Rattle.morsel_join.specs.Items.{Item, Both, LoneLeft, LoneRight, places, left_items, right_items, join_items, wants_left, wants_right, Before, BeforeBoth, IsPromised, left_of, right_of}
+use Rattle.morsel_join.specs.Items.{JoinItem, Both, LoneLeft, LoneRight, places, left_items, right_items, join_items, wants_left, wants_right, Before, BeforeBoth, IsPromised, left_of, right_of}
 use Rattle.morsel_join.proofs.InOrders.{Each, Each-weaker, AllEach-by, InOrder-append, places-rise, left-from, left-in_order}
 use Rattle.morsel_join.specs.Laws.{mirrored}
 
-abbrev LeftRight : Item → Item → Type 0
+abbrev LeftRight : JoinItem → JoinItem → Type 0
 LeftRight a b = BeforeBoth left_of right_of a b
 
 lone-after : (j : ℕ) (js : List ℕ) → Each (λ k. j ≤ k) js → AllAfter LeftRight (LoneRight j) (map LoneRight js)
@@ -45,48 +45,48 @@ halves-promised l r same xs ys = InOrder-append LeftRight (left_items same l 0 x
 pub items-promised : {X Y : Type 0} (how : JoinType) (same : X → Y → Bool) (xs : List X) (ys : List Y) → IsPromised orders.LeftRight (join_items how same xs ys)
 items-promised how same xs ys = halves-promised (wants_left how) (wants_right how) same xs ys
 
-after-map : (R S : Item → Item → Type 0) (g : Item → Item) → ((a b : Item) → R a b → S (g a) (g b)) → (a : Item) (bs : List Item) → AllAfter R a bs → AllAfter S (g a) (map g bs)
+after-map : (R S : JoinItem → JoinItem → Type 0) (g : JoinItem → JoinItem) → ((a b : JoinItem) → R a b → S (g a) (g b)) → (a : JoinItem) (bs : List JoinItem) → AllAfter R a bs → AllAfter S (g a) (map g bs)
 after-map R S g f a [] h = tt
 after-map R S g f a (b ∷ bs) h = (f a b h.0, after-map R S g f a bs h.1)
 
-pub in_order-map : (R S : Item → Item → Type 0) (g : Item → Item) → ((a b : Item) → R a b → S (g a) (g b)) → (list : List Item) → InOrder R list → InOrder S (map g list)
+pub in_order-map : (R S : JoinItem → JoinItem → Type 0) (g : JoinItem → JoinItem) → ((a b : JoinItem) → R a b → S (g a) (g b)) → (list : List JoinItem) → InOrder R list → InOrder S (map g list)
 in_order-map R S g f [] h = tt
 in_order-map R S g f (a ∷ more) h = (after-map R S g f a more h.0, in_order-map R S g f more h.1)
 
-left-of-mirrored : (a : Item) → left_of (mirrored a) ≡ right_of a
+left-of-mirrored : (a : JoinItem) → left_of (mirrored a) ≡ right_of a
 left-of-mirrored (Both i j) = refl
 left-of-mirrored (LoneLeft i) = refl
 left-of-mirrored (LoneRight j) = refl
 
-right-of-mirrored : (a : Item) → right_of (mirrored a) ≡ left_of a
+right-of-mirrored : (a : JoinItem) → right_of (mirrored a) ≡ left_of a
 right-of-mirrored (Both i j) = refl
 right-of-mirrored (LoneLeft i) = refl
 right-of-mirrored (LoneRight j) = refl
 
-pub promised-mirrored : (list : List Item) → IsPromised orders.LeftRight list → IsPromised orders.RightLeft (map mirrored list)
+pub promised-mirrored : (list : List JoinItem) → IsPromised orders.LeftRight list → IsPromised orders.RightLeft (map mirrored list)
 promised-mirrored list h = in_order-map LeftRight (λ a b. BeforeBoth right_of left_of a b) mirrored
     (λ a b r. rw (left-of-mirrored a, left-of-mirrored b, right-of-mirrored a, right-of-mirrored b) r) list h
 
 -- a weaker promise of a stronger one
-after-weaker : (first second : Item → ℕ) (a : Item) (bs : List Item) → AllAfter (λ c d. BeforeBoth first second c d) a bs → AllAfter (λ c d. Before first c d) a bs
+after-weaker : (first second : JoinItem → ℕ) (a : JoinItem) (bs : List JoinItem) → AllAfter (λ c d. BeforeBoth first second c d) a bs → AllAfter (λ c d. Before first c d) a bs
 after-weaker first second a [] h = tt
 after-weaker first second a (b ∷ bs) h = (h.0.0, after-weaker first second a bs h.1)
 
-weaker : (first second : Item → ℕ) (list : List Item) → InOrder (λ c d. BeforeBoth first second c d) list → InOrder (λ c d. Before first c d) list
+weaker : (first second : JoinItem → ℕ) (list : List JoinItem) → InOrder (λ c d. BeforeBoth first second c d) list → InOrder (λ c d. Before first c d) list
 weaker first second [] h = tt
 weaker first second (a ∷ more) h = (after-weaker first second a more h.0, weaker first second more h.1)
 
-pub left-promised : (list : List Item) → IsPromised orders.LeftRight list → IsPromised orders.Left list
+pub left-promised : (list : List JoinItem) → IsPromised orders.LeftRight list → IsPromised orders.Left list
 left-promised list h = weaker left_of right_of list h
 
-pub right-promised : (list : List Item) → IsPromised orders.RightLeft list → IsPromised orders.Right list
+pub right-promised : (list : List JoinItem) → IsPromised orders.RightLeft list → IsPromised orders.Right list
 right-promised list h = weaker right_of left_of list h
 
-after-any : (a : Item) (bs : List Item) → AllAfter (λ c d. Unit {0}) a bs
+after-any : (a : JoinItem) (bs : List JoinItem) → AllAfter (λ c d. Unit {0}) a bs
 after-any a [] = tt
 after-any a (b ∷ bs) = (tt, after-any a bs)
 
 -- any order is promised where none is
-pub any-promised : (list : List Item) → IsPromised orders.None list
+pub any-promised : (list : List JoinItem) → IsPromised orders.None list
 any-promised [] = tt
 any-promised (a ∷ more) = (after-any a more, any-promised more)

@@ -3,20 +3,20 @@ use Rattle.std.specs.Prelude.{◌≡◌, List, if◌then◌else◌, map}
 use Rattle.morsel_join.specs.declared.join_type.JoinType.{JoinType}
 use Rattle.morsel_join.specs.declared.join_type.JoinType.TheVariants as kinds
 use Rattle.morsel_join.specs.declared.join_type.MaintainOrderJoin.TheVariants as orders
-use Rattle.morsel_join.specs.Items.{Item, Both, LoneLeft, LoneRight, join_items, JoinItems, IsPromised, is_item, count_of}
+use Rattle.morsel_join.specs.Items.{JoinItem, Both, LoneLeft, LoneRight, join_items, JoinItems, IsPromised, is_item, count_of}
 use Rattle.std.specs.Prelude.{Bool}
 
 -- the items of a join stand once each in its lists, and nothing else stands there
-abbrev pub HasEachOnce : Type 0 → Type 0 → Type 0
-HasEachOnce X Y = (how : JoinType) (same : X → Y → Bool) (xs : List X) (ys : List Y) (list : List Item) → JoinItems how same xs ys list
-    → (item : Item) → count_of item list ≡ (if is_item how same xs ys item then 1 else 0)
+abbrev pub HasItemsOnce : Type 0 → Type 0 → Type 0
+HasItemsOnce X Y = (how : JoinType) (same : X → Y → Bool) (xs : List X) (ys : List Y) (list : List JoinItem) → JoinItems how same xs ys list
+    → (item : JoinItem) → count_of item list ≡ (if is_item how same xs ys item then 1 else 0)
 
 -- in the list of the items, they come by the left row and then by the right one
 abbrev pub ComesByLeftRight : Type 0 → Type 0 → Type 0
 ComesByLeftRight X Y = (how : JoinType) (same : X → Y → Bool) (xs : List X) (ys : List Y) → IsPromised orders.LeftRight (join_items how same xs ys)
 
 -- an item with its sides exchanged
-abbrev pub mirrored : Item → Item
+abbrev pub mirrored : JoinItem → JoinItem
 mirrored (Both i j) = Both j i
 mirrored (LoneLeft i) = LoneRight i
 mirrored (LoneRight j) = LoneLeft j
@@ -34,8 +34,8 @@ IsMirrored X Y = (how : JoinType) (same : X → Y → Bool) (xs : List X) (ys : 
 
 -- and they come by the right row and then by the left one
 abbrev pub MirrorsOrder : Type 0
-MirrorsOrder = (list : List Item) → IsPromised orders.LeftRight list → IsPromised orders.RightLeft (map mirrored list)
+MirrorsOrder = (list : List JoinItem) → IsPromised orders.LeftRight list → IsPromised orders.RightLeft (map mirrored list)
 
 -- who keeps the stronger order keeps the weaker one of the same side, and any order is promised where none is asked
 abbrev pub KeepsWeaker : Type 0
-KeepsWeaker = (list : List Item) → (IsPromised orders.LeftRight list → IsPromised orders.Left list) × (IsPromised orders.RightLeft list → IsPromised orders.Right list) × IsPromised orders.None list
+KeepsWeaker = (list : List JoinItem) → (IsPromised orders.LeftRight list → IsPromised orders.Left list) × (IsPromised orders.RightLeft list → IsPromised orders.Right list) × IsPromised orders.None list

@@ -70,12 +70,12 @@ abbrev pub join_fields : JoinArgs → List Field → List Field → List (List �
 join_fields args left right left_keys right_keys = named_fields (left_names args left_keys left) left ++ named_fields (right_names args right_keys (names_of left) right) right
 
 -- the place of a column of this name
-abbrev pub place_of : List Field → List ℕ → Option ℕ
-place_of fields name = position (λ f. bytes_eq f.name name) fields
+abbrev pub key_place : List Field → List ℕ → Option ℕ
+key_place fields name = position (λ f. bytes_eq f.name name) fields
 
 -- the places of keys, all of which are columns
 abbrev pub key_places : List Field → List (List ℕ) → List ℕ
-key_places fields keys = map (λ name. unwrap_or (place_of fields name) 0) keys
+key_places fields keys = map (λ name. unwrap_or (key_place fields name) 0) keys
 
 -- no fault where the key is there, and what follows then
 abbrev pub absence_before : List ℕ → Option ℕ → Option Fault → Option Fault
@@ -85,7 +85,7 @@ absence_before name (Some at) later = later
 -- the fault of the first key that is no column
 abbrev pub key_absence : List Field → List (List ℕ) → Option Fault
 key_absence fields [] = None
-key_absence fields (name ∷ names) = absence_before name (place_of fields name) (key_absence fields names)
+key_absence fields (name ∷ names) = absence_before name (key_place fields name) (key_absence fields names)
 
 -- the fault of the first pair of keys whose types differ, which names the left one
 abbrev pub type_fault : List (List ℕ) → List ColType → List ColType → Option Fault

@@ -1,10 +1,10 @@
 -- What is put of rows that are looked up: a left and a right row number for each item.
 use Rattle.std.specs.Prelude.{◌≡◌, ◌++◌, ℕ, Bool, false, not, List, [], ◌∷◌, map, get_or}
-use Rattle.morsel_join.specs.Items.{Item, LoneRight, places, or_lone, left_items}
+use Rattle.morsel_join.specs.Items.{JoinItem, LoneRight, places, or_lone, left_items}
 use Rattle.morsel_join.specs.Chains.{Chain, same_number, left_mark, right_mark}
 
 -- the marks of items were put last
-pub record PutsItems (items : List Item) (lefts rights new_lefts new_rights : List ℕ) : Type 0 where
+pub record PutsItems (items : List JoinItem) (lefts rights new_lefts new_rights : List ℕ) : Type 0 where
   pub left_side : new_lefts ≡ lefts ++ map left_mark items
   pub right_side : new_rights ≡ rights ++ map right_mark items
 
@@ -17,8 +17,8 @@ abbrev pub PutsRow : List ℕ → ℕ → Bool → ℕ → List ℕ → List ℕ
 PutsRow next head wanted row lefts rights new_lefts new_rights = (js : List ℕ) → Chain next head js → PutsItems (or_lone wanted row js) lefts rights new_lefts new_rights
 
 -- the items of rows were put, by the numbers of keys
-abbrev pub PutsRows : ℕ → List ℕ → List ℕ → Bool → List ℕ → List ℕ → List ℕ → List ℕ → Type 0
-PutsRows keys build numbers wanted lefts rights new_lefts new_rights = PutsItems (left_items (same_number keys) wanted 0 numbers build) lefts rights new_lefts new_rights
+abbrev pub PutsLookedUp : ℕ → List ℕ → List ℕ → Bool → List ℕ → List ℕ → List ℕ → List ℕ → Type 0
+PutsLookedUp keys build numbers wanted lefts rights new_lefts new_rights = PutsItems (left_items (same_number keys) wanted 0 numbers build) lefts rights new_lefts new_rights
 
 -- rows were put whose keys are not marked, from one place on
 abbrev pub PutsLone : List Bool → ℕ → List ℕ → List ℕ → List ℕ → List ℕ → List ℕ → Type 0

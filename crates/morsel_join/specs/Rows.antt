@@ -17,7 +17,7 @@ use Rattle.morsel_join.specs.Chains.{left_mark, right_mark}
 use Rattle.morsel_join.specs.declared.rules.JoinColumn.{JoinColumn}
 use Rattle.morsel_join.specs.declared.rules.JoinColumn.TheVariants as columns
 use Rattle.morsel_join.specs.declared.rules.JoinRules.{JoinRules}
-use Rattle.morsel_join.specs.Items.{Item, Both, LoneLeft, LoneRight, JoinItems, IsPromised}
+use Rattle.morsel_join.specs.Items.{JoinItem, Both, LoneLeft, LoneRight, JoinItems, IsPromised}
 use Rattle.morsel_join.specs.declared.payload.JoinArgs.{JoinArgs}
 use Rattle.morsel_join.specs.Payloads.{FitKeys, left_names, right_names, merged_keys, key_places}
 
@@ -37,13 +37,13 @@ abbrev pub rows_match : Bool → List ℕ → List ℕ → Row → Row → Bool
 rows_match nulls lefts rights x y = keys_match nulls (cells_at lefts x) (cells_at rights y)
 
 -- the left row of an item, which has no value where there is none
-abbrev pub left_row : List Row → Item → Row
+abbrev pub left_row : List Row → JoinItem → Row
 left_row rows (Both i j) = get_or rows i []
 left_row rows (LoneLeft i) = get_or rows i []
 left_row rows (LoneRight j) = []
 
 -- the right row of an item, which has no value where there is none
-abbrev pub right_row : List Row → Item → Row
+abbrev pub right_row : List Row → JoinItem → Row
 right_row rows (Both i j) = get_or rows j []
 right_row rows (LoneLeft i) = []
 right_row rows (LoneRight j) = get_or rows j []
@@ -59,7 +59,7 @@ column_value x y (columns.Right at) = cell_at at y
 column_value x y (columns.Either left right) = first_value (cell_at left x) (cell_at right y)
 
 -- the row of an item
-abbrev pub item_row : List JoinColumn → List Row → List Row → Item → Row
+abbrev pub item_row : List JoinColumn → List Row → List Row → JoinItem → Row
 item_row cs lefts rights item = map (column_value (left_row lefts item) (right_row rights item)) cs
 
 -- the type at a place, of a side's columns
@@ -93,7 +93,7 @@ pub record FitRules (left right : List Field) (rules : JoinRules) : Type 0 where
 -- the rows of a join: of a list that has each of its items once, in the promised order
 pub record IsJoin (rules : JoinRules) (left right out : Table) : Type 0 where
   pub schema : out.schema ≡ rules.output
-  pub items : List Item
+  pub items : List JoinItem
   pub once : JoinItems rules.how (rows_match rules.join_nulls rules.left_keys.items rules.right_keys.items) left.rows right.rows items
   pub promised : IsPromised rules.maintain_order items
   pub rows : out.rows ≡ map (item_row rules.columns.items left.rows right.rows) items
@@ -144,7 +144,7 @@ keeps_left how orders.RightLeft = true
 
 -- the row numbers of both sides are those of a list that has each item of a join once, in the promised order
 pub record HasItems (rules : JoinRules) (lefts rights : List Row) (left_marks right_marks : List ℕ) : Type 0 where
-  pub items : List Item
+  pub items : List JoinItem
   pub once : JoinItems rules.how (rows_match rules.join_nulls rules.left_keys.items rules.right_keys.items) lefts rights items
   pub promised : IsPromised rules.maintain_order items
   pub left_side : left_marks ≡ map left_mark items

@@ -1,6 +1,6 @@
 //! The rows of each key, as chains of row numbers, and what rows of the other side find there.
 ghost use Rattle.std.specs.Prelude.{◌≡◌, ◌<◌, ◌+◌, ◌^◌, length, IfOk, IsOkUnless};
-ghost use Rattle.morsel_join.specs.Chains.{AreChained, AreLinked};
+ghost use Rattle.morsel_join.specs.Chains.{AreRowChains, AreLinked};
 
 use morsel_meaning::Fault;
 use std::alloc::Global;
@@ -27,8 +27,8 @@ pub fn chains(alloc: Global, numbers: &[u32], keys: usize) -> Result<(Vec<u32>, 
 fn link(first: &mut Vec<u32>, next: &mut Vec<u32>, numbers: &[u32], row: usize)
     requires within { row < length numbers.now }
     requires short { length numbers.now < 2 ^ 32 }
-    requires chained { AreChained numbers.now first.old.items next.old.items (row + 1) }
-    ensures chained { AreChained numbers.now first.new.items next.new.items row }
+    requires chained { AreRowChains numbers.now first.old.items next.old.items (row + 1) }
+    ensures chained { AreRowChains numbers.now first.new.items next.new.items row }
     ensures len { length first.new.items ≡ length first.old.items }
 {
     let key = numbers[row] as usize;

@@ -1,10 +1,10 @@
 //! Laws of the items of joins, each the contract of a function that does nothing.
-ghost use Rattle.morsel_join.specs.Laws.{HasEachOnce, ComesByLeftRight, IsMirrored, MirrorsOrder, KeepsWeaker};
+ghost use Rattle.morsel_join.specs.Laws.{HasItemsOnce, ComesByLeftRight, IsMirrored, MirrorsOrder, KeepsWeaker};
 
 /// The items of a join are the pairs of rows that are the same and the lone rows that the kind has, each once and nothing else. Their list is
 /// by the left row and then the right one; the list of the exchanged sides, exchanged, has the same items, by the right row and then the left one.
 pub fn a_join_has_each_item_once<L, R>()
-    ensures once { HasEachOnce L R }
+    ensures once { HasItemsOnce L R }
     ensures in_order { ComesByLeftRight L R }
     ensures mirrored { IsMirrored L R }
     ensures mirrored_order { MirrorsOrder }

@@ -1,8 +1,8 @@
 //! What rows find in chains: the pairs of row numbers, and the rows that are in none.
 ghost use Rattle.std.specs.Prelude.{◌≡◌, ◌<◌, ◌≤◌, ◌+◌, ◌^◌, ◌++◌, ◌||◌, ℕ, List, false, length, OnOk, IsOkUnless, get_or};
 ghost use Rattle.std.specs.List.{list_any};
-ghost use Rattle.morsel_join.specs.Chains.{Rises, AreChained, same_number};
-ghost use Rattle.morsel_join.specs.Probes.{PutsChain, PutsRow, PutsRows, PutsLone, PutsLoneRow};
+ghost use Rattle.morsel_join.specs.Chains.{LinksRise, AreRowChains, same_number};
+ghost use Rattle.morsel_join.specs.Probes.{PutsChain, PutsRow, PutsLookedUp, PutsLone, PutsLoneRow};
 
 use morsel_meaning::Fault;
 
@@ -18,7 +18,7 @@ fn follow(
     rights: &mut Vec<u32>,
 ) -> Result<(), Fault>
     requires within { head ≤ length next.now }
-    requires rises { Rises next.now }
+    requires rises { LinksRise next.now }
     ensures ok { OnOk result (PutsChain next.now head row lefts.old.items rights.old.items lefts.new.items rights.new.items) }
     ensures out_of_memory { IsOkUnless result Fault.OutOfMemory }
 {
@@ -42,7 +42,7 @@ fn probe_row(
     rights: &mut Vec<u32>,
 ) -> Result<(), Fault>
     requires within { head ≤ length next.now }
-    requires rises { Rises next.now }
+    requires rises { LinksRise next.now }
     ensures ok { OnOk result (PutsRow next.now head wanted row lefts.old.items rights.old.items lefts.new.items rights.new.items) }
     ensures out_of_memory { IsOkUnless result Fault.OutOfMemory }
 {
@@ -76,9 +76,9 @@ pub fn probe(
     rights: &mut Vec<u32>,
 ) -> Result<(), Fault>
     requires heads { (k : ℕ) → get_or first.now k 0 ≤ length next.now }
-    requires rises { Rises next.now }
+    requires rises { LinksRise next.now }
     requires short { length numbers.now < 2 ^ 32 }
-    ensures ok { OnOk result ((build : List ℕ) → AreChained build first.now next.now 0 → PutsRows (length first.now) build numbers.now wanted lefts.old.items rights.old.items lefts.new.items rights.new.items) }
+    ensures ok { OnOk result ((build : List ℕ) → AreRowChains build first.now next.now 0 → PutsLookedUp (length first.now) build numbers.now wanted lefts.old.items rights.old.items lefts.new.items rights.new.items) }
     ensures out_of_memory { IsOkUnless result Fault.OutOfMemory }
 {
     for row in 0..numbers.len() {
