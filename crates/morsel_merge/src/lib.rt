@@ -19,3 +19,4 @@ mod wait;
 pub use distributor::{DistSender, DistSent, distributor_channel};
 pub use inserter::Inserter;
 pub use linearizer::{Got, Linearizer};
+pub use make::make_lanes;
