@@ -10,7 +10,7 @@ use Rattle.morsel_meaning.specs.declared.fault.Fault.TheVariants.{SchemaMismatch
 use Rattle.morsel_meaning.specs.Values.{kinds_of}
 use Rattle.morsel_frame.specs.Tables.{same_kind, fields_at}
 use Rattle.morsel_frame.proofs.SelectLemmas.{fields_at-more}
-use Rattle.morsel_join.specs.Payloads.{key_place, key_places, key_absence, absence_before, type_fault}
+use Rattle.morsel_join.specs.Payloads.{key_place, key_places, join_key_absence, absence_before, type_fault}
 
 -- one key more is found
 pub key-done : (fields : List Field) (keys : List (List ℕ)) (i at : ℕ) (name text : List ℕ) (places new : List ℕ) → text ≡ name → i < length keys → name ≡ get_or keys i name → key_place fields text ≡ Some at → places ≡ key_places fields (take i keys) → new ≡ places ++ at ∷ [] → new ≡ key_places fields (take (i + 1) keys)
@@ -19,11 +19,11 @@ key-done fields keys i at name text places new same l read found done is =
     is ∙ ap (λ xs. xs ++ at ∷ []) done ∙ ap (λ n. key_places fields (take i keys) ++ n ∷ []) (sym here) ∙ sym (map_more (λ (n : List ℕ). unwrap_or (key_place fields n) 0) keys i name l)
 
 -- the first key that is no column is one of those from a place on
-pub key-due : (fields : List Field) (keys : List (List ℕ)) (i : ℕ) (name text : List ℕ) (o : Option ℕ) → text ≡ name → i < length keys → name ≡ get_or keys i name → key_place fields text ≡ o → key_absence fields (drop i keys) ≡ absence_before text o (key_absence fields (drop (i + 1) keys))
+pub key-due : (fields : List Field) (keys : List (List ℕ)) (i : ℕ) (name text : List ℕ) (o : Option ℕ) → text ≡ name → i < length keys → name ≡ get_or keys i name → key_place fields text ≡ o → join_key_absence fields (drop i keys) ≡ absence_before text o (join_key_absence fields (drop (i + 1) keys))
 key-due fields keys i name text o same l read found =
-    at_drop_more (key_absence fields) keys i name l
-    ∙ ap (λ (n : List ℕ). absence_before n (key_place fields n) (key_absence fields (drop (i + 1) keys))) (sym read ∙ sym same)
-    ∙ ap (λ (p : Option ℕ). absence_before text p (key_absence fields (drop (i + 1) keys))) found
+    at_drop_more (join_key_absence fields) keys i name l
+    ∙ ap (λ (n : List ℕ). absence_before n (key_place fields n) (join_key_absence fields (drop (i + 1) keys))) (sym read ∙ sym same)
+    ∙ ap (λ (p : Option ℕ). absence_before text p (join_key_absence fields (drop (i + 1) keys))) found
 
 -- one type more
 pub kinds-more : (fields : List Field) (places : List ℕ) (i at : ℕ) (field : Field) (kinds new : List ColType) → i < length places → at ≡ get_or places i 0 → at < length fields → field ≡ get_or fields at field → kinds ≡ kinds_of (fields_at fields (take i places)) → new ≡ kinds ++ field.kind ∷ [] → new ≡ kinds_of (fields_at fields (take (i + 1) places))

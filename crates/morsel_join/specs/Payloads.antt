@@ -83,9 +83,9 @@ absence_before name None later = Some (ColumnNotFound name)
 absence_before name (Some at) later = later
 
 -- the fault of the first key that is no column
-abbrev pub key_absence : List Field → List (List ℕ) → Option Fault
-key_absence fields [] = None
-key_absence fields (name ∷ names) = absence_before name (key_place fields name) (key_absence fields names)
+abbrev pub join_key_absence : List Field → List (List ℕ) → Option Fault
+join_key_absence fields [] = None
+join_key_absence fields (name ∷ names) = absence_before name (key_place fields name) (join_key_absence fields names)
 
 -- the fault of the first pair of keys whose types differ, which names the left one
 abbrev pub type_fault : List (List ℕ) → List ColType → List ColType → Option Fault
@@ -103,8 +103,8 @@ abbrev pub join_flaw : JoinArgs → List Field → List Field → List (List ℕ
 join_flaw args left right left_keys right_keys =
     first_fault (fault_of_repeat (first_clash args right_keys (names_of left) right))
     (first_fault (repeat_fault (join_fields args left right left_keys right_keys))
-    (first_fault (key_absence left left_keys)
-    (first_fault (key_absence right right_keys)
+    (first_fault (join_key_absence left left_keys)
+    (first_fault (join_key_absence right right_keys)
     (type_fault left_keys (key_kinds left left_keys) (key_kinds right right_keys)))))
 
 -- places side by side

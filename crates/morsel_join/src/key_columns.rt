@@ -4,7 +4,7 @@ ghost use Rattle.std.specs.List.{All};
 ghost use Rattle.morsel_meaning.specs.Values.{kinds_of};
 ghost use Rattle.morsel_frame.specs.Refusals.{Refuses, first_fault};
 ghost use Rattle.morsel_frame.specs.Tables.{fields_at, same_kind};
-ghost use Rattle.morsel_join.specs.Payloads.{key_places, key_absence, key_kinds, type_fault, FitKeys};
+ghost use Rattle.morsel_join.specs.Payloads.{key_places, join_key_absence, key_kinds, type_fault, FitKeys};
 
 use morsel_frame::Schema;
 use morsel_meaning::{ColType, Fault, Name};
@@ -35,7 +35,7 @@ pub fn key_columns(
     ensures right { IfOk result (λ keys. keys.right.items ≡ key_places right.now right_keys.now) }
     ensures fit { IfOk result (λ keys. FitKeys left.now right.now keys.left.items keys.right.items keys.kinds.items) }
     ensures len { IfOk result (λ keys. length keys.kinds.items ≡ length left_keys.now) }
-    ensures refused { Refuses (first_fault (key_absence left.now left_keys.now) (first_fault (key_absence right.now right_keys.now) (type_fault left_keys.now (key_kinds left.now left_keys.now) (key_kinds right.now right_keys.now)))) result }
+    ensures refused { Refuses (first_fault (join_key_absence left.now left_keys.now) (first_fault (join_key_absence right.now right_keys.now) (type_fault left_keys.now (key_kinds left.now left_keys.now) (key_kinds right.now right_keys.now)))) result }
 {
     let lefts = key_places(alloc, left, left_keys)?;
     let rights = key_places(alloc, right, right_keys)?;
@@ -54,7 +54,7 @@ pub fn key_places(alloc: Global, schema: &Schema, keys: &[Name]) -> Result<Vec<u
     ensures ok { IfOk result (λ places. places.items ≡ key_places schema.now keys.now) }
     ensures within { IfOk result (λ places. All (λ at. at < length schema.now) places.items) }
     ensures len { IfOk result (λ places. length places.items ≡ length keys.now) }
-    ensures refused { Refuses (key_absence schema.now keys.now) result }
+    ensures refused { Refuses (join_key_absence schema.now keys.now) result }
 {
     let mut places = Vec::with_capacity(alloc, keys.len())?;
     for key in keys {
