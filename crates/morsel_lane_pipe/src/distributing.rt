@@ -16,7 +16,7 @@ use morsel_load::{Load, LoadJob};
 use morsel_meaning::Fault;
 use morsel_merge::DistSender;
 use morsel_prims::{Cx, Ended, LaneReceiver, LaneSender, Lanes, Message, Poll, Tokens};
-use rand_core::Rng;
+use rand_xoshiro::Xoshiro256PlusPlus;
 use std::alloc::Global;
 
 /// Takes loads from one lane and spreads them over several; a morsel's token is released before the morsel is sent.
@@ -24,31 +24,34 @@ use std::alloc::Global;
 pub struct Distributing<
     L: Tokens + Lanes<Load<<L as Tokens>::Token, J>>,
     J: LoadJob<<L as Tokens>::Token>,
-    R,
 >
 where
     Load<<L as Tokens>::Token, J>: Message,
 {
-    pub(crate) passing: Passing<L::Token, J, L::Receiver, DistSender<LoadOf<L, J>, L, R>>,
+    pub(crate) passing: Passing<
+        L::Token,
+        J,
+        L::Receiver,
+        DistSender<LoadOf<L, J>, L, Xoshiro256PlusPlus>,
+    >,
     pub(crate) taken: Room<TakenOf<L, J>>,
 }
 
 impl<
     L: Tokens + Lanes<Load<<L as Tokens>::Token, J>>,
     J: LoadJob<<L as Tokens>::Token>,
-    R: Rng + Drop,
-> Distributing<L, J, R> {
+> Distributing<L, J> {
     /// A task that has taken nothing.
     pub fn new(
         alloc: Global,
         from: L::Receiver,
-        to: DistSender<LoadOf<L, J>, L, R>,
-    ) -> Result<Distributing<L, J, R>, Fault>
+        to: DistSender<LoadOf<L, J>, L, Xoshiro256PlusPlus>,
+    ) -> Result<Distributing<L, J>, Fault>
         requires home { L.Receiver.home from ≡ (L.Board.id to.board.value).lane_table }
         requires job { to.job.value ≡ L.Receiver.job from }
         requires fresh { (L.Receiver.taken from ≡ []) × (sent_values to.log.seat.me.0 ≡ []) }
-        ensures can_step { (id : BoardId) → L.Receiver.home from ≡ id.lane_table → HoldsTokensOf J.holds L.token_home (L.Receiver.job from) id.group_table → IfOk result (⟦<Distributing<L, J, R> as Stepwise<L::Board>>⟧.can_step id) }
-        ensures seen { IfOk result (λ task. ⟦<Distributing<L, J, R> as Stepwise<L::Board>>⟧.seen task ≡ record { work = Spreads; home = L.Receiver.home from; from = L.Receiver.lane from ∷ []; to = map L.Sender.lane to.lanes.items; places = L.Receiver.wait_places from ++ flat_map L.Sender.wait_places to.lanes.items }) }
+        ensures can_step { (id : BoardId) → L.Receiver.home from ≡ id.lane_table → HoldsTokensOf J.holds L.token_home (L.Receiver.job from) id.group_table → IfOk result (⟦<Distributing<L, J> as Stepwise<L::Board>>⟧.can_step id) }
+        ensures seen { IfOk result (λ task. ⟦<Distributing<L, J> as Stepwise<L::Board>>⟧.seen task ≡ record { work = Spreads; home = L.Receiver.home from; from = L.Receiver.lane from ∷ []; to = map L.Sender.lane to.lanes.items; places = L.Receiver.wait_places from ++ flat_map L.Sender.wait_places to.lanes.items }) }
         ensures out_of_memory { IsOkUnless result OutOfMemory }
     {
         Ok(Distributing {
@@ -83,11 +86,9 @@ fn release_token<
     }
 }
 
-impl<
-    L: Tokens + Lanes<Load<<L as Tokens>::Token, J>>,
-    J: LoadJob<<L as Tokens>::Token>,
-    R: Rng + Drop,
-> Stepwise<L::Board> for Distributing<L, J, R> {
+impl<L: Tokens + Lanes<Load<<L as Tokens>::Token, J>>, J: LoadJob<<L as Tokens>::Token>> Stepwise<
+    L::Board,
+> for Distributing<L, J> {
     ghost use Rattle.std.specs.Prelude.{◌⊎◌, true, false};
     ghost use Rattle.morsel_lane_pipe.specs.Tasks.{AreEndsCut, AreReceipts, IsPassing, IsWaiting};
 
@@ -99,9 +100,9 @@ impl<
 
     ghost is_done = { λ task. (L.Receiver.is_whole task.passing.from ≡ true) × (task.passing.held ≡ None) };
 
-    ghost met_cut = { λ board task. ((L.Receiver.is_cut task.passing.from ≡ true) × L.Receiver.found_ended board task.passing.from false) ⊎ ((end : _) × ⟦<DistSender<LoadOf<L, J>, L, R> as LaneSender<LoadOf<L, J>, L::Board>>⟧.found_closed board end task.passing.to) };
+    ghost met_cut = { λ board task. ((L.Receiver.is_cut task.passing.from ≡ true) × L.Receiver.found_ended board task.passing.from false) ⊎ ((end : _) × ⟦<DistSender<LoadOf<L, J>, L, Xoshiro256PlusPlus> as LaneSender<LoadOf<L, J>, L::Board>>⟧.found_closed board end task.passing.to) };
 
-    ghost waits = { λ me board task. IsWaiting L.Receiver.registered L.Receiver.found_empty me board task.passing.from ⊎ IsWaiting ⟦<DistSender<LoadOf<L, J>, L, R> as LaneSender<LoadOf<L, J>, L::Board>>⟧.registered ⟦<DistSender<LoadOf<L, J>, L, R> as LaneSender<LoadOf<L, J>, L::Board>>⟧.found_full me board task.passing.to };
+    ghost waits = { λ me board task. IsWaiting L.Receiver.registered L.Receiver.found_empty me board task.passing.from ⊎ IsWaiting ⟦<DistSender<LoadOf<L, J>, L, Xoshiro256PlusPlus> as LaneSender<LoadOf<L, J>, L::Board>>⟧.registered ⟦<DistSender<LoadOf<L, J>, L, Xoshiro256PlusPlus> as LaneSender<LoadOf<L, J>, L::Board>>⟧.found_full me board task.passing.to };
 
     ghost seen = { λ task. record {
       work = Spreads;

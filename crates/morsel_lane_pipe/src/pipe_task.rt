@@ -8,8 +8,8 @@ use crate::stepwise::{Ending, Stepwise};
 use morsel_prims::{Board, Cx, Poll};
 
 /// A task of a pipe.
-pub type PipeTask<L, J, R> = Stepping<
-    PipeWork<Merging<L, J>, Inserting<L, J>, Distributing<L, J, R>, HandingOn<L, J>>,
+pub type PipeTask<L, J> = Stepping<
+    PipeWork<Merging<L, J>, Inserting<L, J>, Distributing<L, J>, HandingOn<L, J>>,
 >;
 
 /// What one of the tasks of a pipe does, by the four kinds.
