@@ -1,5 +1,5 @@
-//! Lanes of one thread: a value that is sent and taken at once, and values that are sent as far as there is room and
-//! then taken.
+//! Lanes of one thread, and a connector within one thread: a value that is sent and taken at once, and values that are
+//! sent as far as there is room and then taken.
 ghost use Rattle.std.specs.Prelude.{◌≡◌};
 
 use morsel_meaning::{Fault, TaskNo};
@@ -7,6 +7,7 @@ use morsel_prims::{
     Cx, LaneReceiver, LaneSender, Lanes, Message, PlainBoard, PlainLanes, Tokens, Wakes,
 };
 use morsel_timing::{Best, Timing, now, tell};
+use morsel_word_lanes::WordLanes;
 use std::alloc::Global;
 use std::rt::Clock;
 
@@ -73,7 +74,16 @@ pub fn run<R: Clock + Print + AllocGlobal>(
     let one = time_one(rt, timing, values, &mut passage)?;
     tell(rt, timing, "one value through a lane, values", one, values)?;
     let many = time_many(rt, timing, values, &mut passage)?;
-    tell(rt, timing, "64 values through a lane, values", many, values)
+    tell(rt, timing, "64 values through a lane, values", many, values)?;
+    let mut connector: Passage<WordLanes> = Passage::new(rt.alloc(), ())?;
+    let word = time_one(rt, timing, values, &mut connector)?;
+    tell(
+        rt,
+        timing,
+        "one value through a connector, values",
+        word,
+        values,
+    )
 }
 
 /// Each value is sent and then taken.

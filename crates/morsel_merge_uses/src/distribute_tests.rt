@@ -2,11 +2,12 @@
 use crate::distribute::{Distribute, SENDING};
 use crate::least::Least;
 use morsel_meaning::Fault;
-use morsel_prims::{PlainBoard, PlainLanes, Poll, RecvError, SendError};
+use morsel_prims::{Lanes, PlainBoard, PlainLanes, Poll, RecvError, SendError, Tokens};
 use rand_core::{Rng, SeedableRng};
 use rand_xoshiro::Xoshiro256PlusPlus;
 use std::alloc::Global;
 use std::cmp::Reverse;
+use std::process::Abort;
 use std::test::Fail;
 
 type Plain = Distribute<PlainLanes<Least>>;
@@ -32,22 +33,30 @@ fn closed(number: u64) -> Result<(), SendError<Least>> {
     Err(SendError::Closed(Least(Reverse(number))))
 }
 
+/// Two lanes with room for one number each take 1 and 2, and give one of them each.
+pub(crate) fn take_two_numbers<M: Tokens + Lanes<Least>>(
+    rt: &impl Abort,
+    lanes: &mut Distribute<M>,
+    seed: u64,
+) {
+    assert_eq!(rt; lanes.held(), 0, "seed {seed}");
+    assert_eq!(rt; lanes.send(1), Ok(()), "seed {seed}");
+    assert_eq!(rt; lanes.send(2), Ok(()), "seed {seed}");
+    assert_eq!(rt; lanes.held(), 2, "seed {seed}");
+    assert_eq!(rt; lanes.send(3), full(3), "seed {seed}");
+    let taken = (lanes.take(0), lanes.take(1));
+    let in_order = taken == (Some(Ok(1)), Some(Ok(2)));
+    let turned = taken == (Some(Ok(2)), Some(Ok(1)));
+    assert!(rt; in_order || turned, "seed {seed}");
+    assert_eq!(rt; lanes.take(0), Some(Err(RecvError::Empty)), "seed {seed}");
+    assert_eq!(rt; lanes.take(1), Some(Err(RecvError::Empty)), "seed {seed}");
+}
+
 #[test]
 fn two_lanes_of_one_place_take_two_numbers(rt: HostRuntime) -> Result<(), Fail> {
     for seed in 0..16 {
         let mut lanes = lanes_of(rt.alloc(), 2, 1, seed)?;
-        assert_eq!(rt; lanes.held(), 0, "seed {seed}");
-        assert_eq!(rt; lanes.send(1), Ok(()), "seed {seed}");
-        assert_eq!(rt; lanes.send(2), Ok(()), "seed {seed}");
-        assert_eq!(rt; lanes.held(), 2, "seed {seed}");
-        assert_eq!(rt; lanes.send(3), full(3), "seed {seed}");
-        let first = lanes.take(0);
-        let second = lanes.take(1);
-        let in_order = (first, second) == (Some(Ok(1)), Some(Ok(2)));
-        let turned = (first, second) == (Some(Ok(2)), Some(Ok(1)));
-        assert!(rt; in_order || turned, "seed {seed}");
-        assert_eq!(rt; lanes.take(0), Some(Err(RecvError::Empty)), "seed {seed}");
-        assert_eq!(rt; lanes.take(1), Some(Err(RecvError::Empty)), "seed {seed}");
+        take_two_numbers(&rt, &mut lanes, seed);
     }
     Ok(())
 }
@@ -72,23 +81,28 @@ fn a_lane_that_has_closed_takes_no_number(rt: HostRuntime) -> Result<(), Fail> {
     Ok(())
 }
 
+/// Three lanes with room for one number each are filled, and then this one gives a number.
+fn wake_who_waits(rt: &impl Abort, lanes: &mut Plain, lane: usize, seed: u64) {
+    for number in 0..3 {
+        assert_eq!(rt; lanes.poll(number), Poll::Ready(Ok(())), "seed {seed}");
+    }
+    assert_eq!(rt; lanes.poll(3), Poll::Pending, "seed {seed}");
+    assert_eq!(rt; lanes.woken(), None, "seed {seed}");
+    assert!(rt; lanes.take(lane).is_some(), "seed {seed}");
+    assert_eq!(rt; lanes.woken(), Some(SENDING), "lane {lane}, seed {seed}");
+    assert_eq!(rt;
+        lanes.poll(3),
+        Poll::Ready(Ok(())),
+        "lane {lane}, seed {seed}"
+    );
+}
+
 #[test]
 fn who_waits_is_woken_by_any_lane(rt: HostRuntime) -> Result<(), Fail> {
     for seed in 0..16 {
         for lane in 0..3 {
             let mut lanes = lanes_of(rt.alloc(), 3, 1, seed)?;
-            for number in 0..3 {
-                assert_eq!(rt; lanes.poll(number), Poll::Ready(Ok(())), "seed {seed}");
-            }
-            assert_eq!(rt; lanes.poll(3), Poll::Pending, "seed {seed}");
-            assert_eq!(rt; lanes.woken(), None, "seed {seed}");
-            assert!(rt; lanes.take(lane).is_some(), "seed {seed}");
-            assert_eq!(rt; lanes.woken(), Some(SENDING), "lane {lane}, seed {seed}");
-            assert_eq!(rt;
-                lanes.poll(3),
-                Poll::Ready(Ok(())),
-                "lane {lane}, seed {seed}"
-            );
+            wake_who_waits(&rt, &mut lanes, lane, seed);
         }
     }
     Ok(())

@@ -13,3 +13,5 @@ pub use merge::Merge;
 mod distribute_tests;
 #[cfg(test)]
 mod tests;
+#[cfg(test)]
+mod word_tests;

@@ -8,24 +8,23 @@ use rand_core::{Rng, SeedableRng};
 use rand_xoshiro::Xoshiro256PlusPlus;
 use std::alloc::Global;
 use std::cmp::Reverse;
+use std::process::Abort;
 use std::test::Fail;
 
 type Plain = Merge<PlainLanes<Least>>;
 
-/// Two lanes, with these numbers in each, and no sending end closed.
-fn two_lanes(alloc: Global, first: &[u64], second: &[u64]) -> Result<Option<Plain>, Fault> {
-    let mut merge = Merge::new(alloc, PlainBoard::new(alloc)?, 2, 4)?;
-    for number in first {
-        if !merge.insert(0, *number) {
-            return Ok(None);
-        }
+/// Two lanes.
+fn two_lanes(alloc: Global) -> Result<Plain, Fault> {
+    Merge::new(alloc, PlainBoard::new(alloc)?, 2, 4)
+}
+
+/// Whether these numbers were sent through the lane.
+fn insert_all(merge: &mut Plain, lane: usize, numbers: &[u64]) -> bool {
+    let mut all = true;
+    for number in numbers {
+        all = merge.insert(lane, *number) && all;
     }
-    for number in second {
-        if !merge.insert(1, *number) {
-            return Ok(None);
-        }
-    }
-    Ok(Some(merge))
+    all
 }
 
 /// The numbers that are given, until none is.
@@ -43,10 +42,8 @@ fn numbers(alloc: Global, merge: &mut Plain) -> Result<(Vec<u64>, Poll<Got<Least
 #[test]
 fn two_lanes_are_merged_by_number(rt: HostRuntime) -> Result<(), Fail> {
     let alloc = rt.alloc();
-    let Some(mut merge) = two_lanes(alloc, &[1, 4], &[2, 3])? else {
-        assert!(rt; false, "a number was not sent");
-        return Ok(());
-    };
+    let mut merge = two_lanes(alloc)?;
+    assert!(rt; insert_all(&mut merge, 0, &[1, 4]) && insert_all(&mut merge, 1, &[2, 3]));
     merge.finish();
     merge.finish();
     let (numbers, last) = numbers(alloc, &mut merge)?;
@@ -60,10 +57,10 @@ fn two_lanes_are_merged_by_number(rt: HostRuntime) -> Result<(), Fail> {
 fn a_lane_that_is_cut_gives_no_end(rt: HostRuntime) -> Result<(), Fail> {
     let alloc = rt.alloc();
     for count in 0..3 {
-        let Some(mut merge) = two_lanes(alloc, &[1, 4], &[2, 3][..count])? else {
-            assert!(rt; false, "a number was not sent");
-            return Ok(());
-        };
+        let mut merge = two_lanes(alloc)?;
+        assert!(rt;
+            insert_all(&mut merge, 0, &[1, 4]) && insert_all(&mut merge, 1, &[2, 3][..count])
+        );
         merge.cut();
         merge.finish();
         let (numbers, last) = numbers(alloc, &mut merge)?;
@@ -74,13 +71,8 @@ fn a_lane_that_is_cut_gives_no_end(rt: HostRuntime) -> Result<(), Fail> {
     Ok(())
 }
 
-#[test]
-fn who_gets_is_woken_by_a_number_and_by_the_end(rt: HostRuntime) -> Result<(), Fail> {
-    let alloc = rt.alloc();
-    let Some(mut merge) = two_lanes(alloc, &[7], &[])? else {
-        assert!(rt; false, "a number was not sent");
-        return Ok(());
-    };
+fn wake_who_gets(rt: &impl Abort, merge: &mut Plain) {
+    assert!(rt; merge.insert(0, 7));
     assert_eq!(rt; merge.get(), Poll::Pending);
     assert_eq!(rt; merge.woken(), None);
     assert!(rt; merge.insert(1, 5));
@@ -90,6 +82,12 @@ fn who_gets_is_woken_by_a_number_and_by_the_end(rt: HostRuntime) -> Result<(), F
     merge.finish();
     assert_eq!(rt; merge.woken(), Some(MERGING));
     assert_eq!(rt; merge.get(), Poll::Ready(Got::Item(Least(Reverse(7)))));
+}
+
+#[test]
+fn who_gets_is_woken_by_a_number_and_by_the_end(rt: HostRuntime) -> Result<(), Fail> {
+    let mut merge = two_lanes(rt.alloc())?;
+    wake_who_gets(&rt, &mut merge);
     Ok(())
 }
 
