@@ -3,6 +3,7 @@ use Rattle.std.specs.Prelude.{◌≡◌, ◌↔◌, All, List, [], ◌∷◌, �
 use Rattle.std.specs.Ordering.{nat_cmp}
 use Rattle.std.specs.declared.cmp.Ordering.{Ordering}
 use Rattle.atomic_table.specs.Seated.{TableId}
+use Rattle.morsel_meaning.specs.declared.fault.Fault.{Fault}
 use Rattle.morsel_meaning.specs.declared.task.TaskNo.{TaskNo}
 use Rattle.morsel_prims.specs.Polled.{LaneId, held_list}
 use Rattle.morsel_prims.specs.Waiting.{WaitPlace}
@@ -12,18 +13,20 @@ use Rattle.morsel_merge.specs.Merging.{AreSpread, IsMerged}
 use Rattle.morsel_load.specs.Loads.{held_token, load_seen, load_seq}
 use Rattle.morsel_load.specs.declared.load.Load.{Load}
 use Rattle.morsel_lane_pipe.specs.declared.receipts.PipeOut.{PipeOut}
-use Rattle.morsel_lane_pipe.specs.declared.receipts.PipeOut.TheVariants.{Whole, Cut, OutOfMemory}
+use Rattle.morsel_lane_pipe.specs.declared.receipts.PipeOut.TheVariants.{Whole, Cut, OutOfMemory, Failed}
+use Rattle.morsel_lane_pipe.specs.Stretches.{stretches}
 
 -- it is there, and this is true of it
 abbrev pub Has : {A : Type 0} → Option A → (A → Type 0) → Type 0
 Has None P = ⊥
 Has (Some x) P = P x
 
--- what a task does with what it takes: it gives it on in its order, merges several lanes by number, or spreads it over several
+-- what a task does with what it takes: it gives it on in its order, merges several lanes by number, spreads it over several, or makes other loads of it
 pub data PipeRole : Type 0 where
   HandsOn : PipeRole
   Merges : PipeRole
   Spreads : PipeRole
+  MakesOthers : PipeRole
 
 -- what is seen of a task: what it does, the table of its board, the lanes from which it takes and through which it sends, and where it may wait
 pub record TaskSeen : Type 0 where
@@ -63,11 +66,12 @@ pub record IsPassing {K J : Type 0} (suits : J → Load K J → Type 0) (table f
 abbrev pub by_seq : {K J : Type 0} → Load K J → Load K J → Ordering
 by_seq x y = nat_cmp (load_seq y) (load_seq x)
 
--- what was sent through the lanes is what was taken from them, by what the task does
+-- what was sent through the lanes is what was taken from them, by what the task does; where it makes other loads, they end the same stretches in the same order
 abbrev pub IsWorkOf : {K J : Type 0} → PipeRole → List (List (Load K J)) → List (List (Load K J)) → Type 0
 IsWorkOf HandsOn taken sent = map (map load_seen) taken ≡ map (map load_seen) sent
 IsWorkOf Merges taken sent = (all : List (Load _ _)) × (sent ≡ all ∷ []) × IsMerged by_seq taken all
 IsWorkOf Spreads taken sent = (all : List (Load _ _)) × (taken ≡ all ∷ []) × AreSpread (map (map load_seen) sent) (map load_seen all)
+IsWorkOf MakesOthers taken sent = map stretches taken ≡ map stretches sent
 
 -- the receipts of all ends of a task, in order of lanes: what it sent is what it took
 pub record AreReceipts {R S K J : Type 0} (taken_home : R → TableId) (taken_lane : R → LaneId) (all_taken : R → List (Load K J)) (sent_home : S → TableId) (sent_lane : S → LaneId) (all_sent : S → List (Load K J)) (seen : TaskSeen) (taken : List R) (sent : List S) : Type 0 where
@@ -82,18 +86,28 @@ abbrev pub IfWhole : {R : Type 0} → PipeOut R → (R → Type 0) → Type 0
 IfWhole (Whole receipts) P = P receipts
 IfWhole Cut P = Unit {0}
 IfWhole OutOfMemory P = Unit {0}
+IfWhole (Failed fault) P = Unit {0}
+
+-- the fact holds of the fault, where there is one
+abbrev pub IfFailed : {R : Type 0} → PipeOut R → (Fault → Type 0) → Type 0
+IfFailed (Whole receipts) P = Unit {0}
+IfFailed Cut P = Unit {0}
+IfFailed OutOfMemory P = Unit {0}
+IfFailed (Failed fault) P = P fault
 
 -- the fact holds, unless all lanes ended whole
 abbrev pub UnlessWhole : {R : Type 0} → PipeOut R → Type 0 → Type 0
 UnlessWhole (Whole receipts) P = Unit {0}
 UnlessWhole Cut P = P
 UnlessWhole OutOfMemory P = P
+UnlessWhole (Failed fault) P = P
 
 -- the fact holds, where an end was closed or cut
 abbrev pub OnCut : {R : Type 0} → PipeOut R → Type 0 → Type 0
 OnCut (Whole receipts) P = Unit {0}
 OnCut Cut P = P
 OnCut OutOfMemory P = Unit {0}
+OnCut (Failed fault) P = Unit {0}
 
 -- an end of this lane was cut, by an earlier board; since then each task that waits goes on waiting or is woken
 abbrev pub IsEndCut : {B E : Type 0} → (B → WaitPlace → Option TaskNo) → (B → E → Type 0) → (E → LaneId) → B → LaneId → Type 0

@@ -102,6 +102,8 @@ impl<L: Tokens + Lanes<Load<<L as Tokens>::Token, J>>, J: LoadJob<<L as Tokens>:
         × HoldsTokensOf J.holds L.token_home (L.Receiver.job task.passing.from) id.group_table × IfSome task.token (λ token. L.token_home token ≡ id.group_table)
         × KeepsToken (L.Receiver.taken task.passing.from) task.passing.held task.token };
 
+    ghost fails = { λ task fault. ⊥ };
+
     ghost is_done = { λ task. (L.Receiver.is_whole task.passing.from ≡ true) × (task.passing.held ≡ None) };
 
     ghost met_cut = { λ board task. ((L.Receiver.is_cut task.passing.from ≡ true) × L.Receiver.found_ended board task.passing.from false) ⊎ ((end : L.Sender) × L.Sender.found_closed board end task.passing.to) };

@@ -18,7 +18,7 @@ pub use handing_on::HandingOn;
 pub use inserting::Inserting;
 pub use merging::Merging;
 pub use pipe_task::{PipeTask, PipeWork};
-pub use receipts::{LoadOf, PipeOut, Receipts, ReceiptsOf, SentOf, TakenOf};
+pub use receipts::{LoadOf, PipeOut, Receipts, ReceiptsOf, Room, SentOf, TakenOf};
 pub use settle::{settle_lanes, settle_merged, settle_spread};
 pub use stepping::Stepping;
 pub use stepwise::{Ending, Stepwise};

@@ -73,6 +73,8 @@ impl<L: Tokens + Lanes<Load<<L as Tokens>::Token, J>>, J: LoadJob<<L as Tokens>:
         × IfSome task.held (⟦<Load<L::Token, J> as Message>⟧.suits task.from.job.value)
         × IsMerging ⟦<Load<L::Token, J> as Ord>⟧.cmp (⟦<Load<L::Token, J> as Message>⟧.suits task.from.job.value) (map L.Receiver.taken task.from.receivers.items) task.from.held.items task.from.from task.from.to (L.Sender.sent task.to ++ held_list task.held) };
 
+    ghost fails = { λ task fault. ⊥ };
+
     ghost is_done = { λ task. (task.from.ended ≡ true) × IsMerged ⟦<Load<L::Token, J> as Ord>⟧.cmp (map L.Receiver.taken task.from.receivers.items) (L.Sender.sent task.to) };
 
     ghost met_cut = { λ board task. ((d : L.Receiver) → (L.Receiver.is_cut (slice_index_or task.from.receivers.items task.from.from d) ≡ true) × L.Receiver.found_ended board (slice_index_or task.from.receivers.items task.from.from d) false) ⊎ ((end : L.Sender) × L.Sender.found_closed board end task.to) };

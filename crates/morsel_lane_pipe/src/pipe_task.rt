@@ -40,6 +40,8 @@ where
 
     ghost can_step = { λ id work. ByWork work (M.can_step id) (I.can_step id) (D.can_step id) (H.can_step id) };
 
+    ghost fails = { λ work fault. ByWork work (λ task. M.fails task fault) (λ task. I.fails task fault) (λ task. D.fails task fault) (λ task. H.fails task fault) };
+
     ghost is_done = { λ work. ByWork work M.is_done I.is_done D.is_done H.is_done };
 
     ghost met_cut = { λ board work. ByWork work (M.met_cut board) (I.met_cut board) (D.met_cut board) (H.met_cut board) };

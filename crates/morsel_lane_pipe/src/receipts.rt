@@ -43,11 +43,13 @@ pub enum PipeOut<R> {
     Cut,
     /// Memory was out, and its ends are cut.
     OutOfMemory,
+    /// It had this fault, and its ends are cut. Only what makes one load of another has one.
+    Failed(Fault),
 }
 
-/// Room for one receipt.
+/// Room for one receipt, so that a task takes no memory where it ends.
 #[derive(Drop)]
-pub(crate) struct Room<R> {
+pub struct Room<R> {
     receipts: Vec<R>,
     ghost empty: { receipts.items ≡ [] },
     ghost room: { 1 ≤ vec_capacity receipts },

@@ -3,7 +3,8 @@ ghost use Rattle.std.specs.Prelude.{◌≡◌, Some, None};
 ghost use Rattle.morsel_prims.specs.Polled.{IfReady, OnPending};
 ghost use Rattle.morsel_prims.specs.Waiting.{KeepsOthersWaiting, KeepsWaiting};
 ghost use Rattle.morsel_prims.specs.Woken.{KeepsWakes};
-ghost use Rattle.morsel_lane_pipe.specs.Tasks.{Has, IfWhole, OnCut, UnlessWhole};
+ghost use Rattle.morsel_meaning.specs.declared.fault.Fault.{Fault};
+ghost use Rattle.morsel_lane_pipe.specs.Tasks.{Has, IfFailed, IfWhole, OnCut, UnlessWhole};
 ghost use Rattle.morsel_lane_pipe.specs.Stepped.{IsOn, places_if};
 
 use crate::receipts::PipeOut;
@@ -13,7 +14,7 @@ use morsel_prims::{Board, Cx, Poll, Task};
 /// A task that goes on step by step until it waits or ends.
 ///
 /// A task that meets a closed end, or a cut one, cuts its other ends and answers `Cut`. One that wants memory cuts its
-/// ends and answers `OutOfMemory`.
+/// ends and answers `OutOfMemory`, and one that has a fault answers `Failed`.
 #[derive(Drop)]
 pub struct Stepping<T> {
     // Until it has ended.
@@ -33,7 +34,8 @@ impl<T: Drop> Stepping<T> {
     where
         T: Stepwise<B>,
         requires can_step { Has self.old.task (T.can_step (B.id cx.old.board)) }
-        ensures again { IsOn (T.can_step (B.id cx.old.board)) T.seen self.old.task self.new.task }
+        ensures again { IsOn (T.can_step (B.id cx.old.board)) T.seen T.fails self.old.task self.new.task }
+        ensures failed { IfReady result (λ ending. (fault : Fault) → ending ≡ Some (Ending.Failed fault) → Has self.old.task (λ task. T.fails task fault)) }
         ensures done { IfReady result (λ ending. ending ≡ Some Ending.Whole → Has self.new.task T.is_done) }
         ensures met { IfReady result (λ ending. ending ≡ Some Ending.Cut → Has self.new.task (T.met_cut cx.new.board)) }
         ensures waits { OnPending result (Has self.new.task (T.waits cx.old.me cx.new.board)) }
@@ -57,6 +59,7 @@ impl<T: Drop> Stepping<T> {
         ensures gives { Has self.old.task (λ task. IfWhole result (T.gives (T.seen task))) }
         ensures cut { Has self.old.task (λ task. UnlessWhole result (T.has_cut cx.new.board (T.seen task))) }
         ensures asked { OnCut result (ending ≡ Ending.Cut) }
+        ensures failed { IfFailed result (λ fault. ending ≡ Ending.Failed fault) }
         ensures keeps_waiting { KeepsWaiting (B.waits_at cx.old.board) (B.waits_at cx.new.board) cx.new.wakes }
         ensures same_board { B.id cx.new.board ≡ B.id cx.old.board }
         ensures same_task { cx.new.me ≡ cx.old.me }
@@ -75,6 +78,10 @@ impl<T: Drop> Stepping<T> {
                 task.cut(cx);
                 PipeOut::OutOfMemory
             }
+            Ending::Failed(fault) => {
+                task.cut(cx);
+                PipeOut::Failed(fault)
+            }
         }
     }
 }
@@ -83,14 +90,14 @@ impl<B: Board, T: Stepwise<B> + Drop> Task<B> for Stepping<T> {
     ghost use Rattle.std.specs.Prelude.{◌⊎◌, true};
     ghost use Rattle.morsel_prims.specs.Woken.{has_number};
     ghost use Rattle.morsel_merge.specs.Boards.{OnEarlierEnd};
-    ghost use Rattle.morsel_lane_pipe.specs.Tasks.{IfWhole, OnCut, UnlessWhole};
+    ghost use Rattle.morsel_lane_pipe.specs.Tasks.{IfFailed, IfWhole, OnCut, UnlessWhole};
     ghost use Rattle.morsel_lane_pipe.specs.Stepped.{IsOn, places_if};
 
     type Out = PipeOut<T::Receipts>;
 
     ghost can_poll = { λ id stepping. Has stepping.task (T.can_step id) };
 
-    ghost gives = { λ stepping out. Has stepping.task (λ task. IfWhole out (T.gives (T.seen task))) };
+    ghost gives = { λ stepping out. Has stepping.task (λ task. IfWhole out (T.gives (T.seen task)) × IfFailed out (T.fails task)) };
 
     ghost waits = { λ me board before stepping. Has stepping.task (T.waits me board) };
 
@@ -100,12 +107,12 @@ impl<B: Board, T: Stepwise<B> + Drop> Task<B> for Stepping<T> {
 
     fn poll(&mut self, cx: &mut Cx<B>) -> Poll<PipeOut<T::Receipts>>
         requires can_poll { Has self.old.task (T.can_step (B.id cx.old.board)) }
-        ensures ready { IfReady result (λ out. Has self.old.task (λ task. IfWhole out (T.gives (T.seen task)))) }
+        ensures ready { IfReady result (λ out. Has self.old.task (λ task. IfWhole out (T.gives (T.seen task)) × IfFailed out (T.fails task))) }
         // A task that does not end whole has cut its ends; and it tells of a cut only where it met one.
         ensures cut { IfReady result (λ out. Has self.old.task (λ task. UnlessWhole out (T.has_cut cx.new.board (T.seen task)))) }
         ensures met { IfReady result (λ out. Has self.old.task (λ task. OnCut out ((last : T) × (T.seen last ≡ T.seen task) × OnEarlierEnd B.waits_at cx.new.board cx.new.wakes (λ board. T.met_cut board last)))) }
         ensures again { OnPending result (Has self.new.task (T.can_step (B.id cx.old.board))) }
-        ensures gives { OnPending result ((out : PipeOut T.Receipts) → Has self.new.task (λ task. IfWhole out (T.gives (T.seen task))) → Has self.old.task (λ task. IfWhole out (T.gives (T.seen task)))) }
+        ensures gives { OnPending result ((out : PipeOut T.Receipts) → Has self.new.task (λ task. IfWhole out (T.gives (T.seen task)) × IfFailed out (T.fails task)) → Has self.old.task (λ task. IfWhole out (T.gives (T.seen task)) × IfFailed out (T.fails task))) }
         ensures waits { OnPending result ((has_number cx.new.wakes.numbers cx.old.me.0 ≡ true) ⊎ Has self.new.task (T.waits cx.old.me cx.new.board)) }
         ensures keeps_waiting { KeepsOthersWaiting (places_if self.old.task (λ task. (T.seen task).places)) cx.old.me (B.waits_at cx.old.board) (B.waits_at cx.new.board) cx.new.wakes }
         ensures same_places { OnPending result (places_if self.new.task (λ task. (T.seen task).places) ≡ places_if self.old.task (λ task. (T.seen task).places)) }

@@ -1,8 +1,9 @@
 //! What goes on step by step until it waits or ends.
+use morsel_meaning::Fault;
 use morsel_prims::{Board, Cx, Poll};
 
 /// How a part of a task is to end.
-#[derive(Clone, Copy, Debug, PartialEq, Eq)]
+#[derive(Debug, Drop)]
 pub enum Ending {
     /// All loads went on.
     Whole,
@@ -10,11 +11,14 @@ pub enum Ending {
     Cut,
     /// Memory was out.
     OutOfMemory,
+    /// It had this fault. Only what makes one load of another has one.
+    Failed(Fault),
 }
 
 /// A part of a task: each step hands a load on, waits, or finds that it is to end.
 pub trait Stepwise<B: Board> {
     ghost use Rattle.std.specs.Prelude.{◌≡◌, Some};
+    ghost use Rattle.morsel_meaning.specs.declared.fault.Fault.{Fault};
     ghost use Rattle.morsel_meaning.specs.declared.task.TaskNo.{TaskNo};
     ghost use Rattle.morsel_prims.specs.Polled.{BoardId, IfReady, OnPending};
     ghost use Rattle.morsel_prims.specs.Waiting.{KeepsOthersWaiting, KeepsWaiting};
@@ -43,6 +47,9 @@ pub trait Stepwise<B: Board> {
     /// A task that is seen so may end with these receipts.
     ghost gives: { TaskSeen → Self.Receipts → Type 0 };
 
+    /// It may end with this fault.
+    ghost fails: { Self → Fault → Type 0 };
+
     /// The ends of a task that is seen so were cut: by the board after it.
     ghost has_cut: { B → TaskSeen → Type 0 };
 
@@ -51,6 +58,8 @@ pub trait Stepwise<B: Board> {
         requires can_step { can_step (B.id cx.old.board) self.old }
         ensures again { can_step (B.id cx.old.board) self.new }
         ensures same { seen self.new ≡ seen self.old }
+        ensures same_faults { (fault : Fault) → fails self.new fault → fails self.old fault }
+        ensures failed { IfReady result (λ ending. (fault : Fault) → ending ≡ Some (Ending.Failed fault) → fails self.old fault) }
         ensures done { IfReady result (λ ending. ending ≡ Some Ending.Whole → is_done self.new) }
         ensures met { IfReady result (λ ending. ending ≡ Some Ending.Cut → met_cut cx.new.board self.new) }
         ensures waits { OnPending result (waits cx.old.me cx.new.board self.new) }

@@ -1,0 +1,2 @@
+-- What the units of nodes keep.
+pub mod NodeUnits
