@@ -6,7 +6,7 @@ ghost use Rattle.morsel_prims.specs.Polled.{BoardId, IfReady, OnPending};
 ghost use Rattle.morsel_prims.specs.Waiting.{KeepsOthersWaiting, KeepsWaiting};
 ghost use Rattle.morsel_prims.specs.Woken.{KeepsWakes};
 ghost use Rattle.morsel_merge.specs.Boards.{OnEarlierEnd};
-ghost use Rattle.morsel_load.specs.Loads.{load_seen};
+ghost use Rattle.morsel_load.specs.Loads.{held_token};
 ghost use Rattle.morsel_lane_pipe.specs.Stretches.{KeepsStretches};
 ghost use Rattle.morsel_lane_pipe.specs.Tasks.{HoldsTokensOf, MakesOthers};
 ghost use Rattle.morsel_lane_pipe.specs.declared.stepwise.Ending.{Ending};
@@ -82,6 +82,8 @@ where
         ensures made { IfSome self.new.held (⟦<Load<L::Token, J> as Message>⟧.suits (L.Sender.job self.old.to)) }
         ensures kept { self.new.lost ≡ false → KeepsStretches (L.Receiver.taken self.old.from) (L.Sender.sent self.old.to) self.new.held [] }
         ensures failed { IfSome result (λ ending. (fault : Fault) × (ending ≡ Ending.Failed fault) × M.may_fail (L.Receiver.job self.old.from) fault) }
+        // The token is released, and not only let go: who waits for it goes on.
+        ensures released { IfSome (held_token load) (L.counted_less cx.old.board cx.new.board) }
         ensures keeps_waiting { KeepsWaiting (L.Board.waits_at cx.old.board) (L.Board.waits_at cx.new.board) cx.new.wakes }
         ensures same_board { L.Board.id cx.new.board ≡ L.Board.id cx.old.board }
         ensures same_task { cx.new.me ≡ cx.old.me }
