@@ -14,7 +14,7 @@ use Rattle.morsel_scan.specs.declared.spec.ScanSpec.{ScanSpec}
 use Rattle.morsel_read.specs.ReadScans.{columns_of_format, dialect_of_format, scan_read}
 use Rattle.morsel_read.specs.ScanReads.{CountsFromFirst}
 use Rattle.morsel_frame.specs.Refusals.{first_fault}
-use Rattle.morsel_query.specs.declared.sink.SinkSpec.{SinkSpec}
+use Rattle.morsel_sink.specs.declared.spec.SinkSpec.{SinkSpec}
 use Rattle.morsel_query.specs.RunOptions.{RunOptions}
 use Rattle.morsel_query.specs.Queries.{FileFormat, CsvFiles, QueryParts, file_format, file_scan, query_parts, fields_of_format, scan_over, scan_asked}
 use Rattle.morsel_query.specs.QueryFlaws.{sources_of, IsSound}

@@ -29,8 +29,8 @@ use Rattle.morsel_line.specs.Jobs.{Job}
 use Rattle.morsel_line.specs.ScanJobs.{scan_text, job_axis, IsJobFault}
 use Rattle.morsel_line.specs.ScanSources.{opened_as, AskNextChunks, EndsInFailure}
 use Rattle.morsel_line.specs.ScanRuns.{MeansRows, AnswersRows, StopsScan, WritesScan, WritesJob, job_of}
-use Rattle.morsel_query.specs.declared.sink.SinkFormat.{SinkFormat}
-use Rattle.morsel_query.specs.declared.sink.SinkFormat.TheVariants as formats
+use Rattle.morsel_sink.specs.declared.spec.SinkFormat.{SinkFormat}
+use Rattle.morsel_sink.specs.declared.spec.SinkFormat.TheVariants as formats
 use Rattle.morsel_query.specs.RunOptions.{RunOptions, pieces_ahead}
 use Rattle.morsel_query.specs.Queries.{FileFormat, CsvFiles, FileScan, QueryParts}
 use Rattle.morsel_query.specs.QueryFlaws.{sources_of}

@@ -9,8 +9,9 @@ use crate::outside::{make_sink, open_sources};
 use crate::scan::scan_files;
 use morsel_meaning::Fault;
 use morsel_outside::{Gate, Io};
-use morsel_query::{Options, Query, SinkSpec, check};
+use morsel_query::{Options, Query, check};
 use morsel_scan::ScanSpec;
+use morsel_sink::SinkSpec;
 use std::alloc::Global;
 
 /// Runs a query: reads its sources, writes its rows into its sink, and answers how many there are.

@@ -10,7 +10,7 @@ use Rattle.morsel_outside.specs.declared.events.IoEvent.TheVariants.{ReadAt, Wro
 use Rattle.morsel_outside.specs.Outside.{Outside, with_more}
 use Rattle.morsel_outside.specs.Actions.{Rises}
 use Rattle.morsel_drive.specs.Lines.{Each}
-use Rattle.morsel_query.specs.declared.sink.SinkFormat.TheVariants.{NdJson}
+use Rattle.morsel_sink.specs.declared.spec.SinkFormat.TheVariants.{NdJson}
 use Rattle.morsel_query.specs.Queries.{CsvFiles, QueryParts}
 use Rattle.morsel_query.specs.QueryFlaws.{IsSound, IsFlawFault}
 use Rattle.morsel_query.specs.RunOptions.{RunOptions, standard_options}

@@ -12,8 +12,9 @@ use morsel_frame::Schema;
 use morsel_grammar::CsvOptions;
 use morsel_meaning::{Fault, Name};
 use morsel_outside::Io;
-use morsel_query::{Options, Query, SinkFormat, SinkSpec};
+use morsel_query::{Options, Query};
 use morsel_scan::{FileScanOptions, ScanFormat, ScanSpec};
+use morsel_sink::{SinkFormat, SinkSpec};
 use std::alloc::Global;
 
 /// The query of a command, and the options by which it is to be run. It opens and reads the query file, where the command has

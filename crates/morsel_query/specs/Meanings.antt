@@ -5,12 +5,10 @@ use Rattle.morsel_meaning.specs.declared.fault.Fault.{Fault}
 use Rattle.morsel_meaning.specs.Values.{Row, kinds_of, names_of}
 use Rattle.morsel_grammar.specs.Dialect.{Dialect}
 use Rattle.morsel_grammar.specs.Rows.{IsOfGrammar}
-use Rattle.morsel_ndjson.specs.Ndjson.{ndjson}
 use Rattle.morsel_scan.specs.Scans.{CsvScan}
 use Rattle.morsel_scan.specs.ScanRows.{total_rows}
 use Rattle.morsel_scan.specs.CsvScans.{csv_sources, csv_scan_rows}
-use Rattle.morsel_query.specs.declared.sink.SinkFormat.{SinkFormat}
-use Rattle.morsel_query.specs.declared.sink.SinkFormat.TheVariants as formats
+use Rattle.morsel_sink.specs.Sinks.{text_by_format}
 use Rattle.morsel_query.specs.Queries.{FileFormat, CsvFiles, FileScan, QueryParts, scan_asked}
 use Rattle.morsel_query.specs.Plans.{planned, output_of, query_fault}
 
@@ -45,10 +43,6 @@ AreOfFormat (CsvFiles fields options) files = All (IsOfGrammar options (kinds_of
 -- the rows that a query may give, where its sources have these bytes: those of its scan
 abbrev pub Meaning : QueryParts → List (List ℕ) → List Row → Type 0
 Meaning query files rows = rows_over query.left 0 files ≡ Ok rows
-
--- the text of rows with columns of these names, in a format
-abbrev pub text_by_format : SinkFormat → List (List ℕ) → List Row → List ℕ
-text_by_format formats.NdJson names rows = ndjson names rows
 
 -- the text of rows of a query in its sink
 abbrev pub text_of : QueryParts → List Row → List ℕ

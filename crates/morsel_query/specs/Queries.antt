@@ -9,7 +9,7 @@ use Rattle.morsel_scan.specs.ScanColumns.{is_kept}
 use Rattle.morsel_scan.specs.declared.spec.ScanFormat.{ScanFormat}
 use Rattle.morsel_scan.specs.declared.spec.ScanFormat.TheVariants as formats
 use Rattle.morsel_scan.specs.declared.spec.ScanSpec.{ScanSpec}
-use Rattle.morsel_query.specs.declared.sink.SinkSpec.{SinkSpec}
+use Rattle.morsel_sink.specs.declared.spec.SinkSpec.{SinkSpec}
 
 -- the format of files, with what has to be told to read them
 pub data FileFormat : Type 0 where

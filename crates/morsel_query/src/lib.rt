@@ -8,11 +8,9 @@ mod options;
 mod plans;
 mod query;
 mod scan_plan;
-mod sink;
 
 pub use flaws::{a_sound_query_has_no_flaw, flaw_of_side};
 pub use options::{Options, ahead};
 pub use plans::{QueryPlan, check, plan};
 pub use query::Query;
 pub use scan_plan::{ScanPlan, plan_scan};
-pub use sink::{SinkFormat, SinkSpec};

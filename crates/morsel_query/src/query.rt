@@ -3,9 +3,10 @@ ghost use Rattle.std.specs.Prelude.{◌≡◌, IfOk, IfErr, OnOk, IfSome, IsNone
 ghost use Rattle.morsel_query.specs.Queries.{file_scan, query_parts};
 ghost use Rattle.morsel_query.specs.QueryFlaws.{sides_of, IsFlaw, IsSound, IsFlawFault};
 
-use crate::{SinkSpec, flaw_of_side};
+use crate::flaw_of_side;
 use morsel_meaning::{Fault, Why};
 use morsel_scan::{ScanFormat, ScanSpec};
+use morsel_sink::SinkSpec;
 use std::marker::Model;
 
 /// A query: a scan, and a sink for its rows.

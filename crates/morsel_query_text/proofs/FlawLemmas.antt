@@ -8,8 +8,8 @@ use Rattle.morsel_meaning.specs.declared.fault.Why.TheVariants as whys
 use Rattle.morsel_frame.specs.Refusals.{Refuses, fault_of_repeat}
 use Rattle.morsel_query.specs.RunOptions.{RunOptions, AreInRange}
 use Rattle.morsel_query.specs.Queries.{FileScan, QueryParts}
-use Rattle.morsel_query.specs.declared.sink.SinkFormat.{SinkFormat}
-use Rattle.morsel_query.specs.declared.sink.SinkSpec.{SinkSpec}
+use Rattle.morsel_sink.specs.declared.spec.SinkFormat.{SinkFormat}
+use Rattle.morsel_sink.specs.declared.spec.SinkSpec.{SinkSpec}
 use Rattle.morsel_query_text.specs.Written.{WrittenScan, WrittenQuery, scan_written, sink_written, query_written}
 use Rattle.morsel_query_text.specs.TextFlaws.{HasTextFlaw, IsTooDeep, IsFlawless, repeat_of_format, name_repeated}
 use Rattle.morsel_query_text.specs.Answers.{HasScanFlaw, IsFlawlessScan, RefusesScan, RefusesMade, RefusesLate}

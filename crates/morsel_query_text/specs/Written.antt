@@ -6,8 +6,8 @@ use Rattle.morsel_grammar.specs.Dialect.{Dialect, standard}
 use Rattle.morsel_scan.specs.declared.spec.RowIndex.{RowIndex}
 use Rattle.morsel_query.specs.RunOptions.{RunOptions}
 use Rattle.morsel_query.specs.Queries.{FileFormat, CsvFiles, FileScan, QueryParts}
-use Rattle.morsel_query.specs.declared.sink.SinkFormat.{SinkFormat}
-use Rattle.morsel_query.specs.declared.sink.SinkFormat.TheVariants.{NdJson}
+use Rattle.morsel_sink.specs.declared.spec.SinkFormat.{SinkFormat}
+use Rattle.morsel_sink.specs.declared.spec.SinkFormat.TheVariants.{NdJson}
 use Rattle.morsel_query_text.specs.Predicates.{pred_tree}
 
 -- how CSV texts are written, each byte as a text

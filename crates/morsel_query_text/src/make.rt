@@ -13,8 +13,9 @@ use morsel_expr::{Pred, PredNode};
 use morsel_frame::Schema;
 use morsel_grammar::CsvOptions;
 use morsel_meaning::{Fault, Name, Why};
-use morsel_query::{Options, Query, SinkFormat, SinkSpec, flaw_of_side};
+use morsel_query::{Options, Query, flaw_of_side};
 use morsel_scan::{ScanFormat, ScanSpec};
+use morsel_sink::{SinkFormat, SinkSpec};
 use std::alloc::Global;
 
 /// The query and the options of a text. Each flaw comes before a name that a schema has twice.

@@ -12,7 +12,7 @@ use crate::options::OptionNumbers;
 use crate::scan::{ScanText, read_scan};
 use crate::trees::{has_only_keys, text_at};
 use morsel_meaning::Fault;
-use morsel_query::SinkFormat;
+use morsel_sink::SinkFormat;
 use serde_json::Value;
 use std::alloc::Global;
 

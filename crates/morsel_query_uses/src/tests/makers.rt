@@ -2,8 +2,9 @@
 use morsel_frame::Schema;
 use morsel_grammar::CsvOptions;
 use morsel_meaning::{ColType, Fault, Field, Name, Why};
-use morsel_query::{Query, SinkFormat, SinkSpec};
+use morsel_query::Query;
 use morsel_scan::{FileScanOptions, ScanFormat, ScanSpec};
+use morsel_sink::{SinkFormat, SinkSpec};
 use std::alloc::Global;
 use std::test::Fail;
 

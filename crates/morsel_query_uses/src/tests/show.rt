@@ -2,8 +2,9 @@
 use morsel_expr::{Pred, PredNode, Rhs};
 use morsel_grammar::CsvOptions;
 use morsel_meaning::{Fault, Field, Name, Value};
-use morsel_query::{Options, Query, SinkSpec};
+use morsel_query::{Options, Query};
 use morsel_scan::{FileScanOptions, RowIndex, ScanFormat, ScanSpec};
+use morsel_sink::SinkSpec;
 use std::alloc::Global;
 use std::mem::drop;
 use std::process::Abort;

@@ -2,7 +2,7 @@ use Rattle.std.proofs.Common.{◌∙◌, ap}
 use Rattle.std.proofs.lemmas.Result.{err_from_is_err_and}
 use Rattle.morsel_query.specs.RunOptions.{AreInRange}
 use Rattle.morsel_query.specs.Queries.{QueryParts, file_scan}
-use Rattle.morsel_query.specs.declared.sink.SinkSpec.{SinkSpec}
+use Rattle.morsel_sink.specs.declared.spec.SinkSpec.{SinkSpec}
 use Rattle.morsel_query_text.specs.Borrowed.{numbers_of, scan_of_text, query_of_text}
 use Rattle.morsel_query_text.proofs.FlawLemmas.{flawless_is, repeat_is, refuses_made, made_text}
 use Rattle.morsel_query_text.proofs.make.make_query.Goals as goal

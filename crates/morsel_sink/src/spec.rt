@@ -2,7 +2,7 @@
 use morsel_meaning::Name;
 
 /// The format of a sink's text.
-#[derive(Debug, Drop)]
+#[derive(Clone, Debug, Drop)]
 pub enum SinkFormat {
     /// NDJSON: one object a line, with a member for each column.
     NdJson,

@@ -1,0 +1,2 @@
+-- The law of parts.
+pub mod SinkLemmas
