@@ -88,6 +88,12 @@ HoldsFitting Reading = Unit {0}
 HoldsFitting (Holding piece) = FitsScan piece
 HoldsFitting Ended = Unit {0}
 
+-- the piece that the caller holds, if it holds one, is of the input
+abbrev pub HoldsPieceOf : (Piece → Type 0) → Input → Type 0
+HoldsPieceOf is_piece Reading = Unit {0}
+HoldsPieceOf is_piece (Holding piece) = is_piece piece
+HoldsPieceOf is_piece Ended = Unit {0}
+
 -- what the caller holds of the input is a piece of it; where it holds its end, no place gives more
 abbrev pub FitsInput : (Piece → Type 0) → (ℕ → ℕ → Type 0) → ℕ → ℕ → Input → Type 0
 FitsInput is_piece is_end given asked Reading = Unit {0}

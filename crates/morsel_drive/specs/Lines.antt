@@ -28,6 +28,12 @@ IfPart (taken.Part part) P = P part
 IfPart taken.Empty P = Unit {0}
 IfPart taken.Whole P = Unit {0}
 
+-- so it is, where nothing more comes
+abbrev pub OnWhole : Taken → Type 0 → Type 0
+OnWhole (taken.Part part) P = Unit {0}
+OnWhole taken.Empty P = Unit {0}
+OnWhole taken.Whole P = P
+
 -- texts of rows are one after the other, and places at which no row ends are of one record at most
 pub record IsSoundAxis (axis : Axis) : Type 0 where
   pub none : axis.text_of [] ≡ []

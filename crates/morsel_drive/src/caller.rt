@@ -1,15 +1,20 @@
 //! The caller's loop.
-ghost use Rattle.std.specs.Prelude.{◌≡◌, ℕ, ◌+◌, ◌<◌, List, ◌++◌, OnOk, IfErr, IfOk};
+ghost use Rattle.std.specs.Prelude.{◌≡◌, true, ℕ, ◌+◌, ◌*◌, ◌<◌, ◌≤◌, List, ◌++◌, OnOk, IfErr, IfOk};
 ghost use Rattle.morsel_outside.specs.Actions.{Action};
 ghost use Rattle.morsel_scan.specs.Ahead.{EndsEachRow};
 ghost use Rattle.morsel_drive.specs.Lines.{IsSoundAxis, ReadsFor};
-ghost use Rattle.morsel_drive.specs.Driving.{IsAfter, WritesPart, WritesOn, KeepsOrStops, KeepsText, HoldsFitting, HasEnded, FitsInput, GivesInput, ReadsInTime, EndsWith, DrivesAxis, Drives};
+ghost use Rattle.morsel_drive.specs.Driving.{IsAfter, WritesPart, WritesOn, KeepsOrStops, KeepsText, HoldsFitting, HoldsPieceOf, HasEnded, FitsInput, GivesInput, ReadsInTime, EndsWith, DrivesAxis, Drives};
 
-use crate::line::{Line, PieceSource, Taken};
+use crate::line::{Line, LineJob, PieceSource, Taken};
 use crate::written::Written;
+use morsel_local::Steps;
 use morsel_meaning::Fault;
-use morsel_outside::{Io, IoErr};
+use morsel_outside::{Gate, Io, IoErr};
 use morsel_pipe::{Encoded, RawPiece};
+use std::sync::ledger::Ledger;
+
+/// How many sweeps may be made for each byte that was given, and before the first one.
+const SWEEPS_A_BYTE: u64 = 1024;
 
 /// What the caller holds of the input.
 #[derive(Debug, Drop)]
@@ -66,9 +71,11 @@ fn after(written: Written, part: &Encoded, rows: u64) -> Written
 /// Takes parts out and writes them until none is there; answers whether the line has ended.
 fn write_on<H: Io, L: Line>(io: &mut H, line: &mut L, written: &mut Written) -> Result<bool, Fault>
     requires made { 0 < (H.seen io.old).sinks }
-    ensures { WritesOn (λ writes. (job : L.Job) → L.serves line.old job → IsSoundAxis (L.axis job)
-        → OnOk result (L.serves line.new job) × ((w chunk : ℕ) (before : List Action) → KeepsText (L.axis job) w chunk before written.old
-        → KeepsOrStops (L.axis job) w chunk (before ++ writes) result written.new)) (H.seen io.old) result (H.seen io.new) }
+    ensures writes { WritesOn (λ writes. (job : L.Job) → L.serves line.old job → IsSoundAxis (L.Job.axis job)
+        → OnOk result (L.serves line.new job) × ((w chunk : ℕ) (before : List Action) → KeepsText (L.Job.axis job) w chunk before written.old
+        → KeepsOrStops (L.Job.axis job) w chunk (before ++ writes) result written.new)) (H.seen io.old) result (H.seen io.new) }
+    ensures told { (job : L.Job) → L.told line.new job → L.told line.old job }
+    ensures whole { IfOk result (λ whole. whole ≡ true → L.is_whole line.new) }
 {
     'parts: for _ in 0..u64::MAX {
         match line.take() {
@@ -85,7 +92,7 @@ fn write_on<H: Io, L: Line>(io: &mut H, line: &mut L, written: &mut Written) -> 
 }
 
 /// Reads a piece where none is held and fewer than `bound` bytes were given and are not written.
-fn read_on<H: Io, L: Line, S: PieceSource<H, L>>(
+fn read_on<H: Io, J: LineJob, S: PieceSource<H, J>>(
     io: &mut H,
     reader: &mut S,
     written: &Written,
@@ -95,15 +102,18 @@ fn read_on<H: Io, L: Line, S: PieceSource<H, L>>(
     requires suits { S.suits reader.old (H.seen io.old) }
     requires fits { HoldsFitting input }
     requires ended { HasEnded input → S.ended reader.old }
+    requires within { S.given reader.old ≤ S.size reader.old (H.seen io.old).sizes }
     ensures suits { OnOk result (S.suits reader.new (H.seen io.new)) }
     ensures chunk { S.chunk reader.new ≡ S.chunk reader.old }
+    ensures same_size { (sizes : List ℕ) → S.size reader.new sizes ≡ S.size reader.old sizes }
+    ensures within { OnOk result (S.given reader.new ≤ S.size reader.old (H.seen io.old).sizes) }
     ensures fits { IfOk result HoldsFitting }
     ensures ended { IfOk result (λ held. HasEnded held → S.ended reader.new) }
     ensures failed { IfErr result (S.failed reader.new) }
-    ensures reads { ReadsFor (S.did reader.old reader.new (H.seen io.old).sizes) (λ events. (job : L.Job) → S.reads reader.old job (H.seen io.old) → EndsEachRow (L.axis job)
-        → ReadsInTime (L.axis job) (bound + (L.axis job).longest) (S.chunk reader.old) (S.asked reader.old) written.now.next result (S.asked reader.new) events) (H.seen io.old) (H.seen io.new) }
-    ensures input { (job : L.Job) → S.reads reader.old job (H.seen io.old) → FitsInput (L.is_piece job) (L.is_end job) (S.given reader.old) (S.asked reader.old) input
-        → GivesInput (L.is_piece job) (L.is_due job) (L.is_end job) (S.reads reader.new job (H.seen io.new)) (S.given reader.new) (S.asked reader.new) result }
+    ensures reads { ReadsFor (S.did reader.old reader.new (H.seen io.old).sizes) (λ events. (job : J) → S.reads reader.old job (H.seen io.old) → EndsEachRow (J.axis job)
+        → ReadsInTime (J.axis job) (bound + (J.axis job).longest) (S.chunk reader.old) (S.asked reader.old) written.now.next result (S.asked reader.new) events) (H.seen io.old) (H.seen io.new) }
+    ensures input { (job : J) → S.reads reader.old job (H.seen io.old) → FitsInput (J.is_piece job) (J.is_end job) (S.given reader.old) (S.asked reader.old) input
+        → GivesInput (J.is_piece job) (J.is_due job) (J.is_end job) (S.reads reader.new job (H.seen io.new)) (S.given reader.new) (S.asked reader.new) result }
 {
     let Input::Reading = input else {
         return Ok(input);
@@ -121,10 +131,12 @@ fn read_on<H: Io, L: Line, S: PieceSource<H, L>>(
 /// Feeds the piece that is held, where the line has room; closes the line at the end of the input.
 fn feed_on<L: Line>(line: &mut L, input: Input) -> Input
     requires fits { HoldsFitting input }
+    requires told { (job : L.Job) → L.told line.old job → HoldsPieceOf (L.Job.is_piece job) input }
+    ensures told { (job : L.Job) → L.told line.new job → L.told line.old job }
     ensures fits { HoldsFitting result }
     ensures ended { HasEnded result → HasEnded input }
-    ensures input { (job : L.Job) → L.serves line.old job → (given asked : ℕ) → FitsInput (L.is_piece job) (L.is_end job) given asked input
-        → L.serves line.new job × FitsInput (L.is_piece job) (L.is_end job) given asked result }
+    ensures input { (job : L.Job) → L.serves line.old job → (given asked : ℕ) → FitsInput (L.Job.is_piece job) (L.Job.is_end job) given asked input
+        → L.serves line.new job × FitsInput (L.Job.is_piece job) (L.Job.is_end job) given asked result }
 {
     match input {
         Input::Reading => Input::Reading,
@@ -152,20 +164,25 @@ fn end(given: u64, input: &Input, written: &Written) -> Result<u64, Fault>
 /// Reads the input of a line, feeds it, and writes what comes out; answers how many rows were written.
 ///
 /// The sink is made, and what comes before its first row is written. No read is made while `bound` bytes or more were given and
-/// are not written.
-pub fn drive<H: Io, L: Line, S: PieceSource<H, L>>(
+/// are not written. It makes few sweeps for each byte that it is given, so it always returns.
+pub fn drive<H: Io, L: Line, S: PieceSource<H, <L as Line>::Job>, G: Gate, Y: Ledger>(
     io: &mut H,
     reader: &mut S,
     line: &mut L,
     bound: u64,
+    gate: &G,
+    steps: &mut Steps<Y>,
 ) -> Result<u64, Fault>
     requires made { 0 < (H.seen io.old).sinks }
     requires suits { S.suits reader.old (H.seen io.old) }
     requires given { S.given reader.old ≡ 0 }
     requires asked { S.asked reader.old ≡ 0 }
-    ensures { Drives (S.did reader.old reader.new (H.seen io.old).sizes) (S.failed reader.new) (L.broke line.new) (S.ended reader.new × S.suits reader.new (H.seen io.new)) (λ actions. (job : L.Job)
-        → S.reads reader.old job (H.seen io.old) → L.serves line.old job → IsSoundAxis (L.axis job)
-        → DrivesAxis (L.axis job) (L.is_due job) (L.is_end job) (S.reads reader.new job (H.seen io.new)) (bound + (L.axis job).longest) (S.chunk reader.old) actions result)
+    requires told { (job : L.Job) → L.told line.old job → S.reads reader.old job (H.seen io.old) × L.serves line.old job × IsSoundAxis (L.Job.axis job) }
+    ensures sweeps { steps.new ≤ steps.old + 1024 * (S.size reader.old (H.seen io.old).sizes + 1) }
+    ensures whole { OnOk result (L.is_whole line.new) }
+    ensures drives { Drives (S.did reader.old reader.new (H.seen io.old).sizes) (S.failed reader.new) (L.broke line.new) (S.ended reader.new × S.suits reader.new (H.seen io.new)) (λ actions. (job : L.Job)
+        → S.reads reader.old job (H.seen io.old) → L.serves line.old job → IsSoundAxis (L.Job.axis job)
+        → DrivesAxis (L.Job.axis job) (L.Job.is_due job) (L.Job.is_end job) (S.reads reader.new job (H.seen io.new)) (bound + (L.Job.axis job).longest) (S.chunk reader.old) actions result)
         (H.seen io.old) result (H.seen io.new) }
 {
     let mut written = Written {
@@ -174,13 +191,17 @@ pub fn drive<H: Io, L: Line, S: PieceSource<H, L>>(
         rows: 0,
     };
     let mut input = Input::Reading;
-    'turns: for _ in 0..u64::MAX {
+    'turns: for turn in 0..u64::MAX {
+        // No run comes so far: a piece has a byte at least, and goes through the line in a few sweeps.
+        if turn / SWEEPS_A_BYTE > reader.given() {
+            return Err(Fault::OutOfMemory);
+        }
         input = match read_on(io, reader, &written, bound, input) {
             Ok(input) => input,
             Err(fault) => return Err(fault),
         };
         input = feed_on(line, input);
-        if let Err(fault) = line.step() {
+        if let Err(fault) = line.step(gate, steps) {
             return Err(fault);
         }
         let whole = match write_on(io, line, &mut written) {

@@ -8,4 +8,4 @@ mod line;
 mod written;
 
 pub use caller::drive;
-pub use line::{Line, PieceSource, Taken};
+pub use line::{Line, LineJob, PieceSource, Taken};

@@ -5,3 +5,4 @@ mod ToldLemmas
 mod ScanLemmas
 mod WriteLemmas
 mod PartLemmas
+mod SweepLemmas

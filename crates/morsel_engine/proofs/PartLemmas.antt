@@ -1,6 +1,6 @@
 -- The parts of a run, put together.
-use Rattle.std.proofs.Common.{◌≡◌, ℕ, ap, sym, subst, refl, ◌∙◌, append-nil, arith}
-use Rattle.std.specs.Prelude.{ℤ, pos, negsuc, Option, Some, None, Result, Err, List, [], ◌∷◌, length}
+use Rattle.std.proofs.Common.{◌≡◌, ℕ, inl, inr, ap, sym, subst, refl, ◌∙◌, append-nil, arith}
+use Rattle.std.specs.Prelude.{ℤ, pos, negsuc, ◌<◌, Option, Some, None, Result, Err, List, [], ◌∷◌, length}
 use Rattle.morsel_meaning.specs.declared.fault.Fault.{Fault}
 use Rattle.morsel_meaning.specs.declared.fault.Fault.TheVariants as faults
 use Rattle.morsel_outside.specs.declared.io.FileNo.{FileNo}
@@ -12,7 +12,10 @@ use Rattle.morsel_scan.specs.declared.spec.ScanFormat.{ScanFormat}
 use Rattle.morsel_scan.specs.declared.spec.ScanFormat.TheVariants as formats
 use Rattle.morsel_scan.specs.declared.spec.ScanSpec.{ScanSpec}
 use Rattle.morsel_read.specs.ReadScans.{columns_of_format, dialect_of_format, scan_read}
-use Rattle.morsel_read.specs.ScanReads.{CountsFromFirst}
+use Rattle.morsel_read.specs.ScanReads.{PiecesRead, CountsFromFirst, files_asked, pieces_at_start}
+use Rattle.morsel_grammar.specs.Dialect.{IsDialect}
+use Rattle.morsel_line.specs.ScanRuns.{WritesScan}
+use Rattle.morsel_lane_line.specs.LaneRuns.{WritesOrNot}
 use Rattle.morsel_frame.specs.Refusals.{first_fault}
 use Rattle.morsel_sink.specs.declared.spec.SinkSpec.{SinkSpec}
 use Rattle.morsel_query.specs.RunOptions.{RunOptions}
@@ -20,7 +23,7 @@ use Rattle.morsel_query.specs.Queries.{FileFormat, CsvFiles, QueryParts, file_fo
 use Rattle.morsel_query.specs.QueryFlaws.{sources_of, IsSound}
 use Rattle.morsel_query.specs.Plans.{slice_fault, side_fault, query_fault}
 use Rattle.morsel_query.specs.Meanings.{dialect_of, csv_scan}
-use Rattle.morsel_engine.specs.Stages.{HasOpenedAll, OpensSources, MakesSink, ScansFiles, AreOpenIn, IsPlannedScan}
+use Rattle.morsel_engine.specs.Stages.{HasOpenedAll, bytes_bound, OpensSources, MakesSink, ScansFiles, AreOpenIn, IsPlannedScan}
 use Rattle.morsel_engine.specs.Runs.{Runs}
 use Rattle.morsel_engine.proofs.OpenLemmas.{length_numbers}
 use Rattle.morsel_engine.proofs.ToldLemmas.{are_open_in}
@@ -40,6 +43,19 @@ read_is spec = by spec.format
 
     by : (f : ScanFormat) → seen f ≡ meant (file_format f)
     by (formats.Csv schema options) = refl
+
+-- a scan was written through its line, of the query's files and with its bound; or nothing was done
+pub scanned : (before after : Outside) (s node : CsvScan) (names : List (List ℕ)) (numbers : List FileNo) (options : RunOptions) (result : Result ℕ Fault) (reader : PiecesRead) (bound : ℕ)
+    → IsDialect s.options → 0 < bytes_bound options → node ≡ s → reader ≡ pieces_at_start (files_asked s names numbers 0 options.chunk_bytes) → bound ≡ bytes_bound options
+    → WritesOrNot node reader bound before result after → ScansFiles before s names numbers options result after
+scanned before after s node names numbers options result reader bound fit some same start is (inl none) = inl none
+scanned before after s node names numbers options result reader bound fit some same start is (inr writes) = inr (
+  fit,
+  some,
+  subst (λ (n : ℕ). WritesScan s (pieces_at_start (files_asked s names numbers 0 options.chunk_bytes)) n before result after) is
+      (subst (λ (r : PiecesRead). WritesScan s r bound before result after) start
+      (subst (λ (t : CsvScan). WritesScan t reader bound before result after) same writes)),
+)
 
 -- a slice that counts from the first row
 pub counts : (slice : Option (ℤ × ℕ)) → slice_fault slice ≡ None → CountsFromFirst slice

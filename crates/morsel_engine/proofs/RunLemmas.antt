@@ -116,20 +116,20 @@ runs_refused o query options fault why = runs_stopped o query options [] fault o
     one due is (inl found) = inl (let both : Some fault ≡ Some due = sym found ∙ is in cc)
     one due is (inr found) = inr found
 
--- what `check` answers
-pub refused_by : (due : Option Fault) (fault : Fault) → Refuses {T = Unit {0}} due (Err fault) → (due ≡ Some fault) ⊎ (fault ≡ faults.OutOfMemory)
-refused_by due faults.OutOfMemory h = inr refl
-refused_by due (faults.ReadFault file) h = inl h
-refused_by due faults.WriteFault h = inl h
-refused_by due (faults.InvalidQuery why) h = inl h
-refused_by due (faults.Malformed file at) h = inl h
-refused_by due (faults.Unsupported file code) h = inl h
-refused_by due (faults.ColumnNotFound name) h = inl h
-refused_by due (faults.SchemaMismatch name) h = inl h
-refused_by due (faults.Duplicate name) h = inl h
-refused_by due (faults.ComputeError kind file at) h = inl h
-refused_by due faults.QueryText h = inl h
-refused_by due faults.Usage h = inl h
+-- a fault that is answered where one is due
+pub refused_by : (T : Type 0) (due : Option Fault) (fault : Fault) → Refuses {T = T} due (Err fault) → (due ≡ Some fault) ⊎ (fault ≡ faults.OutOfMemory)
+refused_by T due faults.OutOfMemory h = inr refl
+refused_by T due (faults.ReadFault file) h = inl h
+refused_by T due faults.WriteFault h = inl h
+refused_by T due (faults.InvalidQuery why) h = inl h
+refused_by T due (faults.Malformed file at) h = inl h
+refused_by T due (faults.Unsupported file code) h = inl h
+refused_by T due (faults.ColumnNotFound name) h = inl h
+refused_by T due (faults.SchemaMismatch name) h = inl h
+refused_by T due (faults.Duplicate name) h = inl h
+refused_by T due (faults.ComputeError kind file at) h = inl h
+refused_by T due faults.QueryText h = inl h
+refused_by T due faults.Usage h = inl h
 
 -- sources are open, and nothing else was done
 not_begun-opened : (old now : Outside) (query : QueryParts) (files : List (List ℕ)) → HasOpenedFirst old (sources_of query) files now → HasNotBegun old query files now

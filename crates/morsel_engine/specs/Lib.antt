@@ -3,3 +3,4 @@ pub mod Courses
 pub mod Opened
 pub mod Stages
 pub mod Runs
+pub mod SweepBounds

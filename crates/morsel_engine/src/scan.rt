@@ -1,24 +1,33 @@
 //! The scan of a query's open files into its sink.
-ghost use Rattle.std.specs.Prelude.{◌≡◌, ◌<◌, ◌≤◌, length, IfOk, None};
-ghost use Rattle.morsel_query.specs.Queries.{file_scan};
+ghost use Rattle.std.specs.Prelude.{◌≡◌, ◌+◌, ◌*◌, ◌<◌, ◌≤◌, length, IfOk, None};
+ghost use Rattle.std.specs.List.{sum_by};
+ghost use Rattle.morsel_scan.specs.ScanColumns.{output_fields};
+ghost use Rattle.morsel_read.specs.ScanReads.{sizes_in};
+ghost use Rattle.morsel_query.specs.Queries.{file_scan, scan_asked};
 ghost use Rattle.morsel_query.specs.Meanings.{csv_scan};
 ghost use Rattle.morsel_engine.specs.Stages.{ScansFiles, bytes_bound, AreOpenIn, IsPlannedScan};
 
-use morsel_line::write_scan;
+use morsel_frame::Schema;
+use morsel_lane_line::write_scan;
+use morsel_local::Steps;
 use morsel_meaning::Fault;
-use morsel_outside::{FileNo, Io};
+use morsel_outside::{FileNo, Gate, Io};
 use morsel_query::{Options, ahead};
 use morsel_read::ScanReader;
 use morsel_scan::{CsvSourceNode, ScanFormat, ScanSpec};
 use std::alloc::Global;
+use std::sync::ledger::Ledger;
 
-/// Writes the rows of a scan's open files into the last sink, and answers how many there are.
-pub fn scan_files<H: Io>(
+/// Writes the rows of a scan's open files, which have these columns, into the last sink, and answers how many there are.
+pub fn scan_files<H: Io, G: Gate, Y: Ledger>(
     alloc: Global,
     io: &mut H,
     spec: ScanSpec,
+    columns: Schema,
     files: Vec<FileNo>,
     options: &Options,
+    gate: &G,
+    steps: &mut Steps<Y>,
 ) -> Result<u64, Fault>
     requires made { 0 < (H.seen io.old).sinks }
     requires some { 0 < length spec.sources.items }
@@ -26,7 +35,9 @@ pub fn scan_files<H: Io>(
     requires one_each { length files.items ≡ length spec.sources.items }
     requires opened { AreOpenIn (H.seen io.old) files.items }
     requires planned { IsPlannedScan (file_scan spec) }
-    ensures { ScansFiles (H.seen io.old) (csv_scan (file_scan spec)) spec.sources.items files.items options.now result (H.seen io.new) }
+    requires columns { columns ≡ output_fields (scan_asked (file_scan spec)) }
+    ensures sweeps { steps.new ≤ steps.old + 1024 * (sum_by (λ n. n) (sizes_in (H.seen io.old).sizes files.items) + 1) }
+    ensures scans { ScansFiles (H.seen io.old) (csv_scan (file_scan spec)) spec.sources.items files.items options.now result (H.seen io.new) }
 {
     let Ok(reader) = ScanReader::new(alloc, &spec, files, 0, options.chunk_bytes()) else {
         return Err(Fault::OutOfMemory);
@@ -34,7 +45,16 @@ pub fn scan_files<H: Io>(
     let Ok(node) = node_of(alloc, spec) else {
         return Err(Fault::OutOfMemory);
     };
-    write_scan(alloc, io, node, reader, bytes_ahead(options))
+    write_scan(
+        alloc,
+        io,
+        node,
+        columns,
+        reader,
+        bytes_ahead(options),
+        gate,
+        steps,
+    )
 }
 
 /// The node that decodes the pieces of a scan.

@@ -1,6 +1,8 @@
 -- The reader of a scan's files as what a line is fed from.
-use Rattle.std.proofs.Common.{◌≡◌, ℕ, zero, suc, ◌+◌, ◌≤◌, ap, sym, subst, refl, ◌∙◌, inr}
+use Rattle.std.proofs.Common.{◌≡◌, ℕ, zero, suc, ◌+◌, ◌≤◌, ap, sym, subst, refl, ◌∙◌, inr, arith}
 use Rattle.std.proofs.lemmas.Bool.{eq-eqb}
+use Rattle.std.proofs.lemmas.List.Sums.{sum_by-take-le, sum_by_more_le}
+use Rattle.morsel_read.proofs.SourceLemmas.{get_less, size_at, sizes_len}
 use Rattle.std.specs.Prelude.{Bool, true, false, ◌||◌, nat_eq, Option, Some, None, Result, Ok, Err, OnOk, IfOk, IfErr, if◌then◌else◌, List, [], ◌∷◌, ◌++◌, map, length, take, get_or, slice_get}
 use Rattle.std.specs.List.{flat_map, sum_by, list_any}
 use Rattle.morsel_meaning.specs.declared.fault.Fault.{Fault}
@@ -14,7 +16,8 @@ use Rattle.morsel_outside.proofs.DoesLemmas.{does-nothing}
 use Rattle.morsel_pipe.specs.Pieces.{Piece}
 use Rattle.morsel_scan.specs.CsvPieces.{IsPieceOf}
 use Rattle.morsel_scan.specs.Ahead.{IsNextRead, EndsNoRow, is_source, Seeks, asked_up_to, asked_after}
-use Rattle.morsel_read.specs.ScanReads.{FilesAsked, PiecesRead, asked_to, sizes_in, AreTold, HasGivenRows}
+use Rattle.morsel_scan.specs.RowBlocks.{RowsRead}
+use Rattle.morsel_read.specs.ScanReads.{FilesAsked, PiecesRead, asked_to, settled_within, sizes_in, AreOpen, AreTold, HasGivenRows, IsCurrent, SuitsPieces}
 use Rattle.morsel_read.specs.PieceReads.{IsNextChunk, AreNextChunks, EndsNoRowOf, AreInNeed, ReadsOnForPieces, FailsToReadForPieces, ReadsUpToFault, ReadsForPieces, IsPiecesFault, IsScanEnd, GivesNumbered, FindsPiece}
 use Rattle.morsel_drive.specs.Lines.{Each, IsReading, IsDue, GivesFitting, GivesNext, SeeksFor, ReadsFor}
 use Rattle.morsel_line.specs.Jobs.{Job}
@@ -264,3 +267,32 @@ gives_next before after old new (Ok None) job same numbered reads finds = (
 )
 gives_next before after old new (Err fault) job same numbered reads finds =
     due_fault job (asked_to new) fault (subst (λ n. IsPiecesFault job.scan n job.files (asked_to new) fault) reads.first finds)
+
+-- what was given is within the files
+within_files : (o : Outside) (r : PiecesRead) → AreOpen o r → r.given ≤ sum_by (λ n. n) (sizes_in o.sizes r.sources.files)
+within_files o r opened = by r.current opened.current opened.order
+  where
+    total : ℕ
+    total = sum_by (λ n. n) (sizes_in o.sizes r.sources.files)
+
+    by : (current : Option RowsRead) → IsCurrent o r.sources r.source current → r.given ≤ r.earlier + settled_within current → r.given ≤ total
+    by None is order =
+        let front = sum_by-take-le (λ n. n) (sizes_in o.sizes r.sources.files) r.source in let earlier = opened.earlier in omega (arith, front, earlier, order)
+    by (Some c) is order =
+        let less = get_less r.sources.files r.source _ is.1 in
+        let len = sizes_len o r.sources.files in
+        let size = size_at o r.sources.files r.source _ is.1 in
+        let size_is = is.0.size_is in
+        let all = sum_by_more_le (λ n. n) (sizes_in o.sizes r.sources.files) r.source 0 (omega (arith, less, len)) in
+        let earlier = opened.earlier in
+        let asked = is.0.within in
+        let file : c.blocks.file ≡ c.blocks.file = refl in
+        omega (arith, size, size_is, all, earlier, asked, order, len, less, file)
+
+-- so it is after a search that went well
+pub given_within : (before after : Outside) (old new : PiecesRead) (result : Result (Option Piece) Fault) → new.sources ≡ old.sources → after.sizes ≡ before.sizes → SuitsPieces after new
+    → OnOk result (new.fault ≡ None) → OnOk result (new.given ≤ sum_by (λ n. n) (sizes_in before.sizes old.sources.files))
+given_within before after old new (Ok found) same sized suits none =
+    subst (λ (x : List ℕ). new.given ≤ sum_by (λ n. n) (sizes_in x old.sources.files)) sized
+    (subst (λ (x : FilesAsked). new.given ≤ sum_by (λ n. n) (sizes_in after.sizes x.files)) same (within_files after new (suits.opened none)))
+given_within before after old new (Err fault) same sized suits none = tt

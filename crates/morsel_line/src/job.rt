@@ -4,6 +4,7 @@ ghost use Rattle.morsel_drive.specs.Lines.{IsSoundAxis};
 ghost use Rattle.morsel_line.specs.Jobs.{Job};
 ghost use Rattle.morsel_line.specs.ScanJobs.{job_axis};
 
+use morsel_drive::LineJob;
 use morsel_meaning::Name;
 use morsel_scan::CsvSourceNode;
 use std::marker::Model;
@@ -43,6 +44,18 @@ impl Model for ScanJob {
       opened = job.opened.items;
       files = map (λ file. file.items) job.files.items;
     } };
+}
+
+impl LineJob for ScanJob {
+    ghost use Rattle.morsel_line.specs.ScanJobs.{job_axis, IsJobPiece, IsJobEnd, IsJobFault};
+
+    ghost axis = { job_axis };
+
+    ghost is_piece = { IsJobPiece };
+
+    ghost is_end = { IsJobEnd };
+
+    ghost is_due = { IsJobFault };
 }
 
 /// The texts of a scan's rows are one after the other, and places of its files at which no row ends are of one record at most.

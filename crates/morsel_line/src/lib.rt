@@ -1,14 +1,10 @@
-//! A scan of CSV files into NDJSON, on one thread: a line that makes pieces into text by plain calls, the reader that feeds it, and
-//! the run of both.
+//! What a line of CSV pieces is for, and the reader that feeds it.
 #![tactic(auto)]
 
-mod encode;
+mod faults;
 mod job;
-mod run;
-mod scan_line;
 mod scan_source;
 
+pub use faults::piece_fault;
 pub use job::{ScanJob, a_scan_has_a_sound_axis};
-pub use run::write_scan;
-pub use scan_line::ScanLine;
 pub use scan_source::ScanSource;

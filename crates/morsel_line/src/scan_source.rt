@@ -1,7 +1,7 @@
 //! The reader of a scan's files as what a line is fed from.
 ghost use Rattle.std.specs.Prelude.{◌≡◌};
 
-use crate::scan_line::ScanLine;
+use crate::job::ScanJob;
 use morsel_drive::PieceSource;
 use morsel_meaning::Fault;
 use morsel_outside::Io;
@@ -32,9 +32,10 @@ impl ScanSource {
     }
 }
 
-impl<H: Io> PieceSource<H, ScanLine> for ScanSource {
+impl<H: Io> PieceSource<H, ScanJob> for ScanSource {
     ghost use Rattle.std.specs.Prelude.{◌≡◌, Some, None};
-    ghost use Rattle.morsel_read.specs.ScanReads.{asked_to, SuitsPieces, IsPiecesFaultOf};
+    ghost use Rattle.std.specs.List.{sum_by};
+    ghost use Rattle.morsel_read.specs.ScanReads.{asked_to, sizes_in, SuitsPieces, IsPiecesFaultOf};
     ghost use Rattle.morsel_read.specs.PieceReads.{HasGivenAll};
     ghost use Rattle.morsel_line.specs.ScanSources.{DidRead, ReadsJob};
     ghost use Rattle.morsel_line.specs.SourceLaws.{suits_on, reads_on, did_nothing, did_on};
@@ -46,6 +47,8 @@ impl<H: Io> PieceSource<H, ScanLine> for ScanSource {
     ghost given = { λ source. source.given };
 
     ghost asked = { asked_to };
+
+    ghost size = { λ source sizes. sum_by (λ n. n) (sizes_in sizes source.sources.files) };
 
     ghost chunk = { λ source. source.sources.chunk };
 

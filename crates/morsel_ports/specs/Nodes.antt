@@ -1,10 +1,14 @@
 -- What is seen of a node and of its units: its ports, which ends a unit has, and how a unit ended.
-use Rattle.std.specs.Prelude.{◌≡◌, ◌≢◌, ◌==◌, if◌then◌else◌, ℕ, ◌<◌, ◌≤◌, Bool, true, false, List, [], ◌∷◌, length, map, All, Option, Some, Result, Err, IsOkAnd, slice_get, slice_index_or}
+use Rattle.std.specs.Prelude.{◌≡◌, ◌≢◌, ◌==◌, if◌then◌else◌, ℕ, ◌<◌, ◌≤◌, Bool, true, false, List, [], ◌∷◌, length, map, All, Option, None, Some, Result, Err, IsOkAnd, slice_get, slice_index_or}
 use Rattle.std.specs.List.{flat_map}
 use Rattle.atomic_table.specs.Seated.{TableId}
 use Rattle.morsel_meaning.specs.declared.fault.Fault.{Fault}
-use Rattle.morsel_prims.specs.Polled.{LaneId, held_list}
+use Rattle.morsel_meaning.specs.declared.fault.Fault.TheVariants as faults
+use Rattle.morsel_prims.specs.Polled.{LaneId, held_list, no_table}
 use Rattle.morsel_prims.specs.Woken.{has_number}
+use Rattle.morsel_lane_pipe.specs.Tasks.{TaskSeen}
+use Rattle.morsel_lane_pipe.specs.declared.receipts.PipeOut.{PipeOut}
+use Rattle.morsel_lane_pipe.specs.declared.receipts.PipeOut.TheVariants.{Whole, Cut, OutOfMemory, Failed}
 use Rattle.morsel_lane_pipe.specs.declared.receipts.Receipts.{Receipts}
 use Rattle.morsel_ports.specs.declared.node.PortKind.{PortKind}
 use Rattle.morsel_ports.specs.declared.node.PortKind.TheVariants as kinds
@@ -31,6 +35,18 @@ pub data UnitEnd (R S : Type 0) : Type 0 where
   EndedWhole : List R → List S → UnitEnd R S
   EndedCut : UnitEnd R S
   EndedBy : Fault → UnitEnd R S
+
+-- how a unit that is a task between lanes ended
+abbrev pub end_of_out : {R S : Type 0} → PipeOut (Receipts R S) → UnitEnd R S
+end_of_out (Whole receipts) = EndedWhole receipts.taken.items receipts.sent.items
+end_of_out Cut = EndedCut
+end_of_out OutOfMemory = EndedBy faults.OutOfMemory
+end_of_out (Failed fault) = EndedBy fault
+
+-- the lanes of such a unit, until it has ended
+abbrev pub lanes_of_task : {T : Type 0} → (T → TaskSeen) → Option T → UnitSeen
+lanes_of_task seen None = record { home = no_table; from = []; to = [] }
+lanes_of_task seen (Some task) = record { home = (seen task).home; from = (seen task).from; to = (seen task).to }
 
 -- the fact holds of the receipts, where the unit ended whole
 abbrev pub IfEndedWhole : {R S : Type 0} → UnitEnd R S → (List R → List S → Type 0) → Type 0

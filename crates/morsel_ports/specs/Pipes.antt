@@ -82,3 +82,12 @@ is_direct HalfParallel = false
 is_direct Direct = true
 is_direct ToMerge = false
 is_direct ToSpread = false
+
+-- whether both nodes have their ends
+abbrev pub is_made : PipeStage → Bool
+is_made Unopened = false
+is_made HalfSerial = false
+is_made HalfParallel = false
+is_made Direct = true
+is_made ToMerge = true
+is_made ToSpread = true

@@ -1,6 +1,7 @@
 //! The two main calls, from the words to the status.
-ghost use Rattle.std.specs.Prelude.{map};
+ghost use Rattle.std.specs.Prelude.{◌≡◌, ◌<◌, map};
 ghost use Rattle.std.specs.String.{string_bytes};
+ghost use Rattle.morsel_engine.specs.Runs.{Runs};
 ghost use Rattle.morsel_prog.specs.Words.{command_of};
 ghost use Rattle.morsel_prog.specs.Results.{command_of_words};
 ghost use Rattle.morsel_prog.specs.CommandRuns.{RunsCommand, RunsWords};
@@ -10,10 +11,14 @@ use crate::commands::query_of_command;
 use crate::report::report;
 use crate::words::{CommandWords, command};
 use morsel_engine::run_local;
+use morsel_local::Steps;
 use morsel_meaning::Fault;
 use morsel_outside::{Gate, Io, OpenGate};
+use morsel_query::{Options, Query};
 use std::alloc::Global;
+use std::marker::Brand;
 use std::sync::Wait;
+use std::sync::ledger::{Blank, Ledger};
 use std::thread::Threads;
 
 /// Runs the command of the words.
@@ -31,7 +36,24 @@ fn run_command<H: Io>(alloc: Global, command: CommandWords<'_>, io: &mut H) -> R
     ensures { RunsCommand (H.seen io.old) (command_of_words command.entry) result (H.seen io.new) }
 {
     let (query, options) = query_of_command(alloc, io, command)?;
-    run_local(alloc, io, query, &options, &OpenGate)
+    run_counted::<H, Brand>(alloc, io, query, &options, Blank::new(1))
+}
+
+/// Runs a query, with a count of its sweeps that nobody asks for.
+fn run_counted<H: Io, Y: Ledger>(
+    alloc: Global,
+    io: &mut H,
+    query: Query,
+    options: &Options,
+    blank: Blank,
+) -> Result<u64, Fault>
+    requires name { blank.name ≡ Y.name }
+    requires parts { blank.parts ≡ Y.parts }
+    requires some { 0 < blank.parts }
+    ensures { Runs (H.seen io.old) query options.now result (H.seen io.new) }
+{
+    let mut steps = Steps::<Y>::new(blank);
+    run_local(alloc, io, query, options, &OpenGate, &mut steps)
 }
 
 /// Runs the command of the words and tells its answer.

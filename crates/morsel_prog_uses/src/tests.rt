@@ -5,6 +5,7 @@
 mod commands;
 mod dialects;
 mod faults;
+mod gates;
 mod hostile;
 mod query_files;
 mod reads;

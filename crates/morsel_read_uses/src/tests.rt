@@ -8,4 +8,3 @@ mod one_file;
 mod pieces;
 mod reading;
 mod rows;
-mod writing;

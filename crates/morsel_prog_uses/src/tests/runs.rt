@@ -1,22 +1,27 @@
 //! Runs of queries called by themselves, over each outside in memory.
+ghost use Rattle.std.specs.Prelude.{◌≡◌, ◌<◌};
+
 use super::commands::{ROWS, SCANNED_TEXT};
 use super::{LOCAL, Run, files_of, leaves, outside_of};
 use morsel_engine::run_local;
+use morsel_local::Steps;
 use morsel_meaning::{ComputeKind, Fault, QUERY_FILE};
-use morsel_outside::{Asked, Io, MemIo, Memory, OpenGate, SureMemIo};
+use morsel_outside::{Asked, Gate, Io, MemIo, Memory, OpenGate, SureMemIo};
 use morsel_query::{Options, Query};
 use morsel_query_text::query_of;
 use serde_json::Value;
 use std::alloc::Global;
+use std::marker::Brand;
 use std::mem::drop;
 use std::process::Abort;
+use std::sync::ledger::{Blank, Ledger};
 
 /// A query of the two rows, four bytes at a time.
-const TWO: &str =
+pub const TWO: &str =
     r#"{"left":{"format":"csv","files":["one.csv"],"schema":[["id","int"],["name","text"]]},"sink":{"format":"ndjson"},"options":{"chunk_bytes":4}}"#;
 
 /// The query of a text, into `o`.
-fn read(alloc: Global, text: &str) -> Result<(Query, Options), Fault> {
+pub fn read(alloc: Global, text: &str) -> Result<(Query, Options), Fault> {
     let Ok(tree) = Value::from_str(alloc, text) else {
         return Err(Fault::QueryText);
     };
@@ -26,7 +31,24 @@ fn read(alloc: Global, text: &str) -> Result<(Query, Options), Fault> {
 /// What a run of the query answers.
 fn answer<H: Io>(rt: &impl Abort, alloc: Global, io: &mut H, text: &str) -> Result<u64, Fault> {
     let (query, options) = read(alloc, text).expect(rt, "a query");
-    run_local(alloc, io, query, &options, &OpenGate)
+    counted::<H, OpenGate, Brand>(alloc, io, query, &options, &OpenGate, Blank::new(1))
+}
+
+/// What a run of the query answers, with a count of its sweeps.
+pub fn counted<H: Io, G: Gate, Y: Ledger>(
+    alloc: Global,
+    io: &mut H,
+    query: Query,
+    options: &Options,
+    gate: &G,
+    blank: Blank,
+) -> Result<u64, Fault>
+    requires name { blank.name ≡ Y.name }
+    requires parts { blank.parts ≡ Y.parts }
+    requires some { 0 < blank.parts }
+{
+    let mut steps = Steps::<Y>::new(blank);
+    run_local(alloc, io, query, options, gate, &mut steps)
 }
 
 /// What was asked for: `open` and the name of a file, or `make` and that of a sink.

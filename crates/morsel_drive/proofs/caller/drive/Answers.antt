@@ -1,4 +1,4 @@
-use Rattle.std.proofs.Common.{ℕ, ◌∙◌, refl, subst, arith}
+use Rattle.std.proofs.Common.{ℕ, ◌≤◌, ◌∙◌, refl, subst, arith}
 use Rattle.std.specs.Prelude.{List}
 use Rattle.morsel_drive.proofs.TransferLemmas.{either_reading, either_writing, stays}
 use Rattle.morsel_drive.proofs.TurnLemmas.{stands_begun, stands_read, read_failed, stands_served, step_failed, stands_written, write_failed, run_ended}
@@ -8,6 +8,11 @@ pub turns-init : goal.turns-init
 turns-init g c = record {
   suits = c.requires.suits;
   made = c.requires.made;
+  told = λ job is. is;
+  counted = omega arith;
+  size = refl;
+  within = let none = c.requires.given in omega (arith, none);
+  few = omega arith;
   chunk = refl;
   same = refl;
   fits = tt;
@@ -15,54 +20,54 @@ turns-init g c = record {
   stands = stands_begun _ _ _ _ _ _ _ _ _ _ _ _ (g.met.S.PieceSource.did_nothing _ _) c.requires.asked refl refl refl;
 }
 
-pub returns-in-Err : goal.returns-in-Err
-returns-in-Err g c =
+pub returns-in-Err-clause-drives : goal.returns-in-Err-clause-drives
+returns-in-Err-clause-drives g c =
     read_failed _ _ _ _ _ _ _ _ (λ job. g.S.PieceSource.reads c.read_on.new.reader job (g.H.Io.seen c.read_on.new.io)) _ _ _ _ (g.S.PieceSource.given c.read_on.new.reader) _
     (g.S.PieceSource.asked c.read_on.new.reader) _ c.in-Err.fault _ _ _ _ _ _ _ _ _ _ c.turns.invariant.chunk c.turns.invariant.stands c.in-Err.ensures.reads
     (λ xs ys first later. g.met.S.PieceSource.did_on _ _ _ _ xs ys first (subst (λ (x : List ℕ). g.S.PieceSource.did c.turns.reader c.read_on.new.reader x ys) c.turns.invariant.same later)) (λ job reads fits. c.in-Err.ensures.input job reads fits) c.in-Err.ensures.failed
 
-pub returns-in-Err-step : goal.returns-in-Err-step
-returns-in-Err-step g c =
-    let read = stands_read _ _ _ g.L.Line.is_due _ _ _ _ _ _ _ _ _ _ _ _ _ c.in-Ok.input _ _ _ _ _ _ _ c.turns.invariant.chunk c.turns.invariant.stands c.in-Ok.ensures.reads
+pub returns-in-Err-step-clause-drives : goal.returns-in-Err-step-clause-drives
+returns-in-Err-step-clause-drives g c =
+    let read = stands_read _ _ _ g.L.Job.LineJob.is_due _ _ _ _ _ _ _ _ _ _ _ _ _ c.in-Ok.input _ _ _ _ _ _ _ c.turns.invariant.chunk c.turns.invariant.stands c.in-Ok.ensures.reads
     (λ xs ys first later. g.met.S.PieceSource.did_on _ _ _ _ xs ys first (subst (λ (x : List ℕ). g.S.PieceSource.did c.turns.reader c.read_on.new.reader x ys) c.turns.invariant.same later)) (λ job reads fits. c.in-Ok.ensures.input job reads fits) in
     let fed = stands_served _ _ _ _ _ _ _ (g.L.Line.serves c.feed_on-input.new.line) _ _ _ _ _ c.feed_on-input.result _ _ _ _ read
     (λ job serving fits. c.feed_on-input.ensures.input job serving _ _ fits) in
-    step_failed _ _ _ g.L.Line.is_due _ _ _ _ (λ job. g.S.PieceSource.reads c.read_on.new.reader job (g.H.Io.seen c.read_on.new.io)) _ _ _ _ _ c.in-Err-step.fault _ _ _ _ _ _ _ fed (λ job serving. c.in-Err-step.ensures.due job serving) c.in-Err-step.ensures.broke
+    step_failed _ _ _ g.L.Job.LineJob.is_due _ _ _ _ (λ job. g.S.PieceSource.reads c.read_on.new.reader job (g.H.Io.seen c.read_on.new.io)) _ _ _ _ _ c.in-Err-step.fault _ _ _ _ _ _ _ fed (λ job serving. c.in-Err-step.ensures.due job serving) c.in-Err-step.ensures.broke
 
-pub returns-in-Err-write_on : goal.returns-in-Err-write_on
-returns-in-Err-write_on g c =
-    let read = stands_read _ _ _ g.L.Line.is_due _ _ _ _ _ _ _ _ _ _ _ _ _ c.in-Ok.input _ _ _ _ _ _ _ c.turns.invariant.chunk c.turns.invariant.stands c.in-Ok.ensures.reads
+pub returns-in-Err-write_on-clause-drives : goal.returns-in-Err-write_on-clause-drives
+returns-in-Err-write_on-clause-drives g c =
+    let read = stands_read _ _ _ g.L.Job.LineJob.is_due _ _ _ _ _ _ _ _ _ _ _ _ _ c.in-Ok.input _ _ _ _ _ _ _ c.turns.invariant.chunk c.turns.invariant.stands c.in-Ok.ensures.reads
     (λ xs ys first later. g.met.S.PieceSource.did_on _ _ _ _ xs ys first (subst (λ (x : List ℕ). g.S.PieceSource.did c.turns.reader c.read_on.new.reader x ys) c.turns.invariant.same later)) (λ job reads fits. c.in-Ok.ensures.input job reads fits) in
     let fed = stands_served _ _ _ _ _ _ _ (g.L.Line.serves c.feed_on-input.new.line) _ _ _ _ _ c.feed_on-input.result _ _ _ _ read
     (λ job serving fits. c.feed_on-input.ensures.input job serving _ _ fits) in
     let stepped = stands_served _ _ _ _ _ _ _ (g.L.Line.serves c.step.new.self) _ _ _ _ _ _ _ _ _ _ fed
     (λ job serving fits. (c.in_default.ensures.serves job serving, fits)) in
-    write_failed _ _ _ g.L.Line.is_due _ _ _ _ (g.L.Line.serves c.write_on.new.line) (λ job. g.S.PieceSource.reads c.read_on.new.reader job (g.H.Io.seen c.write_on.new.io)) _ _ _ _ _ c.in-Err-write_on.fault _ c.write_on.new.written _ _ _ _ _ _ _ stepped c.in-Err-write_on.ensures
+    write_failed _ _ _ g.L.Job.LineJob.is_due _ _ _ _ (g.L.Line.serves c.write_on.new.line) (λ job. g.S.PieceSource.reads c.read_on.new.reader job (g.H.Io.seen c.write_on.new.io)) _ _ _ _ _ c.in-Err-write_on.fault _ c.write_on.new.written _ _ _ _ _ _ _ stepped c.in-Err-write_on.ensures.writes
 
-pub returns-then-whole : goal.returns-then-whole
-returns-then-whole g c =
-    let read = stands_read _ _ _ g.L.Line.is_due _ _ _ _ _ _ _ _ _ _ _ _ _ c.in-Ok.input _ _ _ _ _ _ _ c.turns.invariant.chunk c.turns.invariant.stands c.in-Ok.ensures.reads
+pub returns-then-whole-clause-drives : goal.returns-then-whole-clause-drives
+returns-then-whole-clause-drives g c =
+    let read = stands_read _ _ _ g.L.Job.LineJob.is_due _ _ _ _ _ _ _ _ _ _ _ _ _ c.in-Ok.input _ _ _ _ _ _ _ c.turns.invariant.chunk c.turns.invariant.stands c.in-Ok.ensures.reads
     (λ xs ys first later. g.met.S.PieceSource.did_on _ _ _ _ xs ys first (subst (λ (x : List ℕ). g.S.PieceSource.did c.turns.reader c.read_on.new.reader x ys) c.turns.invariant.same later)) (λ job reads fits. c.in-Ok.ensures.input job reads fits) in
     let fed = stands_served _ _ _ _ _ _ _ (g.L.Line.serves c.feed_on-input.new.line) _ _ _ _ _ c.feed_on-input.result _ _ _ _ read
     (λ job serving fits. c.feed_on-input.ensures.input job serving _ _ fits) in
     let stepped = stands_served _ _ _ _ _ _ _ (g.L.Line.serves c.step.new.self) _ _ _ _ _ _ _ _ _ _ fed
     (λ job serving fits. (c.in_default.ensures.serves job serving, fits)) in
-    let writes = c.in-Ok-write_on.ensures in
+    let writes = c.in-Ok-write_on.ensures.writes in
     let same = stays _ _ writes.writes (either_writing writes.writes writes.are) writes.does in
     let written = stands_written _ _ _ _ _ _ (λ job. g.S.PieceSource.reads c.read_on.new.reader job (g.H.Io.seen c.write_on.new.io)) _ _ _ _ _ _ _ _ _ _ _ _ _ c.in-Ok-write_on.whole stepped writes
     (λ job reads. g.met.S.PieceSource.reads_on _ job _ _ same.sizes same.held reads) in
-    run_ended _ _ _ g.L.Line.is_due _ _ _ _ _ _ _ _ _ _ _ _ _ _ _ _ _ written (rw c.given.ensures at c.end.ensures)
+    run_ended _ _ _ g.L.Job.LineJob.is_due _ _ _ _ _ _ _ _ _ _ _ _ _ _ _ _ _ written (rw c.given-then-whole.ensures at c.end.ensures)
     (λ end. (c.in-Ok.ensures.ended (c.feed_on-input.ensures.ended end), g.met.S.PieceSource.suits_on _ _ _ same.sizes c.in-Ok.ensures.suits))
 
 pub turns-preserved : goal.turns-preserved
 turns-preserved g c =
-    let read = stands_read _ _ _ g.L.Line.is_due _ _ _ _ _ _ _ _ _ _ _ _ _ c.in-Ok.input _ _ _ _ _ _ _ c.turns.invariant.chunk c.turns.invariant.stands c.in-Ok.ensures.reads
+    let read = stands_read _ _ _ g.L.Job.LineJob.is_due _ _ _ _ _ _ _ _ _ _ _ _ _ c.in-Ok.input _ _ _ _ _ _ _ c.turns.invariant.chunk c.turns.invariant.stands c.in-Ok.ensures.reads
     (λ xs ys first later. g.met.S.PieceSource.did_on _ _ _ _ xs ys first (subst (λ (x : List ℕ). g.S.PieceSource.did c.turns.reader c.read_on.new.reader x ys) c.turns.invariant.same later)) (λ job reads fits. c.in-Ok.ensures.input job reads fits) in
     let fed = stands_served _ _ _ _ _ _ _ (g.L.Line.serves c.feed_on-input.new.line) _ _ _ _ _ c.feed_on-input.result _ _ _ _ read
     (λ job serving fits. c.feed_on-input.ensures.input job serving _ _ fits) in
     let stepped = stands_served _ _ _ _ _ _ _ (g.L.Line.serves c.step.new.self) _ _ _ _ _ _ _ _ _ _ fed
     (λ job serving fits. (c.in_default.ensures.serves job serving, fits)) in
-    let writes = c.in-Ok-write_on.ensures in
+    let writes = c.in-Ok-write_on.ensures.writes in
     let same = stays _ _ writes.writes (either_writing writes.writes writes.are) writes.does in
     let written = stands_written _ _ _ _ _ _ (λ job. g.S.PieceSource.reads c.read_on.new.reader job (g.H.Io.seen c.write_on.new.io)) _ _ _ _ _ _ _ _ _ _ _ _ _ c.in-Ok-write_on.whole stepped writes
     (λ job reads. g.met.S.PieceSource.reads_on _ job _ _ same.sizes same.held reads) in
@@ -70,6 +75,12 @@ turns-preserved g c =
       suits = g.met.S.PieceSource.suits_on _ _ _ same.sizes c.in-Ok.ensures.suits;
       made = let some = c.turns.invariant.made in let one = (stays _ _ c.in-Ok.ensures.reads.reads (either_reading c.in-Ok.ensures.reads.reads c.in-Ok.ensures.reads.are) c.in-Ok.ensures.reads.does).sinks in
           let two = same.sinks in omega (arith, some, one, two);
+      told = λ job is. c.turns.invariant.told job (c.feed_on-input.ensures.told job (c.in_default.ensures.told job (c.in-Ok-write_on.ensures.told job is)));
+      counted = let was = c.turns.invariant.counted in let one = c.in_default.ensures.counted in omega (arith, was, one);
+      size = c.in-Ok.ensures.same_size (g.H.Io.seen c.args.io.now).sizes ∙ c.turns.invariant.size;
+      within = let size = c.turns.invariant.size in
+          let here = subst (λ (x : List ℕ). g.S.PieceSource.given c.read_on.new.reader ≤ g.S.PieceSource.size c.turns.reader x) c.turns.invariant.same c.in-Ok.ensures.within in omega (arith, size, here);
+      few = let few = c.if-turn-given.false in let given = c.given.ensures in let within = c.turns.invariant.within in omega (arith, few, given, within);
       chunk = c.in-Ok.ensures.chunk ∙ c.turns.invariant.chunk;
       same = same.sizes ∙ (stays _ _ c.in-Ok.ensures.reads.reads (either_reading c.in-Ok.ensures.reads.reads c.in-Ok.ensures.reads.are) c.in-Ok.ensures.reads.does).sizes ∙ c.turns.invariant.same;
       ended = λ end. c.in-Ok.ensures.ended (c.feed_on-input.ensures.ended end);
@@ -77,5 +88,8 @@ turns-preserved g c =
       stands = written;
     }
 
-pub returns : goal.returns
-returns g c = run_ended _ _ _ _ _ _ _ _ _ _ _ _ _ _ _ _ _ _ _ _ _ c.turns.invariant.stands tt (λ end. (c.turns.invariant.ended end, c.turns.invariant.suits))
+pub returns-clause-drives : goal.returns-clause-drives
+returns-clause-drives g c = run_ended _ _ _ _ _ _ _ _ _ _ _ _ _ _ _ _ _ _ _ _ _ c.turns.invariant.stands tt (λ end. (c.turns.invariant.ended end, c.turns.invariant.suits))
+
+pub returns-then-turn-given-clause-drives : goal.returns-then-turn-given-clause-drives
+returns-then-turn-given-clause-drives g c = run_ended _ _ _ _ _ _ _ _ _ _ _ _ _ _ _ _ _ _ _ _ _ c.turns.invariant.stands tt (λ end. (c.turns.invariant.ended end, c.turns.invariant.suits))

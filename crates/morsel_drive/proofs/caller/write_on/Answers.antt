@@ -5,25 +5,26 @@ use Rattle.morsel_drive.proofs.TurnLemmas.{wrote_nothing, wrote_more, wrote_all,
 use Rattle.morsel_drive.proofs.caller.write_on.Goals as goal
 
 pub parts-init : goal.parts-init
-parts-init g c = record { made = c.requires.made; stands = wrote_nothing _ _ _ _ }
+parts-init g c = record { made = c.requires.made; told = λ job is. is; stands = wrote_nothing _ _ _ _ }
 
 pub parts-preserved : goal.parts-preserved
 parts-preserved g c =
     let w = c.in_default.ensures in
     let same = stays _ _ (Writing c.in-Part.part.bytes ∷ []) (inr tt, tt) w.3 in record {
       made = let some = c.parts.invariant.made in let sinks = same.sinks in omega (arith, some, sinks);
+      told = λ job is. c.parts.invariant.told job (c.in-Part.ensures.told job is);
       stands = wrote_more _ _ _ _ _ _ _ _ _ _ c.in-Part.part c.parts.invariant.stands (λ job serving. c.in-Part.ensures.serves job serving)
           (λ job serving. c.in-Part.ensures.suits job serving) w;
     }
 
-pub returns-in-Empty : goal.returns-in-Empty
-returns-in-Empty g c = wrote_all _ _ _ _ _ _ _ _ false c.parts.invariant.stands (λ job serving. c.in-Empty.ensures.serves job serving)
+pub returns-in-Empty-clause-writes : goal.returns-in-Empty-clause-writes
+returns-in-Empty-clause-writes g c = wrote_all _ _ _ _ _ _ _ _ false c.parts.invariant.stands (λ job serving. c.in-Empty.ensures.serves job serving)
 
-pub returns-in-Whole : goal.returns-in-Whole
-returns-in-Whole g c = wrote_all _ _ _ _ _ _ _ _ true c.parts.invariant.stands (λ job serving. c.in-Whole.ensures.serves job serving)
+pub returns-in-Whole-clause-writes : goal.returns-in-Whole-clause-writes
+returns-in-Whole-clause-writes g c = wrote_all _ _ _ _ _ _ _ _ true c.parts.invariant.stands (λ job serving. c.in-Whole.ensures.serves job serving)
 
-pub returns-in-Err : goal.returns-in-Err
-returns-in-Err g c = write_stopped _ _ _ (g.L.Line.serves c.take.new.self) _ _ _ _ _ _ c.in-Part.part c.in-Err.fault c.parts.invariant.stands (λ job serving. c.in-Part.ensures.suits job serving) c.in-Err.ensures
+pub returns-in-Err-clause-writes : goal.returns-in-Err-clause-writes
+returns-in-Err-clause-writes g c = write_stopped _ _ _ (g.L.Line.serves c.take.new.self) _ _ _ _ _ _ c.in-Part.part c.in-Err.fault c.parts.invariant.stands (λ job serving. c.in-Part.ensures.suits job serving) c.in-Err.ensures
 
-pub returns : goal.returns
-returns g c = wrote_all _ _ _ _ _ _ _ _ false c.parts.invariant.stands (λ job serving. serving)
+pub returns-clause-writes : goal.returns-clause-writes
+returns-clause-writes g c = wrote_all _ _ _ _ _ _ _ _ false c.parts.invariant.stands (λ job serving. serving)

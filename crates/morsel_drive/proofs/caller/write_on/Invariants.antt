@@ -7,5 +7,6 @@ use Rattle.morsel_drive.proofs.caller.write_on.Given as goal
 abbrev pub invariant-parts : goal.invariant-parts
 invariant-parts g l = record {
   made : 0 < (g.H.Io.seen l.io).sinks;
-  stands : WritesOn {T = Unit {0}} (ToldWrites {J = g.row.L-Job.Denot} g.L.Line.axis (g.L.Line.serves l.fn.line) (g.L.Line.serves l.line) l.fn.written l.written) (g.H.Io.seen l.fn.io) (Ok tt) (g.H.Io.seen l.io);
+  told : (job : g.row.L-Job.Denot) → g.L.Line.told l.line job → g.L.Line.told l.fn.line job;
+  stands : WritesOn {T = Unit {0}} (ToldWrites {J = g.row.L-Job.Denot} g.L.Job.LineJob.axis (g.L.Line.serves l.fn.line) (g.L.Line.serves l.line) l.fn.written l.written) (g.H.Io.seen l.fn.io) (Ok tt) (g.H.Io.seen l.io);
 }

@@ -3,16 +3,17 @@ use Rattle.std.specs.Prelude.{Err, List}
 use Rattle.morsel_query.specs.Queries.{query_parts}
 use Rattle.morsel_engine.specs.Stages.{OpensSources, HasOpenedAll, MakesSink}
 use Rattle.morsel_engine.proofs.PartLemmas.{sources_are, runs_not_opened, runs_not_made, runs_parts, opened_numbers}
+use Rattle.morsel_engine.proofs.SweepLemmas.{no_sweeps, swept}
 use Rattle.morsel_engine.proofs.run.run_parts.Goals as goal
 
-pub returns-in-Err : goal.returns-in-Err
-returns-in-Err g c =
+pub returns-in-Err-clause-runs : goal.returns-in-Err-clause-runs
+returns-in-Err-clause-runs g c =
     let query = query_parts c.args.left c.args.sink in
     runs_not_opened _ _ query _ _ c.requires.planned
     (subst (λ (names : List (List ℕ)). OpensSources (g.H.Io.seen c.args.io.now) names (Err c.in-Err.fault) (g.H.Io.seen c.open_sources.new.io)) (c.deref.ensures.value ∙ sym (sources_are query)) c.in-Err.ensures)
 
-pub returns-in-Err-make_sink : goal.returns-in-Err-make_sink
-returns-in-Err-make_sink g c =
+pub returns-in-Err-make_sink-clause-runs : goal.returns-in-Err-make_sink-clause-runs
+returns-in-Err-make_sink-clause-runs g c =
     let query = query_parts c.args.left c.args.sink in
     let opened = c.in-Ok.ensures in
     runs_not_made _ (g.H.Io.seen c.open_sources.new.io) _ query _ c.in-Ok.files.items opened.0 _ c.requires.planned
@@ -31,8 +32,20 @@ scan_files-requires-clause-opened g c =
     let all = subst (λ (names : List (List ℕ)). HasOpenedAll (g.H.Io.seen c.args.io.now) names c.in-Ok.files.items opened.0 (g.H.Io.seen c.open_sources.new.io)) c.deref.ensures.value opened.1 in
     (opened_numbers _ _ _ (query_parts c.args.left c.args.sink) _ opened.0 all (rw c.as_str.ensures at c.in_default.ensures)).1
 
-pub returns : goal.returns
-returns g c =
+pub returns-clause-runs : goal.returns-clause-runs
+returns-clause-runs g c =
     let opened = c.in-Ok.ensures in
     let all = subst (λ (names : List (List ℕ)). HasOpenedAll (g.H.Io.seen c.args.io.now) names c.in-Ok.files.items opened.0 (g.H.Io.seen c.open_sources.new.io)) c.deref.ensures.value opened.1 in
-    runs_parts _ _ _ _ c.args.left c.args.sink _ _ opened.0 _ c.requires.sound c.requires.planned all (rw c.as_str.ensures at c.in_default.ensures) c.scan_files.ensures
+    runs_parts _ _ _ _ c.args.left c.args.sink _ _ opened.0 _ c.requires.sound c.requires.planned all (rw c.as_str.ensures at c.in_default.ensures) c.scan_files.ensures.scans
+
+pub returns-in-Err-clause-sweeps : goal.returns-in-Err-clause-sweeps
+returns-in-Err-clause-sweeps g c = no_sweeps (g.H.Io.seen c.args.io.now) (g.H.Io.seen c.open_sources.new.io) (query_parts c.args.left c.args.sink) c.args.options.now c.args.steps.now
+
+pub returns-in-Err-make_sink-clause-sweeps : goal.returns-in-Err-make_sink-clause-sweeps
+returns-in-Err-make_sink-clause-sweeps g c = no_sweeps (g.H.Io.seen c.args.io.now) (g.H.Io.seen c.make_sink.new.io) (query_parts c.args.left c.args.sink) c.args.options.now c.args.steps.now
+
+pub returns-clause-sweeps : goal.returns-clause-sweeps
+returns-clause-sweeps g c =
+    let opened = c.in-Ok.ensures in
+    let all = subst (λ (names : List (List ℕ)). HasOpenedAll (g.H.Io.seen c.args.io.now) names c.in-Ok.files.items opened.0 (g.H.Io.seen c.open_sources.new.io)) c.deref.ensures.value opened.1 in
+    swept _ _ _ _ c.args.left c.args.sink c.args.options.now _ opened.0 _ _ _ all (rw c.as_str.ensures at c.in_default.ensures) c.scan_files.ensures.scans c.scan_files.ensures.sweeps

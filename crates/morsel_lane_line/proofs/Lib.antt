@@ -1,0 +1,2 @@
+pub mod FailLemmas
+pub mod PartLemmas

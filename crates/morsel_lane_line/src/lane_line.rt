@@ -1,0 +1,177 @@
+//! A line of lanes and tasks, from the pieces of a scan to the text of its rows.
+ghost use Rattle.std.specs.Prelude.{◌≡◌, [], IfOk};
+ghost use Rattle.morsel_local.specs.Sweeps.{spawned_bodies};
+ghost use Rattle.morsel_load.specs.Loads.{load_kind, load_seen};
+ghost use Rattle.morsel_load.specs.declared.load.LoadKind.TheVariants.{Pieces, Parts};
+ghost use Rattle.morsel_scan_units.specs.LaneJobs.{IsUnitFault};
+ghost use Rattle.morsel_lane_line.specs.LaneLines.{FailOnlyBy, IsPartSeen};
+
+use crate::collect::collect;
+use morsel_drive::{Line, Taken};
+use morsel_lane_pipe::PipeOut;
+use morsel_line::ScanJob;
+use morsel_load::Load;
+use morsel_local::{Local, Steps};
+use morsel_meaning::Fault;
+use morsel_outside::{Gate, Io};
+use morsel_pipe::{Encoded, RawPiece};
+use morsel_prims::{Board, LaneReceiver, LaneSender, Lanes, RecvError, SendError, Task, Tokens};
+use morsel_scan_units::{AtHome, LaneJob};
+use std::marker::Model;
+use std::sync::ledger::Ledger;
+
+/// The caller's sending end.
+#[derive(Drop)]
+pub enum Feed<S> {
+    /// More pieces may follow.
+    Open(S),
+    /// No more follow.
+    Closed,
+}
+
+/// Tasks on one thread, with the caller's two ends: one for pieces, and one for parts of the text.
+#[derive(Drop)]
+pub struct LaneLine<L, K, H, T, R>
+where
+    L: Tokens + Lanes<Load<<L as Tokens>::Token, LaneJob<K, H>>>,
+    <L as Tokens>::Token: AtHome,
+    K: AtHome,
+    H: Io,
+    T: Task<<L as Tokens>::Board, Out = PipeOut<R>> + Drop,
+    R: Drop,
+{
+    local: Local<T, L::Board>,
+    // How many tasks were spawned.
+    spawned: u32,
+    feed: Feed<L::Sender>,
+    parts: L::Receiver,
+}
+
+impl<L, K, H, T, R> Model for LaneLine<L, K, H, T, R>
+where
+    L: Tokens + Lanes<Load<<L as Tokens>::Token, LaneJob<K, H>>>,
+    <L as Tokens>::Token: AtHome,
+    K: AtHome,
+    H: Io,
+    T: Task<<L as Tokens>::Board, Out = PipeOut<R>> + Drop,
+    R: Drop,
+{
+    ghost use Rattle.morsel_local.specs.Sweeps.{spawned_bodies};
+    ghost use Rattle.morsel_lane_line.specs.LaneLines.{IsLine, LineSeen};
+
+    ghost Value = { LineSeen };
+
+    ghost use Rattle.morsel_expr.specs.contracts.node.PredNode as tree;
+    ghost use Rattle.std.specs.Coded.{codes};
+
+    ghost coded = { Prim.hlevel (codes, tree.the_row.coded) };
+
+    ghost view = { λ line. record { lane = L.Receiver.job line.parts; whole = L.Receiver.is_whole line.parts } };
+
+    ghost invariant = { λ line. IsLine T.gives L.Sender.home L.Sender.job line.local.home (L.Board.id line.local.cx.board) (L.Receiver.home line.parts) line.feed (L.Receiver.job line.parts) (spawned_bodies line.local.tasks) };
+}
+
+impl<L, K, H, T, R> LaneLine<L, K, H, T, R>
+where
+    L: Tokens + Lanes<Load<<L as Tokens>::Token, LaneJob<K, H>>>,
+    <L as Tokens>::Token: AtHome,
+    K: AtHome,
+    H: Io,
+    T: Task<<L as Tokens>::Board, Out = PipeOut<R>> + Drop,
+    R: Drop,
+{
+    /// The line of these tasks, of which so many were spawned. The caller feeds pieces through `feed`, and takes parts from `parts`.
+    pub fn new(
+        local: Local<T, L::Board>,
+        spawned: u32,
+        feed: L::Sender,
+        parts: L::Receiver,
+    ) -> LaneLine<L, K, H, T, R>
+        requires board { L.Board.id local.cx.board ≡ local.home }
+        requires homes { (L.Sender.home feed ≡ local.home.lane_table) × (L.Receiver.home parts ≡ local.home.lane_table) }
+        requires kind { (L.Receiver.job parts).kind ≡ Parts }
+        requires first { L.Sender.job feed ≡ record (L.Receiver.job parts) { kind = Pieces } }
+        requires fails { FailOnlyBy T.gives (IsUnitFault (L.Receiver.job parts)) (spawned_bodies local.tasks) }
+        ensures { result ≡ record { lane = L.Receiver.job parts; whole = L.Receiver.is_whole parts } }
+    {
+        LaneLine {
+            local,
+            spawned,
+            feed: Feed::Open(feed),
+            parts,
+        }
+    }
+}
+
+/// The part that a load is.
+fn part_of<X: Drop, J>(load: Load<X, J>) -> Encoded
+    requires part { load_kind load ≡ Parts }
+    ensures part { IsPartSeen result (load_seen load) }
+{
+    match load {
+        Load::Part(_, part) => part,
+        _ => unreachable!(),
+    }
+}
+
+impl<L, K, H, T, R> Line for LaneLine<L, K, H, T, R>
+where
+    L: Tokens + Lanes<Load<<L as Tokens>::Token, LaneJob<K, H>>>,
+    <L as Tokens>::Token: AtHome,
+    K: AtHome,
+    H: Io,
+    T: Task<<L as Tokens>::Board, Out = PipeOut<R>> + Drop,
+    R: Drop,
+{
+    ghost use Rattle.std.specs.Prelude.{◌≡◌, true};
+    ghost use Rattle.morsel_line.specs.ScanJobs.{IsPieceKind};
+    ghost use Rattle.morsel_scan_units.specs.LaneJobs.{TellsJob};
+
+    type Job = ScanJob;
+
+    ghost serves = { λ line. TellsJob line.lane };
+
+    ghost told = { λ line. TellsJob line.lane };
+
+    ghost broke = { λ line fault. IsPieceKind fault };
+
+    ghost is_whole = { λ line. line.whole ≡ true };
+
+    fn feed(&mut self, piece: RawPiece) -> Result<(), RawPiece> {
+        let Feed::Open(to) = &mut self.feed else {
+            return Err(piece);
+        };
+        match to.try_send(self.local.cx(), Load::Piece(piece)) {
+            Ok(()) => Ok(()),
+            Err(SendError::Full(load) | SendError::Closed(load)) => match load {
+                Load::Piece(piece) => Err(piece),
+                _ => unreachable!(),
+            },
+        }
+    }
+
+    fn close(&mut self) {
+        match std::mem::replace(&mut self.feed, Feed::Closed) {
+            Feed::Open(to) => {
+                let _all_fed = to.finish(self.local.cx());
+            }
+            Feed::Closed => {}
+        }
+    }
+
+    fn step<G: Gate, Y: Ledger>(&mut self, gate: &G, steps: &mut Steps<Y>) -> Result<(), Fault> {
+        if self.local.sweep(gate, steps) == 0 {
+            return Ok(());
+        }
+        collect(&mut self.local, self.spawned)
+    }
+
+    fn take(&mut self) -> Taken {
+        match self.parts.try_recv(self.local.cx()) {
+            Ok(load) => Taken::Part(part_of(load)),
+            Err(RecvError::Whole) => Taken::Whole,
+            // Who has cut the lane ends with that, and the next sweep tells of it.
+            Err(RecvError::Empty | RecvError::Cut) => Taken::Empty,
+        }
+    }
+}

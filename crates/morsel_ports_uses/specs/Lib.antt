@@ -1,0 +1,2 @@
+-- What pairings of ends make of a pipe.
+pub mod Pairings

@@ -1,0 +1,3 @@
+-- What the lanes of a scan are for, and what its units make.
+pub mod LaneJobs
+pub mod LaneLaws

@@ -1,0 +1,80 @@
+//! What the lanes of a scan are for.
+ghost use Rattle.std.specs.Prelude.{◌≡◌};
+
+use crate::at_home::AtHome;
+use morsel_load::{LoadJob, LoadKind};
+use morsel_outside::Io;
+use morsel_read::ScanReader;
+use morsel_scan::CsvSourceNode;
+use std::marker::Model;
+use std::snapshot::Snapshot;
+
+/// What a lane of a scan is for: loads of one kind, for the rows of this scan. It takes no bytes but those of the kind.
+///
+/// Contracts alone see the rest: the reader of the scan's files and the outside, both before anything was read, which tell what the
+/// files contain; and a group, of whose board the tokens are that rows may hold.
+#[derive(Drop)]
+pub struct LaneJob<G: AtHome, H: Io> {
+    kind: LoadKind,
+    scan: Snapshot<CsvSourceNode>,
+    reader: Snapshot<ScanReader>,
+    outside: Snapshot<H>,
+    group: Snapshot<G>,
+}
+
+impl<G: AtHome, H: Io> Model for LaneJob<G, H> {
+    ghost use Rattle.morsel_scan_units.specs.LaneJobs.{LaneFor};
+
+    ghost Value = { LaneFor };
+
+    ghost use Rattle.morsel_expr.specs.contracts.node.PredNode as tree;
+    ghost use Rattle.std.specs.Coded.{codes};
+
+    ghost coded = { Prim.hlevel (codes, tree.the_row.coded) };
+
+    ghost view = { λ job. record {
+      kind = job.kind;
+      scan = job.scan.value;
+      reader = job.reader.value;
+      outside = H.seen job.outside.value;
+      tokens = G.home job.group.value;
+    } };
+}
+
+impl<G: AtHome, H: Io> LaneJob<G, H> {
+    /// For loads of this kind, for the rows of the node's scan, whose files this reader is to read from this outside, with tokens of
+    /// the group's board.
+    pub fn new(
+        kind: LoadKind,
+        node: &CsvSourceNode,
+        reader: &ScanReader,
+        io: &H,
+        group: &G,
+    ) -> LaneJob<G, H>
+        ensures { result ≡ record { kind = kind; scan = node.now; reader = reader.now; outside = H.seen io.now; tokens = G.home group.now } }
+    {
+        LaneJob {
+            kind,
+            scan: Snapshot::of(node),
+            reader: Snapshot::of(reader),
+            outside: Snapshot::of(io),
+            group: Snapshot::of(group),
+        }
+    }
+
+    /// Makes it one for loads of this kind.
+    pub fn set_kind(&mut self, kind: LoadKind)
+        ensures { self.new ≡ record self.old { kind = kind } }
+    {
+        self.kind = kind;
+    }
+}
+
+impl<K: AtHome, G: AtHome, H: Io> LoadJob<K> for LaneJob<G, H> {
+    ghost use Rattle.std.specs.Prelude.{◌≡◌};
+    ghost use Rattle.morsel_scan_units.specs.LaneJobs.{SuitsLane};
+
+    ghost suits = { SuitsLane };
+
+    ghost holds = { λ job token. K.home token ≡ job.tokens };
+}
