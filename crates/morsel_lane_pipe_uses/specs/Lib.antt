@@ -1,0 +1,2 @@
+-- What is seen of the pipes of these uses.
+pub mod Sites

@@ -1,0 +1,205 @@
+//! Pipes of one thread and between threads, of which what is planned holds.
+ghost use Rattle.std.specs.Prelude.{◌≡◌, ◌≤◌, IfOk};
+ghost use Rattle.morsel_load.specs.Loads.{LoadSeen};
+ghost use Rattle.morsel_lane_pipe.specs.Tasks.{HoldsTokensOf};
+
+use crate::tests::jobs::{PlainJob, WordJob};
+use crate::tests::pairing::{Joins, Merged, OneLane, Pairing, Spread, TwoLanes};
+use crate::tests::pipe::Pipe;
+use crate::tests::piped::Piped;
+use crate::tests::plan::Plan;
+use crate::tests::scarce::ScarceLanes;
+use crate::tests::trial::Trial;
+use morsel_load::{Load, LoadJob};
+use morsel_meaning::Fault;
+use morsel_prims::{Lanes, PlainBoard, PlainLanes, PlainToken, Tokens};
+use morsel_word_lanes::WordLanes;
+use std::alloc::Global;
+use std::snapshot::Snapshot;
+
+/// A load of one thread.
+pub type PlainLoad = Load<PlainToken, PlainJob>;
+
+/// The lanes of one thread.
+pub type Plain = PlainLanes<PlainLoad>;
+
+/// All pairings.
+pub const PAIRINGS: [Pairing; 4] = [
+    Pairing::Serial,
+    Pairing::Parallel,
+    Pairing::Merged,
+    Pairing::Spread,
+];
+
+/// A board of one thread, and a job for any loads on it.
+pub fn plain(alloc: Global) -> Result<(PlainBoard<PlainLoad>, PlainJob), Fault>
+    ensures home { IfOk result (λ made. made.0.group_table ≡ made.1.group.value.row.badge.table_id) }
+{
+    let mut board = PlainBoard::new(alloc)?;
+    let group = Plain::group(alloc, &mut board)?;
+    let job = PlainJob {
+        group: Snapshot::of(&group),
+    };
+    Ok((board, job))
+}
+
+/// Whether what is planned holds of this pipe.
+fn holds_of<P: Piped + Drop>(alloc: Global, pipe: P, plan: Plan) -> Result<bool, Fault> {
+    let mut trial = Trial::new(alloc, pipe);
+    plan.holds(alloc, &mut trial)
+}
+
+/// Whether what is planned holds of a pipe that is made so.
+fn holds_joined<L, J, P>(
+    alloc: Global,
+    board: L::Board,
+    job: &J,
+    room: u32,
+    seed: u64,
+    plan: Plan,
+) -> Result<bool, Fault>
+where
+    L: Tokens + Lanes<Load<<L as Tokens>::Token, J>>,
+    J: LoadJob<<L as Tokens>::Token>,
+    P: Joins<L, J>,
+    requires any { (load : LoadSeen) → J.suits job.now load }
+    requires tokens { HoldsTokensOf J.holds L.token_home job.now (L.Board.id board).group_table }
+    requires asked { (1 ≤ room) × (room ≤ 65536) }
+{
+    let mut pipe: Pipe<L, J, P::First, P::Other> = Pipe::new(alloc, board, job, room)?;
+    P::join(alloc, &mut pipe, job, seed)?;
+    holds_of(alloc, pipe, plan)
+}
+
+/// Whether what is planned holds of one lane.
+fn holds_serial<L, J>(
+    alloc: Global,
+    board: L::Board,
+    job: &J,
+    room: u32,
+    seed: u64,
+    plan: Plan,
+) -> Result<bool, Fault>
+where
+    L: Tokens + Lanes<Load<<L as Tokens>::Token, J>>,
+    J: LoadJob<<L as Tokens>::Token>,
+    requires any { (load : LoadSeen) → J.suits job.now load }
+    requires tokens { HoldsTokensOf J.holds L.token_home job.now (L.Board.id board).group_table }
+    requires asked { (1 ≤ room) × (room ≤ 65536) }
+{
+    holds_joined::<L, J, OneLane>(alloc, board, job, room, seed, plan)
+}
+
+/// Whether what is planned holds of two lanes.
+fn holds_parallel<L, J>(
+    alloc: Global,
+    board: L::Board,
+    job: &J,
+    room: u32,
+    seed: u64,
+    plan: Plan,
+) -> Result<bool, Fault>
+where
+    L: Tokens + Lanes<Load<<L as Tokens>::Token, J>>,
+    J: LoadJob<<L as Tokens>::Token>,
+    requires any { (load : LoadSeen) → J.suits job.now load }
+    requires tokens { HoldsTokensOf J.holds L.token_home job.now (L.Board.id board).group_table }
+    requires asked { (1 ≤ room) × (room ≤ 65536) }
+{
+    holds_joined::<L, J, TwoLanes>(alloc, board, job, room, seed, plan)
+}
+
+/// Whether what is planned holds where two lanes are merged into one.
+fn holds_merged<L, J>(
+    alloc: Global,
+    board: L::Board,
+    job: &J,
+    room: u32,
+    seed: u64,
+    plan: Plan,
+) -> Result<bool, Fault>
+where
+    L: Tokens + Lanes<Load<<L as Tokens>::Token, J>>,
+    J: LoadJob<<L as Tokens>::Token>,
+    requires any { (load : LoadSeen) → J.suits job.now load }
+    requires tokens { HoldsTokensOf J.holds L.token_home job.now (L.Board.id board).group_table }
+    requires asked { (1 ≤ room) × (room ≤ 65536) }
+{
+    holds_joined::<L, J, Merged>(alloc, board, job, room, seed, plan)
+}
+
+/// Whether what is planned holds where one lane is spread over two.
+fn holds_spread<L, J>(
+    alloc: Global,
+    board: L::Board,
+    job: &J,
+    room: u32,
+    seed: u64,
+    plan: Plan,
+) -> Result<bool, Fault>
+where
+    L: Tokens + Lanes<Load<<L as Tokens>::Token, J>>,
+    J: LoadJob<<L as Tokens>::Token>,
+    requires any { (load : LoadSeen) → J.suits job.now load }
+    requires tokens { HoldsTokensOf J.holds L.token_home job.now (L.Board.id board).group_table }
+    requires asked { (1 ≤ room) × (room ≤ 65536) }
+{
+    holds_joined::<L, J, Spread>(alloc, board, job, room, seed, plan)
+}
+
+/// Whether what is planned holds of a pipe on this board, whose lanes ask for this room. The seed says which lanes are drawn.
+fn holds<L, J>(
+    alloc: Global,
+    board: L::Board,
+    job: &J,
+    room: u32,
+    seed: u64,
+    plan: Plan,
+) -> Result<bool, Fault>
+where
+    L: Tokens + Lanes<Load<<L as Tokens>::Token, J>>,
+    J: LoadJob<<L as Tokens>::Token>,
+    requires any { (load : LoadSeen) → J.suits job.now load }
+    requires tokens { HoldsTokensOf J.holds L.token_home job.now (L.Board.id board).group_table }
+    requires asked { (1 ≤ room) × (room ≤ 65536) }
+{
+    match plan.pairing() {
+        Pairing::Serial => holds_serial::<L, J>(alloc, board, job, room, seed, plan),
+        Pairing::Parallel => holds_parallel::<L, J>(alloc, board, job, room, seed, plan),
+        Pairing::Merged => holds_merged::<L, J>(alloc, board, job, room, seed, plan),
+        Pairing::Spread => holds_spread::<L, J>(alloc, board, job, room, seed, plan),
+    }
+}
+
+/// Whether what is planned holds of a pipe of one thread, whose lanes have this room.
+pub fn holds_on_one_thread(alloc: Global, room: u32, seed: u64, plan: Plan) -> Result<bool, Fault>
+    requires asked { (1 ≤ room) × (room ≤ 65536) }
+{
+    let (board, job) = plain(alloc)?;
+    holds::<Plain, PlainJob>(alloc, board, &job, room, seed, plan)
+}
+
+/// Whether what is planned holds of a pipe between threads.
+pub fn holds_between_threads(alloc: Global, seed: u64, plan: Plan) -> Result<bool, Fault> {
+    holds::<WordLanes, WordJob>(alloc, (), &WordJob, 1, seed, plan)
+}
+
+/// The same as on one thread, where groups give so many tokens.
+pub fn holds_of_scarce_on_one_thread<const TOKENS: u32>(
+    alloc: Global,
+    room: u32,
+    plan: Plan,
+) -> Result<bool, Fault>
+    requires asked { (1 ≤ room) × (room ≤ 65536) }
+{
+    let (board, job) = plain(alloc)?;
+    holds::<ScarceLanes<Plain, TOKENS>, PlainJob>(alloc, board, &job, room, 1, plan)
+}
+
+/// The same as between threads, where groups give so many tokens.
+pub fn holds_of_scarce_between_threads<const TOKENS: u32>(
+    alloc: Global,
+    plan: Plan,
+) -> Result<bool, Fault> {
+    holds::<ScarceLanes<WordLanes, TOKENS>, WordJob>(alloc, (), &WordJob, 1, 1, plan)
+}

@@ -1,0 +1,205 @@
+//! The four pairings of serial and parallel ends, with two pipelines.
+ghost use Rattle.std.specs.Prelude.{◌≡◌, All};
+ghost use Rattle.morsel_merge.specs.Ends.{IsNewReceiver, IsNewSender};
+
+use crate::tests::pipe::Pipe;
+use morsel_lane_pipe::{
+    Distributing, HandingOn, Inserting, LoadOf, Merging, PipeOut, ReceiptsOf, Stepping,
+};
+use morsel_load::{Load, LoadJob};
+use morsel_meaning::Fault;
+use morsel_merge::Inserter;
+use morsel_prims::{Lanes, Task, Tokens};
+use std::alloc::Global;
+
+/// How many sending ends a pipe has, and how many receiving ones.
+#[derive(Clone, Copy, Debug, PartialEq, Eq)]
+pub enum Pairing {
+    /// One and one.
+    Serial,
+    /// Two and two.
+    Parallel,
+    /// Two and one.
+    Merged,
+    /// One and two.
+    Spread,
+}
+
+/// How the lanes and tasks of a pipe are made.
+pub trait Joins<L, J>
+where
+    L: Tokens + Lanes<Load<<L as Tokens>::Token, J>>,
+    J: LoadJob<<L as Tokens>::Token>,
+{
+    /// The task between all lanes.
+    type First: Task<L::Board, Out = PipeOut<ReceiptsOf<L, J>>> + Drop;
+
+    /// The task of a pipeline.
+    type Other: Task<L::Board, Out = PipeOut<ReceiptsOf<L, J>>> + Drop;
+
+    /// Makes the lanes and tasks of this pipe. The seed says which lanes are drawn.
+    fn join(
+        alloc: Global,
+        pipe: &mut Pipe<L, J, Self::First, Self::Other>,
+        job: &J,
+        seed: u64,
+    ) -> Result<(), Fault>
+        requires same_job { job.now ≡ pipe.old.job };
+}
+
+/// One lane without a task.
+pub struct OneLane;
+
+/// Two lanes without tasks.
+pub struct TwoLanes;
+
+/// Two lanes that are merged into one.
+pub struct Merged;
+
+/// One lane that is spread over two.
+pub struct Spread;
+
+impl<L, J> Joins<L, J> for OneLane
+where
+    L: Tokens + Lanes<Load<<L as Tokens>::Token, J>>,
+    J: LoadJob<<L as Tokens>::Token>,
+{
+    type First = Stepping<Inserting<L, J>>;
+
+    type Other = Stepping<Inserting<L, J>>;
+
+    fn join(alloc: Global, pipe: &mut PassedPipe<L, J>, job: &J, _seed: u64) -> Result<(), Fault> {
+        pipe.pass(alloc, job)
+    }
+}
+
+impl<L, J> Joins<L, J> for TwoLanes
+where
+    L: Tokens + Lanes<Load<<L as Tokens>::Token, J>>,
+    J: LoadJob<<L as Tokens>::Token>,
+{
+    type First = Stepping<Inserting<L, J>>;
+
+    type Other = Stepping<Inserting<L, J>>;
+
+    fn join(alloc: Global, pipe: &mut PassedPipe<L, J>, job: &J, _seed: u64) -> Result<(), Fault> {
+        pipe.pass(alloc, job)?;
+        pipe.pass(alloc, job)
+    }
+}
+
+impl<L, J> Joins<L, J> for Merged
+where
+    L: Tokens + Lanes<Load<<L as Tokens>::Token, J>>,
+    J: LoadJob<<L as Tokens>::Token>,
+{
+    type First = Stepping<Merging<L, J>>;
+
+    type Other = Stepping<Inserting<L, J>>;
+
+    fn join(alloc: Global, pipe: &mut MergedPipe<L, J>, job: &J, _seed: u64) -> Result<(), Fault> {
+        merge_two::<L, J>(alloc, pipe, job)
+    }
+}
+
+impl<L, J> Joins<L, J> for Spread
+where
+    L: Tokens + Lanes<Load<<L as Tokens>::Token, J>>,
+    J: LoadJob<<L as Tokens>::Token>,
+{
+    type First = Stepping<Distributing<L, J>>;
+
+    type Other = Stepping<HandingOn<L, J>>;
+
+    fn join(alloc: Global, pipe: &mut SpreadPipe<L, J>, job: &J, seed: u64) -> Result<(), Fault> {
+        spread_two::<L, J>(alloc, pipe, job, seed)
+    }
+}
+
+/// A pipe of lanes without tasks.
+pub type PassedPipe<L, J> = Pipe<L, J, Stepping<Inserting<L, J>>, Stepping<Inserting<L, J>>>;
+
+/// A pipe of two sending ends and one receiving end.
+pub type MergedPipe<L, J> = Pipe<L, J, Stepping<Merging<L, J>>, Stepping<Inserting<L, J>>>;
+
+/// A pipe of one sending end and two receiving ends.
+pub type SpreadPipe<L, J> = Pipe<L, J, Stepping<Distributing<L, J>>, Stepping<HandingOn<L, J>>>;
+
+/// Makes the lanes and tasks where two sending ends are merged into one receiving end.
+fn merge_two<L, J>(alloc: Global, pipe: &mut MergedPipe<L, J>, job: &J) -> Result<(), Fault>
+where
+    L: Tokens + Lanes<Load<<L as Tokens>::Token, J>>,
+    J: LoadJob<<L as Tokens>::Token>,
+    requires same_job { job.now ≡ pipe.old.job }
+{
+    let to = pipe.leave(alloc, job)?;
+    let (task, mut inserters) = pipe.merging(alloc, job, to)?;
+    pipe.set_first(task);
+    insert_next::<L, J>(alloc, pipe, job, &mut inserters)?;
+    insert_next::<L, J>(alloc, pipe, job, &mut inserters)
+}
+
+/// Adds the task before the last of these lanes of a linearizer, if one is left.
+fn insert_next<L, J>(
+    alloc: Global,
+    pipe: &mut MergedPipe<L, J>,
+    job: &J,
+    inserters: &mut Vec<Inserter<LoadOf<L, J>, L>>,
+) -> Result<(), Fault>
+where
+    L: Tokens + Lanes<Load<<L as Tokens>::Token, J>>,
+    J: LoadJob<<L as Tokens>::Token>,
+    requires same_job { job.now ≡ pipe.old.job }
+    requires inserters { All (λ inserter. IsNewSender L.Sender.home L.Sender.job L.Sender.room L.Sender.sent pipe.old.board.lane_table job.now (L.room_of pipe.old.room) inserter.sender) inserters.old.items }
+    ensures inserters { All (λ inserter. IsNewSender L.Sender.home L.Sender.job L.Sender.room L.Sender.sent pipe.old.board.lane_table job.now (L.room_of pipe.old.room) inserter.sender) inserters.new.items }
+    ensures same { pipe.new ≡ pipe.old }
+{
+    let Some(inserter) = inserters.pop() else {
+        return Ok(());
+    };
+    let from = pipe.enter(alloc, job)?;
+    let task = pipe.inserting(alloc, from, inserter)?;
+    pipe.push(task)
+}
+
+/// Makes the lanes and tasks where one sending end is spread over two receiving ends. The seed says which lanes are drawn.
+fn spread_two<L, J>(
+    alloc: Global,
+    pipe: &mut SpreadPipe<L, J>,
+    job: &J,
+    seed: u64,
+) -> Result<(), Fault>
+where
+    L: Tokens + Lanes<Load<<L as Tokens>::Token, J>>,
+    J: LoadJob<<L as Tokens>::Token>,
+    requires same_job { job.now ≡ pipe.old.job }
+{
+    let from = pipe.enter(alloc, job)?;
+    let (task, mut lanes) = pipe.distributing(alloc, job, from, seed)?;
+    pipe.set_first(task);
+    hand_on_next::<L, J>(alloc, pipe, job, &mut lanes)?;
+    hand_on_next::<L, J>(alloc, pipe, job, &mut lanes)
+}
+
+/// Adds the task behind the last of these lanes of a distributor, if one is left.
+fn hand_on_next<L, J>(
+    alloc: Global,
+    pipe: &mut SpreadPipe<L, J>,
+    job: &J,
+    lanes: &mut Vec<L::Receiver>,
+) -> Result<(), Fault>
+where
+    L: Tokens + Lanes<Load<<L as Tokens>::Token, J>>,
+    J: LoadJob<<L as Tokens>::Token>,
+    requires same_job { job.now ≡ pipe.old.job }
+    requires receivers { All (IsNewReceiver L.Receiver.home L.Receiver.job L.Receiver.taken L.Receiver.is_whole L.Receiver.is_cut pipe.old.board.lane_table job.now) lanes.old.items }
+    ensures receivers { All (IsNewReceiver L.Receiver.home L.Receiver.job L.Receiver.taken L.Receiver.is_whole L.Receiver.is_cut pipe.old.board.lane_table job.now) lanes.new.items }
+    ensures same { pipe.new ≡ pipe.old }
+{
+    let Some(from) = lanes.pop() else {
+        return Ok(());
+    };
+    let to = pipe.leave(alloc, job)?;
+    let task = pipe.handing_on(alloc, from, to)?;
+    pipe.push(task)
+}
