@@ -1,10 +1,10 @@
 //! The reason of an answer: from the words and the line that was printed.
 
-use crate::files::{bytes_from, open};
 use crate::headers::write_header;
 use crate::spots::{Spot, write_spot};
 use crate::told::{Told, told_of};
 use crate::usage::write_usage;
+use morsel_file_lines::{bytes_from, open};
 use morsel_outside::Io;
 use morsel_query_reasons::{
     Unsaid, queried, scanned, show, write_columns, write_duplicate, write_flaw_of, write_keys,

@@ -5,10 +5,10 @@
 //! a file without header, or of texts alone.
 ghost use Rattle.std.specs.Prelude.{◌≡◌, ◌<◌, length};
 
-use crate::files::{bytes_from, line_of, open};
 use crate::misfits::misfit_of;
 use crate::records::record_end;
 use crate::walk::{FieldAt, FieldEnd, field_at, walk};
+use morsel_file_lines::{bytes_from, line_of, open};
 use morsel_outside::{FileNo, Io};
 use morsel_query_reasons::{
     CsvFile, CsvForm, Unsaid, part, show, show_name, show_record, show_value,

@@ -5,7 +5,6 @@
 #![tactic(auto)]
 
 mod answers;
-mod files;
 mod headers;
 mod misfits;
 mod records;

@@ -1,9 +1,9 @@
 //! A faulty record: its file, line and place, what is wrong with it, and the record with a mark.
 ghost use Rattle.std.specs.Prelude.{◌≡◌, ◌<◌, length};
 
-use crate::files::{bytes_from, line_of, open};
 use crate::records::{Record, flaw_of, write_flaw, write_record};
 use crate::told::RecordFault;
+use morsel_file_lines::{bytes_from, line_of, open};
 use morsel_outside::{FileNo, Io};
 use morsel_query_reasons::{CsvFile, Unsaid, show};
 use std::alloc::{AllocError, Global};

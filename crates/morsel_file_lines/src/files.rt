@@ -2,7 +2,7 @@
 ghost use Rattle.std.specs.Prelude.{◌≡◌, ◌+◌, ◌<◌, ◌≤◌, length, slice_index, IfOk, OnOk, IfSome};
 ghost use Rattle.std.specs.List.{count_by};
 ghost use Rattle.morsel_outside.specs.Calls.{Holds};
-ghost use Rattle.morsel_reasons.specs.Lines.{is_feed, HasFeeds, IsLineOf};
+ghost use Rattle.morsel_file_lines.specs.Lines.{is_feed, HasFeeds, IsLineOf};
 
 use morsel_outside::{FileNo, Io};
 use morsel_query_reasons::Unsaid;

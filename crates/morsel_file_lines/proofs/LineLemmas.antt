@@ -5,7 +5,7 @@ use Rattle.std.specs.List.{count_by}
 use Rattle.std.proofs.Math.Seq.{take-add}
 use Rattle.std.proofs.lemmas.List.Sums.{sum_by-append}
 use Rattle.morsel_outside.specs.Calls.{Holds}
-use Rattle.morsel_reasons.specs.Lines.{is_feed, HasFeeds, IsLineOf}
+use Rattle.morsel_file_lines.specs.Lines.{is_feed, HasFeeds, IsLineOf}
 
 -- the feeds of what is held are those of the file
 pub feeds_of_held : (held : Option (List (List ℕ))) (file at : ℕ) (bytes : List ℕ) → Holds held file at bytes → HasFeeds held file at (length bytes) (count_by is_feed bytes)

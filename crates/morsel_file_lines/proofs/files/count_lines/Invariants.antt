@@ -1,6 +1,6 @@
 use Rattle.std.proofs.Common.{◌-◌, ◌+◌, ◌≡◌, ◌≤◌}
-use Rattle.morsel_reasons.specs.Lines.{IsLineOf}
-use Rattle.morsel_reasons.proofs.files.count_lines.Given as goal
+use Rattle.morsel_file_lines.specs.Lines.{IsLineOf}
+use Rattle.morsel_file_lines.proofs.files.count_lines.Given as goal
 
 -- the line of the place that was reached is known
 abbrev pub invariant-loop-from : goal.invariant-loop-from

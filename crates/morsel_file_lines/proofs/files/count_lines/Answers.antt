@@ -1,7 +1,7 @@
 use Rattle.std.proofs.Common.{rules, ◌≡◌, length, take, arith}
 use Rattle.std.proofs.lemmas.Grind.{common_steps}
-use Rattle.morsel_reasons.proofs.LineLemmas.{line_more_of_part}
-use Rattle.morsel_reasons.proofs.files.count_lines.Goals as goal
+use Rattle.morsel_file_lines.proofs.LineLemmas.{line_more_of_part}
+use Rattle.morsel_file_lines.proofs.files.count_lines.Goals as goal
 
 -- src/files.rt:97:5
 pub loop-from-preserved : goal.loop-from-preserved

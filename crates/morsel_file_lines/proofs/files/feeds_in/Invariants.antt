@@ -1,7 +1,7 @@
 use Rattle.std.proofs.Common.{◌≡◌, ◌≤◌, take}
 use Rattle.std.specs.List.{count_by}
-use Rattle.morsel_reasons.specs.Lines.{is_feed}
-use Rattle.morsel_reasons.proofs.files.feeds_in.Given as goal
+use Rattle.morsel_file_lines.specs.Lines.{is_feed}
+use Rattle.morsel_file_lines.proofs.files.feeds_in.Given as goal
 
 -- the feeds so far are counted
 abbrev pub invariant-loop-byte : goal.invariant-loop-byte
