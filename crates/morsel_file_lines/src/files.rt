@@ -1,7 +1,7 @@
 //! Files that are read once more.
-ghost use Rattle.std.specs.Prelude.{◌≡◌, ◌+◌, ◌<◌, ◌≤◌, length, slice_index, IfOk, OnOk, IfSome};
+ghost use Rattle.std.specs.Prelude.{◌≡◌, ◌+◌, ◌<◌, ◌≤◌, None, Ok, length, slice_index, IfOk, OnOk, IfSome};
 ghost use Rattle.std.specs.List.{count_by};
-ghost use Rattle.morsel_outside.specs.Calls.{Holds};
+ghost use Rattle.morsel_outside.specs.Calls.{Holds, Opens};
 ghost use Rattle.morsel_file_lines.specs.Lines.{is_feed, HasFeeds, IsLineOf};
 
 use morsel_outside::{FileNo, Io};
@@ -16,7 +16,8 @@ const MOST_COUNTED: u64 = 4_294_967_296;
 
 /// Opens a file.
 pub fn open<H: Io>(io: &mut H, name: &str) -> Result<FileNo, Unsaid>
-    ensures { IfOk result (λ file. file.0 < length (H.seen io.new).sizes) }
+    ensures opened { IfOk result (λ file. file.0 < length (H.seen io.new).sizes) }
+    ensures named { IfOk result (λ file. Opens (H.seen io.old) name.now (Ok file) (H.seen io.new)) }
 {
     match io.open_source(name) {
         Ok(file) => Ok(file),
@@ -49,6 +50,8 @@ pub fn bytes_from<H: Io>(
     requires { file.0 < length (H.seen io.old).sizes }
     ensures same_sizes { (H.seen io.new).sizes ≡ (H.seen io.old).sizes }
     ensures value { IfOk result (λ bytes. Holds (H.seen io.old).held file.0 at bytes.items) }
+    ensures most { IfOk result (λ bytes. length bytes.items ≤ most) }
+    ensures whole { IfOk result (λ bytes. length bytes.items < most → at + length bytes.items ≡ slice_index (H.seen io.old).sizes file.0) }
 {
     let size = io.size(file);
     if at > size {
@@ -70,6 +73,7 @@ pub fn line_of<H: Io>(
     requires { file.0 < length (H.seen io.old).sizes }
     ensures same_sizes { (H.seen io.new).sizes ≡ (H.seen io.old).sizes }
     ensures value { IfOk result (λ found. IfSome found (λ line. IsLineOf (H.seen io.old).held file.0 at line)) }
+    ensures none { IfOk result (λ found. found ≡ None → 4_294_967_296 < at) }
 {
     if at > io.size(file) {
         return Err(Unsaid);
