@@ -22,7 +22,7 @@ fn column_of(rt: &impl Abort, alloc: Global, numbers: &[i64]) -> Column
 }
 
 /// The rows of these numbers.
-pub fn frame_of(rt: &impl Abort, alloc: Global, numbers: &[i64]) -> Frame {
+fn frame_of(rt: &impl Abort, alloc: Global, numbers: &[i64]) -> Frame {
     let column = column_of(rt, alloc, numbers);
     let height = column.len();
     let name = name_of(rt, alloc, "n");

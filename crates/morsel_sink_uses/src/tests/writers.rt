@@ -66,7 +66,7 @@ fn written(rt: &impl Abort, alloc: Global, io: &mut MemIo) -> Result<u64, Fault>
     }
 }
 
-/// The last sink has this text.
+/// One sink was made, `out.ndjson`, and it has this text.
 fn has_text(rt: &impl Abort, io: &MemIo, text: &str) {
     let sinks = io.memory().sinks();
     assert_eq!(rt; sinks, 1);
