@@ -1,5 +1,5 @@
 -- Bytes that need no escape: what a lane tells of them, and how they are written.
-use Rattle.std.proofs.Common.{◌≡◌, ◌⊎◌, inl, inr, refl, ℕ, zero, suc, subst, ◌+◌, ◌%◌, ◌^◌, ◌<◌, ◌≤◌, ◌∙◌, sym, ap, arith, append_assoc, Bool, true, false, cond, ◌||◌, ◌&&◌, ◌==◌, List, [], ◌∷◌, ◌++◌, length, get_or, take, drop, map, replicate, bit_or, eqb, ltb}
+use Rattle.std.proofs.Common.{◌≡◌, ◌⊎◌, inl, inr, refl, ℕ, zero, suc, subst, ◌+◌, ◌-◌, ◌%◌, ◌^◌, ◌<◌, ◌≤◌, ◌∙◌, sym, ap, arith, append_assoc, Bool, true, false, cond, ◌||◌, ◌&&◌, ◌==◌, List, [], ◌∷◌, ◌++◌, length, get_or, take, drop, map, replicate, bit_or, eqb, ltb}
 use Rattle.std.proofs.lemmas.Bool.{or_parts, eqb-true, ne_eqb, ltb-false, cases_lt, OnTrue_from}
 use Rattle.std.proofs.lemmas.Grind.{flat_map-append}
 use Rattle.std.proofs.lemmas.List.{length-map, take-append-drop}
@@ -10,7 +10,7 @@ use lib.Count.{count_trailing_zeros}
 use lib.Lanes.{chunk, mask_l, zip2, top}
 use Rattle.morsel_ndjson.specs.Ndjson.{escaped, json_string}
 use Rattle.morsel_ndjson.specs.Members.{needs_escape, ArePlain}
-use Rattle.morsel_ndjson.proofs.PutLemmas.{cut_words}
+use Rattle.morsel_ndjson.proofs.PutLemmas.{cut_words, take_add}
 
 -- how a comparison of lanes tells: all bits, or none
 abbrev all_bits : Bool → ℕ
@@ -128,3 +128,31 @@ quoted_lane old opened laned closed bytes at begin len first end next last enoug
     ∙ (ap (λ (s : List ℕ). s ++ 34 ∷ []) (body ∙ (ap (λ (s : List ℕ). s ++ text) quote ∙ append_assoc (take at old) (34 ∷ []) text))
     ∙ (append_assoc (take at old) (34 ∷ text) (34 ∷ [])
     ∙ ap (λ (s : List ℕ). take at old ++ (34 ∷ s ++ 34 ∷ [])) (sym (plain_taken bytes len (omega arith) (λ k low high. plain k low (omega arith)))))))
+
+-- the bytes before the first that needs an escape, and then the others with their escapes
+parts_escaped : (bytes : List ℕ) (plain len : ℕ) → plain ≤ len → len ≤ length bytes → ArePlain 0 plain bytes
+    → flat_map escaped (take len bytes) ≡ take plain bytes ++ flat_map escaped (take (len - plain) (drop plain bytes))
+parts_escaped bytes plain len within long are =
+    let rest : List ℕ = take (len - plain) (drop plain bytes) in
+    let whole : len ≡ plain + (len - plain) = omega arith in
+    ap (λ (n : ℕ). flat_map escaped (take n bytes)) whole
+    ∙ (ap (flat_map escaped) (take_add bytes plain (len - plain))
+    ∙ (flat_map-append escaped (take plain bytes) rest
+    ∙ ap (λ (s : List ℕ). s ++ flat_map escaped rest) (plain_taken bytes plain (omega arith) are)))
+
+-- the same after a lane was put, between quotes
+pub quoted_front : (old opened laned closed bytes : List ℕ) (at begin plain len end : ℕ)
+    → plain ≤ len → len ≤ 16 → 16 ≤ length bytes → begin ≤ length opened → begin + 16 ≤ length laned → ArePlain 0 plain bytes
+    → take begin opened ≡ take at old ++ 34 ∷ [] → take (begin + 16) laned ≡ take begin opened ++ take 16 bytes
+    → take end closed ≡ (take (begin + plain) laned ++ flat_map escaped (take (len - plain) (drop plain bytes))) ++ 34 ∷ []
+    → take end closed ≡ take at old ++ json_string (take len bytes)
+quoted_front old opened laned closed bytes at begin plain len end within short long room lane_room are quote lane rest =
+    let front : List ℕ = take plain bytes in
+    let back : List ℕ = flat_map escaped (take (len - plain) (drop plain bytes)) in
+    let body : take (begin + plain) laned ≡ take begin opened ++ front = cut_words opened laned bytes begin 16 plain (omega arith) room long lane_room lane in
+    let so_far : take (begin + plain) laned ≡ take at old ++ 34 ∷ front =
+    body ∙ (ap (λ (s : List ℕ). s ++ front) quote ∙ append_assoc (take at old) (34 ∷ []) front) in
+    rest
+    ∙ (ap (λ (s : List ℕ). s ++ 34 ∷ []) (ap (λ (s : List ℕ). s ++ back) so_far ∙ append_assoc (take at old) (34 ∷ front) back)
+    ∙ (append_assoc (take at old) (34 ∷ front ++ back) (34 ∷ [])
+    ∙ ap (λ (s : List ℕ). take at old ++ (34 ∷ s ++ 34 ∷ [])) (sym (parts_escaped bytes plain len within (omega arith) are))))

@@ -91,6 +91,12 @@ have_row_at [] row at within have = absurd (omega arith)
 have_row_at (m ∷ members) row zero within have = have.0
 have_row_at (m ∷ members) row (suc at) within have = have_row_at members row at (omega arith) have.1
 
+-- and so have those from a place on
+pub have_row_from : (members : List (List ℕ × List Value)) (row at : ℕ) → HaveRow row members → HaveRow row (drop at members)
+have_row_from members row zero have = have
+have_row_from [] row (suc at) have = tt
+have_row_from (m ∷ members) row (suc at) have = have_row_from members row at have.1
+
 -- the next member of a row
 pub members_more : (members : List (List ℕ × List Value)) (row at : ℕ) → at < length members
     → members_at row (drop at members) ≡ ((get_or members at ([], [])).0 ++ json_value (value_at (get_or members at ([], [])).1 row)) ++ members_at row (drop (at + 1) members)
@@ -98,7 +104,7 @@ members_more members row at within = rw (drop_more members at ([], []) within) r
 
 -- the room that it takes
 pub room_more : (members : List (List ℕ × List Value)) (at : ℕ) → at < length members
-    → members_room (drop at members) ≡ length (get_or members at ([], [])).0 + 20 + members_room (drop (at + 1) members)
+    → members_room (drop at members) ≡ length (get_or members at ([], [])).0 + 114 + members_room (drop (at + 1) members)
 room_more members at within = rw (drop_more members at ([], []) within) refl
 
 pub room_least : (members : List (List ℕ × List Value)) → 3 ≤ members_room members
@@ -169,3 +175,8 @@ pub member_lent : (self : List ℕ × List Value) (begin : List ℕ) (valid : Li
 member_lent self begin valid lent vs row cell is lends value =
     ap (λ (v : Value). begin ++ json_value v) (value ∙ ap (λ (ws : List Value). value_at (masked valid ws) row) (sym lends))
     ∙ ap (λ (m : List ℕ × List Value). m.0 ++ json_value (value_at m.1 row)) is
+
+-- the member begins as its beginning does
+pub begin_lent : (self : List ℕ × List Value) (begin : List ℕ) (valid : List Bool) (lent : Lent) → (let seen : List ℕ × List Value = (begin, masked valid (lent_values lent)) in seen ≡ self)
+    → begin ≡ self.0
+begin_lent self begin valid lent is = ap (λ (m : List ℕ × List Value). m.0) is

@@ -1,5 +1,5 @@
 -- Bytes that follow others, in a buffer that has room after them.
-use Rattle.std.proofs.Common.{◌≡◌, ℕ, ◌+◌, ◌-◌, ◌/◌, ◌%◌, ◌^◌, ◌<◌, ◌≤◌, List, [], ◌∷◌, ◌++◌, length, take, drop, refl, ap, sym, ◌∙◌, append_assoc, arith, length-append, decimal, subst, Result}
+use Rattle.std.proofs.Common.{◌≡◌, ℕ, ◌+◌, ◌-◌, ◌/◌, ◌%◌, ◌^◌, ◌<◌, ◌≤◌, List, [], ◌∷◌, ◌++◌, length, take, drop, refl, ap, sym, ◌∙◌, append_assoc, arith, length-append, decimal, subst, Result, Ok, Err}
 use Rattle.std.proofs.lemmas.List.{take_all, take-take, take-append-drop, take_at, take-append-le, length-take-le}
 use Rattle.std.proofs.lemmas.List.{drop-take}
 use Rattle.std.proofs.Math.Seq.{take-append-add}
@@ -130,3 +130,11 @@ one_more old out now at to end x rest whole put left = ap (λ (s : List ℕ). s 
 -- what is put of one text is put of another that is the same
 pub puts_same : {E : Type 0} (old new text same : List ℕ) (at : ℕ) (result : Result ℕ E) → text ≡ same → Puts old at text result new → Puts old at same result new
 puts_same {E} old new text same at result is puts = subst (λ (s : List ℕ). Puts old at s result new) is puts
+
+-- what was put after a part that was put
+pub puts_more : {E : Type 0} (old part new rest whole : List ℕ) (at to : ℕ) (result : Result ℕ E) → at ≤ to → to ≤ length part → at ≤ length old
+    → take to part ++ rest ≡ take at old ++ whole → Puts part to rest result new → Puts old at whole result new
+puts_more {E} old part new rest whole at to (Ok end) rises within was so_far puts =
+    record { rises = omega (arith, puts.rises, rises); within = puts.within; written = puts.written ∙ so_far }
+puts_more {E} old part new rest whole at to (Err fault) rises within was so_far puts =
+    kept_below new part at to rises puts ∙ front_kept old part at to whole rest rises within was so_far

@@ -1,6 +1,6 @@
--- Decimal digits, two at a time.
+-- Decimal digits, three at a time.
 use Rattle.std.specs.Prelude.{ℕ, ◌+◌, ◌/◌, ◌%◌, List, [], ◌∷◌}
 
--- the two digits of a number below 100
-abbrev pub pair : ℕ → List ℕ
-pair n = (48 + n / 10) ∷ (48 + n % 10) ∷ []
+-- the three digits of a number below 1000
+abbrev pub group : ℕ → List ℕ
+group n = (48 + n / 100) ∷ (48 + n % 100 / 10) ∷ (48 + n % 100 % 10) ∷ []

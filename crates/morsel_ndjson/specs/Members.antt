@@ -51,10 +51,10 @@ abbrev pub HaveRow : ℕ → List (List ℕ × List Value) → Type 0
 HaveRow row [] = Unit {0}
 HaveRow row (m ∷ members) = (row < length m.1) × HaveRow row members
 
--- how many bytes a row takes at most, but for its texts
+-- how many bytes a row takes at most, but for its texts of more than 16 bytes
 abbrev pub members_room : List (List ℕ × List Value) → ℕ
 members_room [] = 3
-members_room (m ∷ members) = length m.0 + 20 + members_room members
+members_room (m ∷ members) = length m.0 + 114 + members_room members
 
 -- values, each after its beginning
 abbrev pub begun : List (List ℕ) → Row → List ℕ

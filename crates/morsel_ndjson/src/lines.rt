@@ -1,5 +1,5 @@
 //! Rows as JSON, one object a line.
-ghost use Rattle.std.specs.Prelude.{◌≡◌, ◌+◌, ◌^◌, ◌≤◌, ◌++◌, length, take, OnOk, OnErr, IfOk, IsOkUnless, codes, if◌then◌else◌};
+ghost use Rattle.std.specs.Prelude.{◌≡◌, ◌+◌, ◌^◌, ◌≤◌, ◌++◌, length, take, drop, OnOk, OnErr, IfOk, IsOkUnless, codes, if◌then◌else◌};
 ghost use Rattle.morsel_meaning.specs.declared.fault.Fault.TheVariants as faults;
 ghost use Rattle.morsel_meaning.specs.Values.{names_of};
 ghost use Rattle.morsel_ndjson.specs.Ndjson.{ndjson};
@@ -110,6 +110,52 @@ fn put_line(
 /// Puts the members of one row, and leaves room for the end of its line.
 #[inline(always)]
 fn put_members(
+    out: &mut Vec<u8>,
+    at: usize,
+    members: &[Member<'_>],
+    row: usize,
+    room: usize,
+) -> Result<usize, AllocError>
+    requires row { HaveRow row members.now }
+    requires whole { members_room members.now ≤ room }
+    requires small { room ≤ 2 ^ 60 }
+    requires room { at + members_room members.now ≤ length out.old.items }
+    ensures put { Puts out.old.items at (members_at row members.now) result out.new.items }
+    ensures left { IfOk result (λ end. end + 3 ≤ length out.new.items) }
+{
+    let (count, end) = put_fitting(out.as_mut_slice(), at, members, row);
+    if count < members.len() {
+        return put_others(out, end, &members[count..], row, room);
+    }
+    Ok(end)
+}
+
+/// Puts the members of one row up to the first that may need more room than the row has for it, and says how many they are and
+/// where they end.
+#[inline(always)]
+fn put_fitting(out: &mut [u8], at: usize, members: &[Member<'_>], row: usize) -> (usize, usize)
+    requires row { HaveRow row members.now }
+    requires room { at + members_room members.now ≤ length out.old }
+    ensures some { result.0 ≤ length members.now }
+    ensures rises { at ≤ result.1 }
+    ensures within { result.1 + members_room (drop result.0 members.now) ≤ length out.new }
+    ensures written { take result.1 out.new ++ members_at row (drop result.0 members.now) ≡ take at out.old ++ members_at row members.now }
+{
+    let mut to = at;
+    for column in 0..members.len() {
+        match members[column].put_small(out, to, row) {
+            Some(end) => to = end,
+            None => return (column, to),
+        }
+    }
+    (members.len(), to)
+}
+
+/// Puts the last members of one row, whatever they are, and leaves room for the end of its line.
+// Apart from the loop over those that fit, so that this one has its registers, and nothing of it is asked there.
+#[cold]
+#[inline(never)]
+fn put_others(
     out: &mut Vec<u8>,
     at: usize,
     members: &[Member<'_>],

@@ -1,6 +1,6 @@
 //! Columns as rows are written from them: each value after what its column's member begins with. A column is found in the
 //! frame once, and what it lends is known by its type.
-ghost use Rattle.std.specs.Prelude.{◌≡◌, ◌+◌, ◌*◌, ◌^◌, ◌≤◌, ◌<◌, ◌++◌, ℕ, pos, false, length, take, get_or, IfOk, IfSome, if◌then◌else◌};
+ghost use Rattle.std.specs.Prelude.{◌≡◌, ◌+◌, ◌*◌, ◌^◌, ◌≤◌, ◌<◌, ◌++◌, ℕ, pos, false, None, length, take, get_or, IfOk, IfSome, if◌then◌else◌};
 ghost use Rattle.morsel_meaning.specs.Values.{names_of};
 ghost use Rattle.morsel_frame.specs.Cells.{value_of};
 ghost use Rattle.morsel_frame.specs.Columns.{value_at};
@@ -9,7 +9,7 @@ ghost use Rattle.morsel_ndjson.specs.Members.{beginnings, members_from, members_
 
 use crate::beginning::Beginning;
 use crate::cursor::make_room;
-use crate::values::{put_text, put_value};
+use crate::values::{put_short, put_text, put_value};
 use morsel_frame::{Cell, Column, Frame, Texts};
 use morsel_meaning::{ColType, Value};
 use std::alloc::{AllocError, Global};
@@ -79,14 +79,36 @@ impl<'a> Member<'a> {
         }
     }
 
-    /// The room for a value and what it begins with, where the value is no text.
+    /// The room for a value and what it begins with, where the value is no text of more than 16 bytes.
     fn room(&self) -> Option<usize>
-        ensures { IfSome result (λ room. room ≡ length self.now.0 + 20) }
+        ensures { IfSome result (λ room. room ≡ length self.now.0 + 114) }
     {
-        self.begin.len().checked_add(20)
+        // Six bytes for each byte of a text, and 18 for its quotes and a lane that is put whole.
+        self.begin.len().checked_add(114)
     }
 
-    /// Puts the member of a row. As much room as there was after it, up to `room`, there is again.
+    /// Puts the member of a row within the room of a value, or says that it is a text that may need more.
+    #[inline(always)]
+    pub fn put_small(&self, out: &mut [u8], at: usize, row: usize) -> Option<usize>
+        requires row { row < length self.now.1 }
+        requires room { at + (length self.now.0 + 114) ≤ length out.old }
+        ensures kept { result ≡ None → take at out.new ≡ take at out.old }
+        ensures rises { IfSome result (λ end. at ≤ end) }
+        ensures within { IfSome result (λ end. end ≤ at + (length self.now.0 + 114)) }
+        ensures written { IfSome result (λ end. take end out.new ≡ take at out.old ++ (self.now.0 ++ json_value (value_at self.now.1 row))) }
+    {
+        let valid = self.valid[row];
+        match self.lent {
+            Lent::Ints(numbers) => Some(put_int_at(out, at, self.begin, valid, numbers, row)),
+            Lent::Bools(flags) => Some(put_bool_at(out, at, self.begin, valid, flags, row)),
+            Lent::Texts(texts) => {
+                let (bytes, len) = texts.bytes_from(row);
+                put_short_at(out, at, self.begin, valid, bytes, len)
+            }
+        }
+    }
+
+    /// Puts the member of a row, whatever it is. As much room as there was after it, up to `room`, there is again.
     #[inline(always)]
     pub fn put(
         &self,
@@ -96,12 +118,12 @@ impl<'a> Member<'a> {
         room: usize,
     ) -> Result<usize, AllocError>
         requires row { row < length self.now.1 }
-        requires own { length self.now.0 + 20 ≤ room }
+        requires own { length self.now.0 + 114 ≤ room }
         requires small { room ≤ 2 ^ 60 }
-        requires room { at + (length self.now.0 + 20) ≤ length out.old.items }
+        requires room { at + (length self.now.0 + 114) ≤ length out.old.items }
         ensures put { Puts out.old.items at (self.now.0 ++ json_value (value_at self.now.1 row)) result out.new.items }
         ensures left { IfOk result (λ end. (more : ℕ) → more ≤ room →
-            at + (length self.now.0 + 20) + more ≤ length out.old.items → end + more ≤ length out.new.items) }
+            at + (length self.now.0 + 114) + more ≤ length out.old.items → end + more ≤ length out.new.items) }
     {
         let valid = self.valid[row];
         match self.lent {
@@ -131,7 +153,7 @@ pub fn make_members<'a>(
     Ok(members)
 }
 
-/// The room for a row, but for its texts.
+/// The room for a row, but for its texts of more than 16 bytes.
 pub fn row_room(members: &[Member<'_>]) -> Option<usize>
     ensures room { IfSome result (λ room. room ≡ members_room members.now) }
     ensures small { IfSome result (λ room. room ≤ 2 ^ 60) }
@@ -263,6 +285,36 @@ fn put_bool_at(
     put_value(out, to, bool_at(valid, flags, row))
 }
 
+/// Puts a beginning and a text of at most 16 bytes under its mark, or says that the text may be no such text. It is the first
+/// `len` of these bytes.
+#[inline(always)]
+fn put_short_at(
+    out: &mut [u8],
+    at: usize,
+    begin: &Beginning,
+    valid: bool,
+    bytes: &[u8],
+    len: usize,
+) -> Option<usize>
+    requires within { len ≤ length bytes.now }
+    requires room { at + (length begin.now + 114) ≤ length out.old }
+    ensures kept { result ≡ None → take at out.new ≡ take at out.old }
+    ensures rises { IfSome result (λ end. at ≤ end) }
+    ensures within { IfSome result (λ end. end ≤ at + (length begin.now + 114)) }
+    ensures written { IfSome result (λ end. take end out.new ≡ take at out.old ++
+        (begin.now ++ json_value (if valid then Value.Text (take len bytes.now) else Value.Null))) }
+{
+    if len > 16 || bytes.len() < 16 {
+        return None;
+    }
+    let to = begin.put(out, at);
+    if valid {
+        Some(put_short(out, to, bytes, len))
+    } else {
+        Some(put_value(out, to, Cell::Null))
+    }
+}
+
 /// Puts a beginning and a text under its mark, for which there is room. The text is the first `len` of these bytes.
 #[inline(always)]
 fn put_text_at(
@@ -302,7 +354,7 @@ fn put_text_member(
 ) -> Result<usize, AllocError>
     requires text { len ≤ length bytes.now }
     requires within { at ≤ length out.old.items }
-    requires own { length begin.now + 20 ≤ room }
+    requires own { length begin.now + 114 ≤ room }
     requires small { room ≤ 2 ^ 60 }
     ensures put { Puts out.old.items at
         (begin.now ++ json_value (if valid then Value.Text (take len bytes.now) else Value.Null)) result out.new.items }

@@ -39,29 +39,43 @@ pub fn put_text(out: &mut [u8], at: usize, bytes: &[u8], len: usize) -> usize
     ensures within { result ≤ at + 6 * len + 2 }
     ensures written { take result out.new ≡ take at out.old ++ json_string (take len bytes.now) }
 {
-    if len <= 16 && bytes.len() >= 16 && put_short(out, at, bytes, len) {
-        return at + len + 2;
+    if len <= 16 && bytes.len() >= 16 {
+        return put_short(out, at, bytes, len);
     }
     put_string(out, at, &bytes[..len])
 }
 
-/// Puts a text of at most 16 bytes in quotes as it is, and says whether none of them needs an escape.
+/// Puts a text of at most 16 bytes in quotes: the first `len` of these bytes.
 ///
 /// The bytes after the text are put too, and written over.
 #[inline(always)]
-fn put_short(out: &mut [u8], at: usize, bytes: &[u8], len: usize) -> bool
+pub fn put_short(out: &mut [u8], at: usize, bytes: &[u8], len: usize) -> usize
     requires long { 16 ≤ length bytes.now }
     requires short { len ≤ 16 }
-    requires room { at + 18 ≤ length out.old }
-    ensures same_front { take at out.new ≡ take at out.old }
-    ensures written { OnTrue result (take (at + len + 2) out.new ≡ take at out.old ++ json_string (take len bytes.now)) }
+    requires room { at + (6 * len + 18) ≤ length out.old }
+    ensures rises { at ≤ result }
+    ensures within { result ≤ at + 6 * len + 2 }
+    ensures written { take result out.new ≡ take at out.old ++ json_string (take len bytes.now) }
 {
     let begin = put_byte(out, at, b'"');
-    if put_plain_lane(out, begin, bytes) < len {
-        return false;
+    let plain = put_plain_lane(out, begin, bytes);
+    if plain < len {
+        return put_rest(out, begin + plain, &bytes[plain..len]);
     }
-    put_byte(out, begin + len, b'"');
-    true
+    put_byte(out, begin + len, b'"')
+}
+
+/// Puts what is left of a text byte by byte, each with its escape, and a quote.
+// Not inlined, so that the loop over rows has the registers to itself.
+#[inline(never)]
+fn put_rest(out: &mut [u8], at: usize, text: &[u8]) -> usize
+    requires { at + (6 * length text.now + 1) ≤ length out.old }
+    ensures rises { at ≤ result }
+    ensures within { result ≤ at + (6 * length text.now + 1) }
+    ensures written { take result out.new ≡ (take at out.old ++ flat_map escaped text.now) ++ 34 ∷ [] }
+{
+    let end = put_chars(out, at, text);
+    put_byte(out, end, b'"')
 }
 
 /// Puts 16 bytes as they are, and says how many come before the first that needs an escape.

@@ -1,49 +1,24 @@
-use Rattle.std.proofs.Common.{◌+◌, ◌++◌, [], get_or, drop, ◌∙◌, arith}
-use Rattle.std.proofs.lemmas.List.{get_or_read}
-use Rattle.morsel_frame.specs.Columns.{value_at}
-use Rattle.morsel_ndjson.specs.Ndjson.{json_value}
-use Rattle.morsel_ndjson.specs.Members.{members_at, members_room}
-use Rattle.morsel_ndjson.proofs.PutLemmas.{one_more, front_kept, kept_below}
-use Rattle.morsel_ndjson.proofs.MemberLemmas.{members_more, room_more, room_within, room_least, have_row_at}
+use Rattle.std.proofs.Common.{◌≡◌, length, drop, arith}
+use Rattle.std.proofs.lemmas.List.{take_rest, take_at}
+use Rattle.morsel_ndjson.specs.Members.{members_at}
+use Rattle.morsel_ndjson.proofs.PutLemmas.{puts_more}
+use Rattle.morsel_ndjson.proofs.MemberLemmas.{room_within, have_row_from}
 use Rattle.morsel_ndjson.proofs.lines.put_members.Goals as goal
 
-pub put-requires-clause-row : goal.put-requires-clause-row
-put-requires-clause-row c =
-    let read = get_or_read c.args.members.now c.loop-column.column c.index-members-column.result c.loop-column-test.true c.index-members-column.is ([], []) in
-    rw read (have_row_at c.args.members.now c.args.row c.loop-column.column c.loop-column-test.true c.requires.row)
+pub put_others-requires-clause-row : goal.put_others-requires-clause-row
+put_others-requires-clause-row c =
+    rw (take_rest c.args.members.now c.put_fitting-count.result.0) (have_row_from c.args.members.now c.args.row c.put_fitting-count.result.0 c.requires.row)
 
-pub put-requires-clause-own : goal.put-requires-clause-own
-put-requires-clause-own c =
-    let read = get_or_read c.args.members.now c.loop-column.column c.index-members-column.result c.loop-column-test.true c.index-members-column.is ([], []) in
-    rw read (omega (arith, c.requires.whole, room_within c.args.members.now c.loop-column.column, room_more c.args.members.now c.loop-column.column c.loop-column-test.true))
+pub put_others-requires-clause-whole : goal.put_others-requires-clause-whole
+put_others-requires-clause-whole c =
+    rw (take_rest c.args.members.now c.put_fitting-count.result.0) (omega (arith, c.requires.whole, room_within c.args.members.now c.put_fitting-count.result.0))
 
-pub put-requires-clause-room : goal.put-requires-clause-room
-put-requires-clause-room c =
-    let read = get_or_read c.args.members.now c.loop-column.column c.index-members-column.result c.loop-column-test.true c.index-members-column.is ([], []) in
-    rw read (omega (arith, c.loop-column.invariant.within, room_more c.args.members.now c.loop-column.column c.loop-column-test.true))
-
-pub loop-column-preserved : goal.loop-column-preserved
-loop-column-preserved c =
-    let members = c.args.members.now in
-    let here = get_or members c.loop-column.column ([], []) in
-    let rest = drop (c.loop-column.column + 1) members in
-    let read = get_or_read members c.loop-column.column c.index-members-column.result c.loop-column-test.true c.index-members-column.is ([], []) in
-    let next = members_more members c.args.row c.loop-column.column c.loop-column-test.true in
-    let room = room_more members c.loop-column.column c.loop-column-test.true in
-    record {
-      rises = omega (arith, c.in-Ok.ensures.put.rises);
-      within = c.in-Ok.ensures.left (members_room rest) (omega (arith, room_within members (c.loop-column.column + 1), c.requires.whole))
-          (rw read (omega (arith, c.loop-column.invariant.within, room)));
-      written = one_more c.args.out.now.items c.loop-column.out.items c.put.new.out.items c.args.at c.loop-column.to c.in-Ok.end
-          (here.0 ++ json_value (value_at here.1 c.args.row)) (members_at c.args.row rest) _
-          (rw read at c.in-Ok.ensures.put.written) (rw next at c.loop-column.invariant.written);
-    }
-
-pub returns-in-Err-clause-put : goal.returns-in-Err-clause-put
-returns-in-Err-clause-put c =
-    kept_below c.put.new.out.items c.loop-column.out.items c.args.at c.loop-column.to c.loop-column.invariant.rises c.in-Err.ensures.put
-    ∙ front_kept c.args.out.now.items c.loop-column.out.items c.args.at c.loop-column.to _ _ c.loop-column.invariant.rises (omega (arith, c.loop-column.invariant.within))
-    (omega (arith, c.requires.room)) c.loop-column.invariant.written
-
-pub returns-clause-left : goal.returns-clause-left
-returns-clause-left c = omega (arith, c.loop-column.invariant.within, room_least (drop c.loop-column.column c.args.members.now))
+pub returns-then-count-members-clause-put : goal.returns-then-count-members-clause-put
+returns-then-count-members-clause-put c =
+    let count = c.put_fitting-count.result.0 in
+    let part = c.put_fitting-count.new.out in
+    let same : length part ≡ c.args.out.now.len = omega (arith, c.as_mut_slice.ensures.len, c.put_fitting-count.auto.out) in
+    let back = take_at part (drop (length part) c.args.out.now.items) c.args.out.now.len same in
+    puts_more c.args.out.now.items part c.put_others.new.out.items (members_at c.args.row (drop count c.args.members.now)) (members_at c.args.row c.args.members.now)
+    c.args.at c.put_fitting-count.result.1 c.put_others.result c.put_fitting-count.ensures.rises (omega (arith, c.put_fitting-count.ensures.within)) (omega (arith, c.requires.room))
+    (rw c.as_mut_slice.ensures.value at c.put_fitting-count.ensures.written) (rw (take_rest c.args.members.now count, back) at c.put_others.ensures.put)

@@ -1,6 +1,6 @@
 use Rattle.std.proofs.Common.{◌≡◌, ◌≤◌, ◌+◌, ◌++◌, length, take, drop}
 use Rattle.morsel_ndjson.specs.Members.{members_at, members_room}
-use Rattle.morsel_ndjson.proofs.lines.put_members.Given as goal
+use Rattle.morsel_ndjson.proofs.lines.put_others.Given as goal
 
 abbrev pub invariant-loop-column : goal.invariant-loop-column
 invariant-loop-column l = record {
