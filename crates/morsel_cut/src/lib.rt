@@ -13,8 +13,6 @@ mod prefix;
 mod record;
 mod rows;
 mod step;
-#[cfg(test)]
-mod tests;
 
 pub use cutter::Cutter;
 pub use header::{HeadEnd, head_end};

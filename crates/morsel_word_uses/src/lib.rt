@@ -12,4 +12,6 @@ mod end_tests;
 #[cfg(test)]
 mod group_tests;
 #[cfg(test)]
+mod lane_tests;
+#[cfg(test)]
 mod thread_tests;

@@ -22,6 +22,3 @@ pub use lane::word_lane;
 pub use receiver::WordReceiver;
 pub use sender::WordSender;
 pub use sending::task_of;
-
-#[cfg(test)]
-mod tests;

@@ -2,7 +2,7 @@
 //! as many rows as by hand.
 use super::every_cut::agree;
 use super::{answers, options_of};
-use crate::rows_of;
+use morsel_cut::rows_of;
 use morsel_grammar::CsvOptions;
 use morsel_meaning::Fault;
 use std::alloc::Global;

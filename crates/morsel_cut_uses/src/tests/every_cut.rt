@@ -1,7 +1,7 @@
 //! Every text of up to five bytes that the rules of CSV name, cut at every place: two pieces answer as the whole text, and have
 //! as many rows.
 use super::{answers, options_of};
-use crate::rows_of;
+use morsel_cut::rows_of;
 use morsel_grammar::CsvOptions;
 use morsel_meaning::Fault;
 use std::alloc::Global;

@@ -1,12 +1,9 @@
 //! What the ends of a lane between threads answer, as a caller has them.
 ghost use Rattle.std.specs.Prelude.{◌≡◌, ◌<◌};
 
-use crate::closing::WordSent;
-use crate::receiver::WordReceiver;
-use crate::sender::WordSender;
-use crate::{agree_receipts, word_lane};
 use morsel_meaning::TaskNo;
 use morsel_prims::{Message, RecvError, SendError};
+use morsel_words::{WordReceiver, WordSender, WordSent, agree_receipts, word_lane};
 use std::process::Abort;
 use std::test::Fail;
 

@@ -1,5 +1,5 @@
 //! Worked texts, and texts cut at every place, under each kind of options.
-use crate::{Cutter, HeadEnd, head_end, rows_of};
+use morsel_cut::{Cutter, HeadEnd, head_end, rows_of};
 use morsel_grammar::CsvOptions;
 use morsel_meaning::{Fault, Name, Why};
 use std::alloc::Global;
