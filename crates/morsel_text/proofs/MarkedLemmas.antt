@@ -57,6 +57,15 @@ plain_marked o is_last text marks j fit quoted is below plain =
     by true within unquoted = (keeps_plain_fields o fit text j quoted within unquoted).1
     by false within unquoted = (keeps_plain_fields o fit text j quoted within unquoted).0
 
+-- what is shown of a field without quotes is the field before its mark
+pub plain_shown : (o : Dialect) (is_last : Bool) (text marks : List ℕ) (j : ℕ) → IsDialect o → is_well_quoted o text ≡ true → marks ≡ field_ends o text → j < length marks
+    → (raw : List ℕ) → raw ≡ field_bytes text marks j → BeginsUnquoted o.quote raw
+    → (g : CsvField) → (let f : CsvField = record { quoted = false; bytes = raw } in g ≡ (if is_last then last_field o f else f))
+    → Some g ≡ marked_field o is_last text marks j
+plain_shown o is_last text marks j fit quoted is within raw same unquoted g shown =
+    ap Some (shown ∙ ap (λ (bytes : List _). let f : CsvField = record { quoted = false; bytes = bytes } in let g : CsvField = if is_last then last_field o f else f in g) same)
+    ∙ sym (plain_marked o is_last text marks j fit quoted is within (subst (BeginsUnquoted o.quote) same unquoted))
+
 -- a field that nothing follows
 pub whole_alone : (o : Dialect) (is_last : Bool) (f : CsvField) (rest : List ℕ) → length rest ≡ 0 → whole_field o is_last (Some (f, rest)) ≡ Some (if is_last then last_field o f else f)
 whole_alone o true f [] none = refl

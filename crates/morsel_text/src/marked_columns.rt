@@ -1,20 +1,45 @@
 //! Columns of a text of rows, each made at once from the fields before its marks.
-ghost use Rattle.std.specs.Prelude.{◌≡◌, ◌==◌, ◌+◌, ◌*◌, ◌<◌, true, length, IfOk, IsOkUnless};
+ghost use Rattle.std.specs.Prelude.{◌≡◌, ◌==◌, ◌+◌, ◌*◌, ◌<◌, true, length, IfOk, IsOkUnless, IsUtf8};
 ghost use Rattle.morsel_meaning.specs.declared.value.ColType.TheVariants as types;
 ghost use Rattle.morsel_grammar.specs.Dialect.{IsDialect};
 ghost use Rattle.morsel_grammar.specs.Cells.{cell_of};
 ghost use Rattle.morsel_marks.specs.Marks.{is_well_quoted, field_ends};
+ghost use Rattle.morsel_text.specs.RawFields.{shown};
 ghost use Rattle.morsel_text.specs.MarkedColumns.{field_before, column_fields, IsTextField, AreTextFields, MakesValues, IsNumberCell};
 
 use crate::cells::{Pushed, push_cell};
 use crate::ints::{IntCell, int_cell};
-use crate::marked_field::{MarkedText, marked_field};
+use crate::marked_field::{
+    MarkedText, begins_quoted, bytes_before, field_between, marked_field, placed,
+};
 use crate::marked_texts::marked_texts;
+use crate::raw_field::RawField;
 use morsel_frame::Column;
+use morsel_grammar::CsvOptions;
 use morsel_meaning::{ColType, Fault};
 use std::alloc::{AllocError, Global};
 
+/// The number that a field says, and whether it says one; none where it does not fit.
+#[inline(always)]
+fn number_said(
+    field: RawField<'_>,
+    options: &CsvOptions,
+    content: &mut Vec<u8>,
+) -> Result<Option<(bool, i64)>, AllocError>
+    requires { IsUtf8 (shown field).bytes }
+    ensures { IfOk result (λ found. IsNumberCell (cell_of options.now types.Int (shown field.entry)) found) }
+{
+    match int_cell(field, options, content)? {
+        IntCell::Number(number) => Ok(Some((true, number))),
+        IntCell::Null => Ok(Some((false, 0))),
+        IntCell::Bad => Ok(None),
+    }
+}
+
 /// The number that the field before mark number `j` says, and whether it says one; none where it does not fit.
+///
+/// Fields in quotes are parted from the others at once, since they are few and an `Option<RawField>` would be laid out
+/// in memory for each field.
 #[inline(always)]
 fn marked_number(
     marked: &MarkedText<'_>,
@@ -30,14 +55,15 @@ fn marked_number(
     ensures { IfOk result (λ found. IsNumberCell (cell_of marked.now.options.now types.Int
         (field_before marked.now.options.now is_last marked.now.text.now marked.now.marks.now j)) found) }
 {
-    let Some(field) = marked_field(marked, j, is_last) else {
-        return Ok(None);
-    };
-    match int_cell(field, marked.options, content)? {
-        IntCell::Number(number) => Ok(Some((true, number))),
-        IntCell::Null => Ok(Some((false, 0))),
-        IntCell::Bad => Ok(None),
+    let raw = bytes_before(marked.text, marked.marks, j);
+    if begins_quoted(raw, marked.options) {
+        let Some(field) = field_between(raw, marked.options, is_last) else {
+            return Ok(None);
+        };
+        return number_said(field, marked.options, content);
     }
+    let field = placed(RawField::Plain(raw), marked.options, is_last);
+    number_said(field, marked.options, content)
 }
 
 /// Makes the column of the numbers of a column's fields; none where a field does not fit.

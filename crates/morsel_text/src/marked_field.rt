@@ -69,7 +69,7 @@ pub fn begins_quoted(raw: &[u8], options: &CsvOptions) -> bool
 
 /// A field of a record as the record has it, which is the last of its record or another.
 #[inline(always)]
-fn placed<'a>(field: RawField<'a>, options: &CsvOptions, is_last: bool) -> RawField<'a>
+pub fn placed<'a>(field: RawField<'a>, options: &CsvOptions, is_last: bool) -> RawField<'a>
     ensures { shown result ≡ (if is_last then last_field options.now (shown field.entry) else shown field.entry) }
 {
     if is_last { last(field, options) } else { field }
@@ -105,7 +105,7 @@ fn whole_field<'a>(
 /// The field that is the whole of the bytes between two marks; none where there is no such field.
 // Not inlined: few fields are in quotes, and without this their code would stand in each loop over a column.
 #[inline(never)]
-fn field_between<'a>(raw: &'a [u8], options: &CsvOptions, is_last: bool) -> Option<RawField<'a>>
+pub fn field_between<'a>(raw: &'a [u8], options: &CsvOptions, is_last: bool) -> Option<RawField<'a>>
     ensures { shown_field result ≡ field_between options.now is_last raw.now }
 {
     let Some((found, rest)) = field(raw, options) else {
