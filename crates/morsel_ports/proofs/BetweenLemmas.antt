@@ -1,5 +1,5 @@
 -- The tasks between pairs of ends.
-use Rattle.std.proofs.Common.{◌≡◌, ◌+◌, ℕ, suc, Bool, All, List, [], ◌∷◌, length, map, Option, Some, refl, sym, ap, subst, ◌∙◌, arith}
+use Rattle.std.proofs.Common.{◌≡◌, ◌+◌, ℕ, suc, Bool, All, List, [], ◌∷◌, ◌++◌, length, map, Option, Some, refl, sym, ap, subst, ◌∙◌, arith}
 use Rattle.std.proofs.lemmas.List.{length-map}
 use Rattle.std.proofs.lemmas.List.Elements.{All-cons, All-head, All-tail}
 use Rattle.atomic_table.specs.Seated.{TableId}
@@ -9,6 +9,10 @@ use Rattle.morsel_merge.proofs.SpreadLemmas.{All-to_map}
 use Rattle.morsel_merge.specs.Ends.{IsNewReceiver, IsNewSender}
 use Rattle.morsel_lane_pipe.specs.Tasks.{Has, HoldsTokensOf}
 use Rattle.morsel_lane_pipe.specs.PipeTasks.{ByWork}
+use Rattle.morsel_lane_pipe.specs.declared.merging.Merging as merging
+use Rattle.morsel_lane_pipe.specs.declared.inserting.Inserting as inserting
+use Rattle.morsel_lane_pipe.specs.declared.distributing.Distributing as distributing
+use Rattle.morsel_lane_pipe.specs.declared.handing_on.HandingOn as handing_on
 use Rattle.morsel_lane_pipe.specs.declared.pipe_task.PipeWork.{PipeWork}
 use Rattle.morsel_lane_pipe.specs.declared.pipe_task.PipeWork.TheVariants.{Merging, Inserting, Distributing, HandingOn}
 use Rattle.morsel_ports.specs.Joining.{MayJoin}
@@ -31,6 +35,12 @@ may_join-new home job taken whole cut home_to job_to room sent holds token_home 
     may_join-all (IsNewReceiver home job taken whole cut before.lane_table for) (IsNewSender home_to job_to room sent before.lane_table for places) (λ x y. (home x ≡ now.lane_table) × (home_to y ≡ now.lane_table) × (job_to y ≡ job x) × (taken x ≡ []) × (sent y ≡ []) × HoldsTokensOf holds token_home (job x) now.group_table)
     (λ x y from to. (from.0 ∙ table, to.0 ∙ table, to.1 ∙ sym from.1, from.2, to.3, subst (λ j. HoldsTokensOf holds token_home j now.group_table) (sym from.1) held)) xs ys long froms tos
 
+-- one task that was put into an empty list, and then the others
+pub gathered : {T W I : Type 0} (work : T → Option W) (wrap : I → W) (none one tasks : List T) (task : T) (first : W) (made : List I)
+    → none ≡ [] → one ≡ none ++ task ∷ [] → work task ≡ Some first → map work tasks ≡ map work one ++ map (λ task. Some (wrap task)) made → map work tasks ≡ Some first ∷ map (λ task. Some (wrap task)) made
+gathered work wrap none one tasks task first made empty pushed is are =
+    are ∙ ap (λ xs. map work xs ++ map (λ task. Some (wrap task)) made) (pushed ∙ ap (λ xs. xs ++ task ∷ []) empty) ∙ ap (λ x. x ∷ map (λ task. Some (wrap task)) made) is
+
 -- one task, and then the others, each in the list by its kind
 module _ {T W I : Type 0} (work : T → Option W) (wrap : I → W) (tasks : List T) (first : W) (made : List I) where
   pub gathered-lanes : (lanes : Option W → Option TaskLanes) (one : Option TaskLanes) (others : List (Option TaskLanes))
@@ -45,13 +55,15 @@ module _ {T W I : Type 0} (work : T → Option W) (wrap : I → W) (tasks : List
       All-from_map can work tasks (subst (All can) (sym are) (All-cons can (Some first) (map (λ task. Some (wrap task)) made) first_can (All-to_map can (λ task. Some (wrap task)) made others_can)))
 
 -- what a task of each kind may do is true of all that are gathered
-module _ {T M I D H : Type 0} (work : T → Option (PipeWork M I D H)) (can_merge : M → Type 0) (can_insert : I → Type 0) (can_distribute : D → Type 0) (can_hand_on : H → Type 0) (tasks : List T) where
-  pub merging-can_poll : (first : M) (made : List I) → map work tasks ≡ Some (Merging first) ∷ map (λ task. Some (Inserting task)) made → can_merge first → All can_insert made
+module _ {T L J B G K S R X Y Z : Type 0} {a : _} {b : _} {c : _} {d : _} {e : _} {f : _} (work : T → Option (PipeWork L J B G K S R X Y Z a b c d e f))
+    (can_merge : merging.Merging L J B G K S R X Y Z a b c d e f → Type 0) (can_insert : inserting.Inserting L J B G K S R X Y → Type 0)
+    (can_distribute : distributing.Distributing L J B G K S R X Y Z a b c d e f → Type 0) (can_hand_on : handing_on.HandingOn L J B G K S R X Y → Type 0) (tasks : List T) where
+  pub merging-can_poll : (first : _) (made : _) → map work tasks ≡ Some (Merging first) ∷ map (λ task. Some (Inserting task)) made → can_merge first → All can_insert made
       → All (λ task. Has (work task) (λ one. ByWork one can_merge can_insert can_distribute can_hand_on)) tasks
   merging-can_poll first made are first_can others_can =
       gathered-can_poll work Inserting tasks (Merging first) made (λ one. Has one (λ w. ByWork w can_merge can_insert can_distribute can_hand_on)) are first_can others_can
 
-  pub spreading-can_poll : (first : D) (made : List H) → map work tasks ≡ Some (Distributing first) ∷ map (λ task. Some (HandingOn task)) made → can_distribute first → All can_hand_on made
+  pub spreading-can_poll : (first : _) (made : _) → map work tasks ≡ Some (Distributing first) ∷ map (λ task. Some (HandingOn task)) made → can_distribute first → All can_hand_on made
       → All (λ task. Has (work task) (λ one. ByWork one can_merge can_insert can_distribute can_hand_on)) tasks
   spreading-can_poll first made are first_can others_can =
       gathered-can_poll work HandingOn tasks (Distributing first) made (λ one. Has one (λ w. ByWork w can_merge can_insert can_distribute can_hand_on)) are first_can others_can

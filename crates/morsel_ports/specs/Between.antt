@@ -21,7 +21,7 @@ pub record TaskLanes : Type 0 where
   pub from : List LaneId
   pub to : List LaneId
 
-abbrev pub kind_of_work : {M I D H : Type 0} → PipeWork M I D H → PipeKind
+abbrev pub kind_of_work : {L J B G K S R X Y Z : Type 0} {a : _} {b : _} {c : _} {d : _} {e : _} {f : _} → PipeWork L J B G K S R X Y Z a b c d e f → PipeKind
 kind_of_work (Merging task) = MergingKind
 kind_of_work (Inserting task) = InsertingKind
 kind_of_work (Distributing task) = DistributingKind
@@ -31,7 +31,8 @@ abbrev pub lanes_of_work : PipeKind → TaskSeen → TaskLanes
 lanes_of_work kind seen = record { kind = kind; work = seen.work; home = seen.home; from = seen.from; to = seen.to }
 
 -- of a task that has not ended
-abbrev pub task_lanes : {M I D H : Type 0} → (PipeWork M I D H → TaskSeen) → Option (PipeWork M I D H) → Option TaskLanes
+abbrev pub task_lanes : {L J B G K S R X Y Z : Type 0} {a : _} {b : _} {c : _} {d : _} {e : _} {f : _}
+    → (PipeWork L J B G K S R X Y Z a b c d e f → TaskSeen) → Option (PipeWork L J B G K S R X Y Z a b c d e f) → Option TaskLanes
 task_lanes seen None = None
 task_lanes seen (Some work) = Some (lanes_of_work (kind_of_work work) (seen work))
 

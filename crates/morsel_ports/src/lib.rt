@@ -11,4 +11,3 @@ mod tasks;
 pub use node::{ComputeNode, Ends, PortKind, PortState};
 pub use pipe::{LANE_ROOM, PhysicalPipe};
 pub use ports::{RecvPort, SendPort};
-pub use tasks::WorkOf;

@@ -12,7 +12,7 @@ use crate::gathering::{gather_merging, gather_spreading};
 use crate::joining::join_each;
 use crate::pipe::{LANE_ROOM, PhysicalPipe};
 use morsel_lane_pipe::{
-    Distributing, HandingOn, Inserting, LoadOf, Merging, PipeTask, PipeWork, Stepping, Stepwise,
+    Distributing, HandingOn, Inserting, LoadOf, Merging, PipeTask, PipeWork, Stepwise,
 };
 use morsel_load::{Load, LoadJob};
 use morsel_meaning::Fault;
@@ -20,14 +20,6 @@ use morsel_merge::{Linearizer, distributor_channel};
 use morsel_prims::{Lanes, Task, Tokens};
 use rand_xoshiro::Xoshiro256PlusPlus;
 use std::alloc::Global;
-
-/// What a task of a pipe does.
-pub type WorkOf<L, J> = PipeWork<
-    Merging<L, J>,
-    Inserting<L, J>,
-    Distributing<L, J>,
-    HandingOn<L, J>,
->;
 
 impl<
     L: Tokens + Lanes<Load<<L as Tokens>::Token, J>>,
@@ -54,8 +46,8 @@ impl<
         requires tokens { HoldsTokensOf J.holds L.token_home job.now (L.Board.id board.old).group_table }
         ensures can_poll { IfOk result (λ tasks. All (⟦<PipeTask<L, J> as Task<L::Board>>⟧.can_poll (L.Board.id board.old)) tasks.items) }
         ensures none { stage_of self ≡ Direct → IsOkAnd result (λ tasks. tasks.items ≡ []) }
-        ensures merge { stage_of self ≡ ToMerge → IfOk result (λ tasks. (inner : List LaneId) × (length inner ≡ pipelines_of self) × (map (λ task. task_lanes ⟦<WorkOf<L, J> as Stepwise<L::Board>>⟧.seen task.task) tasks.items ≡ merging_tasks (L.Board.id board.old).lane_table (map L.Receiver.lane (pipe_receivers self)) inner (map L.Sender.lane (pipe_senders self)))) }
-        ensures spread { stage_of self ≡ ToSpread → IfOk result (λ tasks. (inner : List LaneId) × (length inner ≡ pipelines_of self) × (map (λ task. task_lanes ⟦<WorkOf<L, J> as Stepwise<L::Board>>⟧.seen task.task) tasks.items ≡ spreading_tasks (L.Board.id board.old).lane_table (map L.Receiver.lane (pipe_receivers self)) inner (map L.Sender.lane (pipe_senders self)))) }
+        ensures merge { stage_of self ≡ ToMerge → IfOk result (λ tasks. (inner : List LaneId) × (length inner ≡ pipelines_of self) × (map (λ task. task_lanes ⟦<PipeWork<L, J> as Stepwise<L::Board>>⟧.seen task.task) tasks.items ≡ merging_tasks (L.Board.id board.old).lane_table (map L.Receiver.lane (pipe_receivers self)) inner (map L.Sender.lane (pipe_senders self)))) }
+        ensures spread { stage_of self ≡ ToSpread → IfOk result (λ tasks. (inner : List LaneId) × (length inner ≡ pipelines_of self) × (map (λ task. task_lanes ⟦<PipeWork<L, J> as Stepwise<L::Board>>⟧.seen task.task) tasks.items ≡ spreading_tasks (L.Board.id board.old).lane_table (map L.Receiver.lane (pipe_receivers self)) inner (map L.Sender.lane (pipe_senders self)))) }
         ensures len { is_direct (stage_of self) ≡ false → IfOk result (λ tasks. length tasks.items ≡ pipelines_of self + 1) }
         ensures out_of_memory { IsOkUnless result OutOfMemory }
         ensures same_waiting { SameWaiting (L.Board.waits_at board.old) (L.Board.waits_at board.new) }
@@ -89,7 +81,7 @@ fn merged<L: Tokens + Lanes<Load<<L as Tokens>::Token, J>>, J: LoadJob<<L as Tok
     requires receivers { All (IsNewReceiver L.Receiver.home L.Receiver.job L.Receiver.taken L.Receiver.is_whole L.Receiver.is_cut (L.Board.id board.old).lane_table job.now) receivers.items }
     requires tokens { HoldsTokensOf J.holds L.token_home job.now (L.Board.id board.old).group_table }
     ensures can_poll { IfOk result (λ tasks. All (⟦<PipeTask<L, J> as Task<L::Board>>⟧.can_poll (L.Board.id board.old)) tasks.items) }
-    ensures merge { IfOk result (λ tasks. (inner : List LaneId) × (length inner ≡ length receivers.items) × (map (λ task. task_lanes ⟦<WorkOf<L, J> as Stepwise<L::Board>>⟧.seen task.task) tasks.items ≡ merging_tasks (L.Board.id board.old).lane_table (map L.Receiver.lane receivers.items) inner (L.Sender.lane sender ∷ []))) }
+    ensures merge { IfOk result (λ tasks. (inner : List LaneId) × (length inner ≡ length receivers.items) × (map (λ task. task_lanes ⟦<PipeWork<L, J> as Stepwise<L::Board>>⟧.seen task.task) tasks.items ≡ merging_tasks (L.Board.id board.old).lane_table (map L.Receiver.lane receivers.items) inner (L.Sender.lane sender ∷ []))) }
     ensures out_of_memory { IsOkUnless result OutOfMemory }
     ensures same_waiting { SameWaiting (L.Board.waits_at board.old) (L.Board.waits_at board.new) }
     ensures same_board { L.Board.id board.new ≡ L.Board.id board.old }
@@ -100,7 +92,7 @@ fn merged<L: Tokens + Lanes<Load<<L as Tokens>::Token, J>>, J: LoadJob<<L as Tok
     )?;
     let merging = Merging::new(alloc, linearizer, sender)?;
     let inserting = join_each::<L::Board, Inserting<L, J>>(alloc, board, receivers, inserters)?;
-    gather_to_merge(alloc, merging, inserting)
+    gather_merging(alloc, &mut Some(merging), inserting)
 }
 
 /// The tasks that spread one lane over several.
@@ -119,7 +111,7 @@ fn spread<L: Tokens + Lanes<Load<<L as Tokens>::Token, J>>, J: LoadJob<<L as Tok
     requires receiver { IsNewReceiver L.Receiver.home L.Receiver.job L.Receiver.taken L.Receiver.is_whole L.Receiver.is_cut (L.Board.id board.old).lane_table job.now receiver }
     requires tokens { HoldsTokensOf J.holds L.token_home job.now (L.Board.id board.old).group_table }
     ensures can_poll { IfOk result (λ tasks. All (⟦<PipeTask<L, J> as Task<L::Board>>⟧.can_poll (L.Board.id board.old)) tasks.items) }
-    ensures spread { IfOk result (λ tasks. (inner : List LaneId) × (length inner ≡ length senders.items) × (map (λ task. task_lanes ⟦<WorkOf<L, J> as Stepwise<L::Board>>⟧.seen task.task) tasks.items ≡ spreading_tasks (L.Board.id board.old).lane_table (L.Receiver.lane receiver ∷ []) inner (map L.Sender.lane senders.items))) }
+    ensures spread { IfOk result (λ tasks. (inner : List LaneId) × (length inner ≡ length senders.items) × (map (λ task. task_lanes ⟦<PipeWork<L, J> as Stepwise<L::Board>>⟧.seen task.task) tasks.items ≡ spreading_tasks (L.Board.id board.old).lane_table (L.Receiver.lane receiver ∷ []) inner (map L.Sender.lane senders.items))) }
     ensures out_of_memory { IsOkUnless result OutOfMemory }
     ensures same_waiting { SameWaiting (L.Board.waits_at board.old) (L.Board.waits_at board.new) }
     ensures same_board { L.Board.id board.new ≡ L.Board.id board.old }
@@ -130,40 +122,5 @@ fn spread<L: Tokens + Lanes<Load<<L as Tokens>::Token, J>>, J: LoadJob<<L as Tok
     )?;
     let distributing = Distributing::new(alloc, receiver, distributor)?;
     let handing_on = join_each::<L::Board, HandingOn<L, J>>(alloc, board, lanes, senders)?;
-    gather_to_spread(alloc, distributing, handing_on)
-}
-
-/// The task that merges, and then those that insert, beside the other two kinds. A call that names all four kinds would be too
-/// large for a proof.
-fn gather_to_merge<
-    L: Tokens + Lanes<Load<<L as Tokens>::Token, J>>,
-    J: LoadJob<<L as Tokens>::Token>,
-    M: Drop,
-    I: Drop,
->(
-    alloc: Global,
-    merging: M,
-    inserting: Vec<I>,
-) -> Result<Vec<Stepping<PipeWork<M, I, Distributing<L, J>, HandingOn<L, J>>>>, Fault>
-    ensures tasks { IfOk result (λ tasks. map (λ task. task.task) tasks.items ≡ Some (PipeWork.Merging merging) ∷ map (λ task. Some (PipeWork.Inserting task)) inserting.items) }
-    ensures out_of_memory { IsOkUnless result OutOfMemory }
-{
-    gather_merging(alloc, merging, inserting)
-}
-
-/// The task that distributes, and then those that hand on, beside the other two kinds.
-fn gather_to_spread<
-    L: Tokens + Lanes<Load<<L as Tokens>::Token, J>>,
-    J: LoadJob<<L as Tokens>::Token>,
-    D: Drop,
-    H: Drop,
->(
-    alloc: Global,
-    distributing: D,
-    handing_on: Vec<H>,
-) -> Result<Vec<Stepping<PipeWork<Merging<L, J>, Inserting<L, J>, D, H>>>, Fault>
-    ensures tasks { IfOk result (λ tasks. map (λ task. task.task) tasks.items ≡ Some (PipeWork.Distributing distributing) ∷ map (λ task. Some (PipeWork.HandingOn task)) handing_on.items) }
-    ensures out_of_memory { IsOkUnless result OutOfMemory }
-{
-    gather_spreading(alloc, distributing, handing_on)
+    gather_spreading(alloc, &mut Some(distributing), handing_on)
 }

@@ -1,11 +1,8 @@
-use Rattle.std.proofs.Common.{◌≡◌, ◌∷◌, [], Some, map, arith}
-use Rattle.std.proofs.lemmas.List.{nil_from_length}
-use Rattle.std.specs.Vec.Iter.{into_iter_items}
+use Rattle.std.proofs.Common.{sym}
 use Rattle.morsel_lane_pipe.specs.declared.pipe_task.PipeWork.TheVariants.{HandingOn, Distributing}
-use Rattle.morsel_ports.proofs.JoinLemmas.{gather_end}
+use Rattle.morsel_ports.proofs.BetweenLemmas.{gathered}
 use Rattle.morsel_ports.proofs.gathering.gather_spreading.Goals as goal
 
 pub returns-clause-tasks : goal.returns-clause-tasks
 returns-clause-tasks g c =
-    let none : into_iter_items c.each.task-iterator ≡ [] = nil_from_length (into_iter_items c.each.task-iterator) (omega (arith, c.in-None.ensures.steps.0)) in
-    gather_end (λ task. task.task) (λ task. Some (HandingOn task)) c.each.tasks.items (into_iter_items c.each.task-iterator) (Some (Distributing c.args.distributing) ∷ map (λ task. Some (HandingOn task)) c.args.handing_on.items) none c.each.invariant
+    rw (sym c.in-Some.ensures.value) (gathered (λ task. task.task) HandingOn c.new-tasks.result.items c.push.new.self.items c.add_handing_on.new.tasks.items c.new.result (Distributing c.in-Some.distributing) c.args.handing_on.items c.new-tasks.ensures.items c.in_ok-push.ensures.items c.new.ensures c.in_ok-add_handing_on.ensures.tasks)

@@ -21,7 +21,7 @@ join_each-requires g c = record {
 pub returns-clause-can_poll : goal.returns-clause-can_poll
 returns-clause-can_poll g c =
     let id = g.L.Board.Board.id c.args.board.now in
-    if_ok-on _ _ c.gather_to_merge.result c.gather_to_merge.ensures.tasks
+    if_ok-on _ _ c.gather_merging.result c.gather_merging.ensures.tasks
     (λ tasks are. merging-can_poll (λ task. task.task) _ _ _ _ tasks.items c.in_ok-merging.merging c.in_ok-inserting.inserting.items are (c.in_ok-merging.ensures.can_step id c.requires.sender.0) (c.in_ok-inserting.ensures.can_step id (sym c.in_ok-linearizer.ensures.same_board)))
 
 pub returns-clause-merge : goal.returns-clause-merge
@@ -30,7 +30,7 @@ returns-clause-merge g c =
     let inner : List LaneId = map g.L.Receiver.LaneReceiver.lane c.in_ok-linearizer.linearizer.receivers.items in
     let long : length inner ≡ length c.args.receivers.items = omega (arith, length-map c.in_ok-linearizer.linearizer.receivers.items g.L.Receiver.LaneReceiver.lane, c.in_ok-linearizer.ensures.len.0) in
     let one : TableId → Option TaskLanes = λ home. Some (record { kind = MergingKind; work = Merges; home = home; from = inner; to = g.L.Sender.LaneSender.lane c.args.sender ∷ [] }) in
-    if_ok-on _ _ c.gather_to_merge.result c.gather_to_merge.ensures.tasks
+    if_ok-on _ _ c.gather_merging.result c.gather_merging.ensures.tasks
     (λ tasks are. (
       inner,
       long,

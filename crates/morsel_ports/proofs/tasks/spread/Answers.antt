@@ -22,7 +22,7 @@ pub returns-clause-can_poll : goal.returns-clause-can_poll
 returns-clause-can_poll g c =
     let id = g.L.Board.Board.id c.args.board.now in
     let tokens = subst (λ job. HoldsTokensOf g.J.LoadJob.holds g.L.Tokens.token_home job id.group_table) (sym c.requires.receiver.1) c.requires.tokens in
-    if_ok-on _ _ c.gather_to_spread.result c.gather_to_spread.ensures.tasks
+    if_ok-on _ _ c.gather_spreading.result c.gather_spreading.ensures.tasks
     (λ tasks are. spreading-can_poll (λ task. task.task) _ _ _ _ tasks.items c.in_ok-distributing.distributing c.in_ok-handing_on.handing_on.items are (c.in_ok-distributing.ensures.can_step id c.requires.receiver.0 tokens) (c.in_ok-handing_on.ensures.can_step id (sym c.in_ok-distributor.ensures.same_board)))
 
 pub returns-clause-spread : goal.returns-clause-spread
@@ -31,7 +31,7 @@ returns-clause-spread g c =
     let inner : List LaneId = map g.L.Receiver.LaneReceiver.lane c.in_ok-distributor.lanes.items in
     let long : length inner ≡ length c.args.senders.items = omega (arith, length-map c.in_ok-distributor.lanes.items g.L.Receiver.LaneReceiver.lane, c.in_ok-distributor.ensures.len.1) in
     let one : TableId → List LaneId → Option TaskLanes = λ home lanes. Some (record { kind = DistributingKind; work = Spreads; home = home; from = g.L.Receiver.LaneReceiver.lane c.args.receiver ∷ []; to = lanes }) in
-    if_ok-on _ _ c.gather_to_spread.result c.gather_to_spread.ensures.tasks
+    if_ok-on _ _ c.gather_spreading.result c.gather_spreading.ensures.tasks
     (λ tasks are. (
       inner,
       long,

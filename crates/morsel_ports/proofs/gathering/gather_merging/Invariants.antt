@@ -1,7 +1,0 @@
-use Rattle.std.proofs.Common.{◌≡◌, ◌∷◌, ◌++◌, Some, map}
-use Rattle.std.specs.Vec.Iter.{into_iter_items}
-use Rattle.morsel_lane_pipe.specs.declared.pipe_task.PipeWork.TheVariants.{Inserting, Merging}
-use Rattle.morsel_ports.proofs.gathering.gather_merging.Given as goal
-
-abbrev pub invariant-each : goal.invariant-each
-invariant-each g l = map (λ task. task.task) l.tasks.items ++ map (λ task. Some (Inserting task)) (into_iter_items l.task-iterator) ≡ Some (Merging l.fn.merging) ∷ map (λ task. Some (Inserting task)) l.fn.inserting.items
