@@ -26,8 +26,3 @@ pub record AreEnds {S R K G J : Type 0} (send_home : S → TableId) (send_job : 
   pub exits_at : All (λ end. IsEndAt site (take_home end) (take_job end)) exits
   pub held_at : IfSome held (HoldsTokenAt token_home site)
   pub group_at : IfSome group (λ one. group_home one ≡ site.board.group_table)
-
--- the tasks may be polled
-pub record AreTasks {A B : Type 0} (first_may : A → Type 0) (other_may : B → Type 0) (first : Option A) (others : List (Option B)) : Type 0 where
-  pub first_may_poll : IfSome first first_may
-  pub others_may_poll : All (λ task. IfSome task other_may) others

@@ -4,7 +4,7 @@ ghost use Rattle.morsel_merge.specs.Ends.{IsNewReceiver, IsNewSender};
 ghost use Rattle.morsel_load.specs.Loads.{held_token};
 ghost use Rattle.morsel_lane_pipe.specs.Tasks.{HoldsTokensOf};
 
-use morsel_lane_pipe::{Distributing, LoadOf, Merging, Stepping};
+use morsel_lane_pipe::{Distributing, LoadOf, Merging, PipeTask, PipeWork, Stepping};
 use morsel_load::{Load, LoadJob};
 use morsel_meaning::Fault;
 use morsel_merge::{Inserter, Linearizer, distributor_channel};
@@ -21,20 +21,20 @@ pub fn merging<L, J>(
     room: u32,
     job: &J,
     to: L::Sender,
-) -> Result<(Stepping<Merging<L, J>>, Vec<Inserter<LoadOf<L, J>, L>>), Fault>
+) -> Result<(PipeTask<L, J>, Vec<Inserter<LoadOf<L, J>, L>>), Fault>
 where
     L: Tokens + Lanes<Load<<L as Tokens>::Token, J>>,
     J: LoadJob<<L as Tokens>::Token>,
     requires asked { (1 ≤ room) × (room ≤ 65536) }
     requires of_board { (L.Sender.home to ≡ (L.Board.id board.old).lane_table) × (L.Sender.job to ≡ job.now) }
     requires fresh { L.Sender.sent to ≡ [] }
-    ensures may_poll { IfOk result (λ made. ⟦<Stepping<Merging<L, J>> as Task<L::Board>>⟧.can_poll (L.Board.id board.old) made.0) }
+    ensures may_poll { IfOk result (λ made. ⟦<PipeTask<L, J> as Task<L::Board>>⟧.can_poll (L.Board.id board.old) made.0) }
     ensures inserters { IfOk result (λ made. All (λ inserter. IsNewSender L.Sender.home L.Sender.job L.Sender.room L.Sender.sent (L.Board.id board.old).lane_table job.now (L.room_of room) inserter.sender) made.1.items) }
     ensures same_board { L.Board.id board.new ≡ L.Board.id board.old }
 {
     let (from, inserters) = Linearizer::new(alloc, board, 2, room, job)?;
     let task = Merging::new(alloc, from, to)?;
-    Ok((Stepping::new(task), inserters))
+    Ok((Stepping::new(PipeWork::Merging(task)), inserters))
 }
 
 /// The task before the two lanes of a distributor, and the receiving ends of the lanes. The seed says which lanes are drawn.
@@ -45,7 +45,7 @@ pub fn distributing<L, J>(
     job: &J,
     from: L::Receiver,
     seed: u64,
-) -> Result<(Stepping<Distributing<L, J>>, Vec<L::Receiver>), Fault>
+) -> Result<(PipeTask<L, J>, Vec<L::Receiver>), Fault>
 where
     L: Tokens + Lanes<Load<<L as Tokens>::Token, J>>,
     J: LoadJob<<L as Tokens>::Token>,
@@ -53,14 +53,14 @@ where
     requires of_board { (L.Receiver.home from ≡ (L.Board.id board.old).lane_table) × (L.Receiver.job from ≡ job.now) }
     requires tokens { HoldsTokensOf J.holds L.token_home job.now (L.Board.id board.old).group_table }
     requires fresh { L.Receiver.taken from ≡ [] }
-    ensures may_poll { IfOk result (λ made. ⟦<Stepping<Distributing<L, J>> as Task<L::Board>>⟧.can_poll (L.Board.id board.old) made.0) }
+    ensures may_poll { IfOk result (λ made. ⟦<PipeTask<L, J> as Task<L::Board>>⟧.can_poll (L.Board.id board.old) made.0) }
     ensures receivers { IfOk result (λ made. All (IsNewReceiver L.Receiver.home L.Receiver.job L.Receiver.taken L.Receiver.is_whole L.Receiver.is_cut (L.Board.id board.old).lane_table job.now) made.1.items) }
     ensures same_board { L.Board.id board.new ≡ L.Board.id board.old }
 {
     let rng = Xoshiro256PlusPlus::seed_from_u64(seed);
     let (to, lanes) = distributor_channel(alloc, board, 2, room, job, rng)?;
     let task = Distributing::new(alloc, from, to)?;
-    Ok((Stepping::new(task), lanes))
+    Ok((Stepping::new(PipeWork::Distributing(task)), lanes))
 }
 
 /// Takes a load, whose token is of the board.

@@ -4,7 +4,7 @@ ghost use Rattle.morsel_load.specs.Loads.{LoadSeen};
 ghost use Rattle.morsel_lane_pipe.specs.Tasks.{HoldsTokensOf};
 
 use crate::tests::jobs::{PlainJob, WordJob};
-use crate::tests::pairing::{Joins, Merged, OneLane, Pairing, Spread, TwoLanes};
+use crate::tests::pairing::{JoinedPipe, Pairing, join};
 use crate::tests::pipe::Pipe;
 use crate::tests::piped::Piped;
 use crate::tests::plan::Plan;
@@ -49,104 +49,6 @@ fn holds_of<P: Piped + Drop>(alloc: Global, pipe: P, plan: Plan) -> Result<bool,
     plan.holds(alloc, &mut trial)
 }
 
-/// Whether what is planned holds of a pipe that is made so.
-fn holds_joined<L, J, P>(
-    alloc: Global,
-    board: L::Board,
-    job: &J,
-    room: u32,
-    seed: u64,
-    plan: Plan,
-) -> Result<bool, Fault>
-where
-    L: Tokens + Lanes<Load<<L as Tokens>::Token, J>>,
-    J: LoadJob<<L as Tokens>::Token>,
-    P: Joins<L, J>,
-    requires any { (load : LoadSeen) → J.suits job.now load }
-    requires tokens { HoldsTokensOf J.holds L.token_home job.now (L.Board.id board).group_table }
-    requires asked { (1 ≤ room) × (room ≤ 65536) }
-{
-    let mut pipe: Pipe<L, J, P::First, P::Other> = Pipe::new(alloc, board, job, room)?;
-    P::join(alloc, &mut pipe, job, seed)?;
-    holds_of(alloc, pipe, plan)
-}
-
-/// Whether what is planned holds of one lane.
-fn holds_serial<L, J>(
-    alloc: Global,
-    board: L::Board,
-    job: &J,
-    room: u32,
-    seed: u64,
-    plan: Plan,
-) -> Result<bool, Fault>
-where
-    L: Tokens + Lanes<Load<<L as Tokens>::Token, J>>,
-    J: LoadJob<<L as Tokens>::Token>,
-    requires any { (load : LoadSeen) → J.suits job.now load }
-    requires tokens { HoldsTokensOf J.holds L.token_home job.now (L.Board.id board).group_table }
-    requires asked { (1 ≤ room) × (room ≤ 65536) }
-{
-    holds_joined::<L, J, OneLane>(alloc, board, job, room, seed, plan)
-}
-
-/// Whether what is planned holds of two lanes.
-fn holds_parallel<L, J>(
-    alloc: Global,
-    board: L::Board,
-    job: &J,
-    room: u32,
-    seed: u64,
-    plan: Plan,
-) -> Result<bool, Fault>
-where
-    L: Tokens + Lanes<Load<<L as Tokens>::Token, J>>,
-    J: LoadJob<<L as Tokens>::Token>,
-    requires any { (load : LoadSeen) → J.suits job.now load }
-    requires tokens { HoldsTokensOf J.holds L.token_home job.now (L.Board.id board).group_table }
-    requires asked { (1 ≤ room) × (room ≤ 65536) }
-{
-    holds_joined::<L, J, TwoLanes>(alloc, board, job, room, seed, plan)
-}
-
-/// Whether what is planned holds where two lanes are merged into one.
-fn holds_merged<L, J>(
-    alloc: Global,
-    board: L::Board,
-    job: &J,
-    room: u32,
-    seed: u64,
-    plan: Plan,
-) -> Result<bool, Fault>
-where
-    L: Tokens + Lanes<Load<<L as Tokens>::Token, J>>,
-    J: LoadJob<<L as Tokens>::Token>,
-    requires any { (load : LoadSeen) → J.suits job.now load }
-    requires tokens { HoldsTokensOf J.holds L.token_home job.now (L.Board.id board).group_table }
-    requires asked { (1 ≤ room) × (room ≤ 65536) }
-{
-    holds_joined::<L, J, Merged>(alloc, board, job, room, seed, plan)
-}
-
-/// Whether what is planned holds where one lane is spread over two.
-fn holds_spread<L, J>(
-    alloc: Global,
-    board: L::Board,
-    job: &J,
-    room: u32,
-    seed: u64,
-    plan: Plan,
-) -> Result<bool, Fault>
-where
-    L: Tokens + Lanes<Load<<L as Tokens>::Token, J>>,
-    J: LoadJob<<L as Tokens>::Token>,
-    requires any { (load : LoadSeen) → J.suits job.now load }
-    requires tokens { HoldsTokensOf J.holds L.token_home job.now (L.Board.id board).group_table }
-    requires asked { (1 ≤ room) × (room ≤ 65536) }
-{
-    holds_joined::<L, J, Spread>(alloc, board, job, room, seed, plan)
-}
-
 /// Whether what is planned holds of a pipe on this board, whose lanes ask for this room. The seed says which lanes are drawn.
 fn holds<L, J>(
     alloc: Global,
@@ -163,12 +65,9 @@ where
     requires tokens { HoldsTokensOf J.holds L.token_home job.now (L.Board.id board).group_table }
     requires asked { (1 ≤ room) × (room ≤ 65536) }
 {
-    match plan.pairing() {
-        Pairing::Serial => holds_serial::<L, J>(alloc, board, job, room, seed, plan),
-        Pairing::Parallel => holds_parallel::<L, J>(alloc, board, job, room, seed, plan),
-        Pairing::Merged => holds_merged::<L, J>(alloc, board, job, room, seed, plan),
-        Pairing::Spread => holds_spread::<L, J>(alloc, board, job, room, seed, plan),
-    }
+    let mut pipe: JoinedPipe<L, J> = Pipe::new(alloc, board, job, room)?;
+    join::<L, J>(alloc, &mut pipe, job, plan.pairing(), seed)?;
+    holds_of(alloc, pipe, plan)
 }
 
 /// Whether what is planned holds of a pipe of one thread, whose lanes have this room.

@@ -3,13 +3,11 @@ ghost use Rattle.std.specs.Prelude.{◌≡◌, All};
 ghost use Rattle.morsel_merge.specs.Ends.{IsNewReceiver, IsNewSender};
 
 use crate::tests::pipe::Pipe;
-use morsel_lane_pipe::{
-    Distributing, HandingOn, Inserting, LoadOf, Merging, PipeOut, ReceiptsOf, Stepping,
-};
+use morsel_lane_pipe::{LoadOf, PipeTask};
 use morsel_load::{Load, LoadJob};
 use morsel_meaning::Fault;
 use morsel_merge::Inserter;
-use morsel_prims::{Lanes, Task, Tokens};
+use morsel_prims::{Lanes, Tokens};
 use std::alloc::Global;
 
 /// How many sending ends a pipe has, and how many receiving ones.
@@ -25,108 +23,35 @@ pub enum Pairing {
     Spread,
 }
 
-/// How the lanes and tasks of a pipe are made.
-pub trait Joins<L, J>
+/// A pipe with the tasks of its pairing.
+pub type JoinedPipe<L, J> = Pipe<L, J, PipeTask<L, J>>;
+
+/// Makes the lanes and tasks of this pipe. The seed says which lanes are drawn.
+pub fn join<L, J>(
+    alloc: Global,
+    pipe: &mut JoinedPipe<L, J>,
+    job: &J,
+    pairing: Pairing,
+    seed: u64,
+) -> Result<(), Fault>
 where
     L: Tokens + Lanes<Load<<L as Tokens>::Token, J>>,
     J: LoadJob<<L as Tokens>::Token>,
+    requires same_job { job.now ≡ pipe.old.job }
 {
-    /// The task between all lanes.
-    type First: Task<L::Board, Out = PipeOut<ReceiptsOf<L, J>>> + Drop;
-
-    /// The task of a pipeline.
-    type Other: Task<L::Board, Out = PipeOut<ReceiptsOf<L, J>>> + Drop;
-
-    /// Makes the lanes and tasks of this pipe. The seed says which lanes are drawn.
-    fn join(
-        alloc: Global,
-        pipe: &mut Pipe<L, J, Self::First, Self::Other>,
-        job: &J,
-        seed: u64,
-    ) -> Result<(), Fault>
-        requires same_job { job.now ≡ pipe.old.job };
-}
-
-/// One lane without a task.
-pub struct OneLane;
-
-/// Two lanes without tasks.
-pub struct TwoLanes;
-
-/// Two lanes that are merged into one.
-pub struct Merged;
-
-/// One lane that is spread over two.
-pub struct Spread;
-
-impl<L, J> Joins<L, J> for OneLane
-where
-    L: Tokens + Lanes<Load<<L as Tokens>::Token, J>>,
-    J: LoadJob<<L as Tokens>::Token>,
-{
-    type First = Stepping<Inserting<L, J>>;
-
-    type Other = Stepping<Inserting<L, J>>;
-
-    fn join(alloc: Global, pipe: &mut PassedPipe<L, J>, job: &J, _seed: u64) -> Result<(), Fault> {
-        pipe.pass(alloc, job)
+    match pairing {
+        Pairing::Serial => pipe.pass(alloc, job),
+        Pairing::Parallel => {
+            pipe.pass(alloc, job)?;
+            pipe.pass(alloc, job)
+        }
+        Pairing::Merged => merge_two::<L, J>(alloc, pipe, job),
+        Pairing::Spread => spread_two::<L, J>(alloc, pipe, job, seed),
     }
 }
-
-impl<L, J> Joins<L, J> for TwoLanes
-where
-    L: Tokens + Lanes<Load<<L as Tokens>::Token, J>>,
-    J: LoadJob<<L as Tokens>::Token>,
-{
-    type First = Stepping<Inserting<L, J>>;
-
-    type Other = Stepping<Inserting<L, J>>;
-
-    fn join(alloc: Global, pipe: &mut PassedPipe<L, J>, job: &J, _seed: u64) -> Result<(), Fault> {
-        pipe.pass(alloc, job)?;
-        pipe.pass(alloc, job)
-    }
-}
-
-impl<L, J> Joins<L, J> for Merged
-where
-    L: Tokens + Lanes<Load<<L as Tokens>::Token, J>>,
-    J: LoadJob<<L as Tokens>::Token>,
-{
-    type First = Stepping<Merging<L, J>>;
-
-    type Other = Stepping<Inserting<L, J>>;
-
-    fn join(alloc: Global, pipe: &mut MergedPipe<L, J>, job: &J, _seed: u64) -> Result<(), Fault> {
-        merge_two::<L, J>(alloc, pipe, job)
-    }
-}
-
-impl<L, J> Joins<L, J> for Spread
-where
-    L: Tokens + Lanes<Load<<L as Tokens>::Token, J>>,
-    J: LoadJob<<L as Tokens>::Token>,
-{
-    type First = Stepping<Distributing<L, J>>;
-
-    type Other = Stepping<HandingOn<L, J>>;
-
-    fn join(alloc: Global, pipe: &mut SpreadPipe<L, J>, job: &J, seed: u64) -> Result<(), Fault> {
-        spread_two::<L, J>(alloc, pipe, job, seed)
-    }
-}
-
-/// A pipe of lanes without tasks.
-pub type PassedPipe<L, J> = Pipe<L, J, Stepping<Inserting<L, J>>, Stepping<Inserting<L, J>>>;
-
-/// A pipe of two sending ends and one receiving end.
-pub type MergedPipe<L, J> = Pipe<L, J, Stepping<Merging<L, J>>, Stepping<Inserting<L, J>>>;
-
-/// A pipe of one sending end and two receiving ends.
-pub type SpreadPipe<L, J> = Pipe<L, J, Stepping<Distributing<L, J>>, Stepping<HandingOn<L, J>>>;
 
 /// Makes the lanes and tasks where two sending ends are merged into one receiving end.
-fn merge_two<L, J>(alloc: Global, pipe: &mut MergedPipe<L, J>, job: &J) -> Result<(), Fault>
+fn merge_two<L, J>(alloc: Global, pipe: &mut JoinedPipe<L, J>, job: &J) -> Result<(), Fault>
 where
     L: Tokens + Lanes<Load<<L as Tokens>::Token, J>>,
     J: LoadJob<<L as Tokens>::Token>,
@@ -134,7 +59,7 @@ where
 {
     let to = pipe.leave(alloc, job)?;
     let (task, mut inserters) = pipe.merging(alloc, job, to)?;
-    pipe.set_first(task);
+    pipe.push(task)?;
     insert_next::<L, J>(alloc, pipe, job, &mut inserters)?;
     insert_next::<L, J>(alloc, pipe, job, &mut inserters)
 }
@@ -142,7 +67,7 @@ where
 /// Adds the task before the last of these lanes of a linearizer, if one is left.
 fn insert_next<L, J>(
     alloc: Global,
-    pipe: &mut MergedPipe<L, J>,
+    pipe: &mut JoinedPipe<L, J>,
     job: &J,
     inserters: &mut Vec<Inserter<LoadOf<L, J>, L>>,
 ) -> Result<(), Fault>
@@ -165,7 +90,7 @@ where
 /// Makes the lanes and tasks where one sending end is spread over two receiving ends. The seed says which lanes are drawn.
 fn spread_two<L, J>(
     alloc: Global,
-    pipe: &mut SpreadPipe<L, J>,
+    pipe: &mut JoinedPipe<L, J>,
     job: &J,
     seed: u64,
 ) -> Result<(), Fault>
@@ -176,7 +101,7 @@ where
 {
     let from = pipe.enter(alloc, job)?;
     let (task, mut lanes) = pipe.distributing(alloc, job, from, seed)?;
-    pipe.set_first(task);
+    pipe.push(task)?;
     hand_on_next::<L, J>(alloc, pipe, job, &mut lanes)?;
     hand_on_next::<L, J>(alloc, pipe, job, &mut lanes)
 }
@@ -184,7 +109,7 @@ where
 /// Adds the task behind the last of these lanes of a distributor, if one is left.
 fn hand_on_next<L, J>(
     alloc: Global,
-    pipe: &mut SpreadPipe<L, J>,
+    pipe: &mut JoinedPipe<L, J>,
     job: &J,
     lanes: &mut Vec<L::Receiver>,
 ) -> Result<(), Fault>

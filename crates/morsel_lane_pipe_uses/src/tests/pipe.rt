@@ -1,5 +1,5 @@
 //! A pipe: the board that it works on, its open ends, and the tasks between them, over any lanes.
-ghost use Rattle.std.specs.Prelude.{◌≡◌, ◌≤◌, [], All, IfOk, IfSome, None};
+ghost use Rattle.std.specs.Prelude.{◌≡◌, ◌≤◌, [], All, IfOk, IfSome};
 ghost use Rattle.morsel_merge.specs.Ends.{IsNewReceiver, IsNewSender};
 ghost use Rattle.morsel_load.specs.Loads.{LoadSeen};
 ghost use Rattle.morsel_lane_pipe.specs.Tasks.{HoldsTokensOf};
@@ -9,7 +9,7 @@ use crate::tests::between::{distributing, merging, poll_once, take_from};
 use crate::tests::numbered::{morsel_of, number_of};
 use crate::tests::piped::{Ends, Piped, SendAnswer};
 use morsel_lane_pipe::{
-    Distributing, HandingOn, Inserting, LoadOf, Merging, PipeOut, ReceiptsOf, Stepping,
+    HandingOn, Inserting, LoadOf, PipeOut, PipeTask, PipeWork, ReceiptsOf, Stepping,
 };
 use morsel_load::{Load, LoadJob};
 use morsel_meaning::{Fault, TaskNo};
@@ -23,14 +23,13 @@ use std::snapshot::Snapshot;
 const TASKS: u32 = 8;
 
 /// A pipe: its ends that are open, the load that was taken last, the group of the last token, and its tasks that have not
-/// ended: one between all its lanes, and one for each pipeline.
+/// ended.
 #[derive(Drop)]
-pub struct Pipe<L, J, A, B>
+pub struct Pipe<L, J, T>
 where
     L: Tokens + Lanes<Load<<L as Tokens>::Token, J>>,
     J: LoadJob<<L as Tokens>::Token>,
-    A: Task<L::Board> + Drop,
-    B: Task<L::Board> + Drop,
+    T: Task<L::Board> + Drop,
 {
     job: Snapshot<J>,
     // The room that each lane asks for.
@@ -42,24 +41,21 @@ where
     held: Option<LoadOf<L, J>>,
     // The group of the token that was made last.
     group: Option<L::Group>,
-    // The task of number 0.
-    first: Option<A>,
-    // The tasks of the numbers from 1 on.
-    others: Vec<Option<B>>,
+    // By their numbers.
+    tasks: Vec<Option<T>>,
     ended: Ends,
 }
 
-impl<L, J, A, B> Model for Pipe<L, J, A, B>
+impl<L, J, T> Model for Pipe<L, J, T>
 where
     L: Tokens + Lanes<Load<<L as Tokens>::Token, J>>,
     J: LoadJob<<L as Tokens>::Token>,
-    A: Task<L::Board> + Drop,
-    B: Task<L::Board> + Drop,
+    T: Task<L::Board> + Drop,
 {
-    ghost use Rattle.std.specs.Prelude.{◌≡◌, ◌≤◌};
+    ghost use Rattle.std.specs.Prelude.{◌≡◌, ◌≤◌, All, IfSome};
     ghost use Rattle.morsel_load.specs.Loads.{LoadSeen};
     ghost use Rattle.morsel_lane_pipe.specs.Tasks.{HoldsTokensOf};
-    ghost use Rattle.morsel_lane_pipe_uses.specs.Sites.{AreEnds, AreTasks, SiteSeen};
+    ghost use Rattle.morsel_lane_pipe_uses.specs.Sites.{AreEnds, SiteSeen};
 
     ghost Value = { SiteSeen J };
 
@@ -70,23 +66,17 @@ where
         × HoldsTokensOf J.holds L.token_home pipe.job.value (L.Board.id pipe.cx.board).group_table
         × ((1 ≤ pipe.room) × (pipe.room ≤ 65536))
         × AreEnds L.Sender.home L.Sender.job L.Receiver.home L.Receiver.job L.token_home L.group_home (record { job = pipe.job.value; room = pipe.room; board = L.Board.id pipe.cx.board }) pipe.entries.items pipe.exits.items pipe.held pipe.group
-        × AreTasks (A.can_poll (L.Board.id pipe.cx.board)) (B.can_poll (L.Board.id pipe.cx.board)) pipe.first pipe.others.items };
+        × All (λ task. IfSome task (T.can_poll (L.Board.id pipe.cx.board))) pipe.tasks.items };
 }
 
-impl<L, J, A, B> Pipe<L, J, A, B>
+impl<L, J, T> Pipe<L, J, T>
 where
     L: Tokens + Lanes<Load<<L as Tokens>::Token, J>>,
     J: LoadJob<<L as Tokens>::Token>,
-    A: Task<L::Board> + Drop,
-    B: Task<L::Board> + Drop,
+    T: Task<L::Board> + Drop,
 {
     /// No ends and no tasks, on this board, for this job. Each lane asks for this room.
-    pub fn new(
-        alloc: Global,
-        board: L::Board,
-        job: &J,
-        room: u32,
-    ) -> Result<Pipe<L, J, A, B>, Fault>
+    pub fn new(alloc: Global, board: L::Board, job: &J, room: u32) -> Result<Pipe<L, J, T>, Fault>
         requires any { (load : LoadSeen) → J.suits job.now load }
         requires tokens { HoldsTokensOf J.holds L.token_home job.now (L.Board.id board).group_table }
         requires asked { (1 ≤ room) × (room ≤ 65536) }
@@ -106,8 +96,7 @@ where
             exits: Vec::new(alloc),
             held: None,
             group: None,
-            first: None,
-            others: Vec::new(alloc),
+            tasks: Vec::new(alloc),
             ended: Ends::default(),
         })
     }
@@ -163,11 +152,11 @@ where
         alloc: Global,
         job: &J,
         to: L::Sender,
-    ) -> Result<(Stepping<Merging<L, J>>, Vec<Inserter<LoadOf<L, J>, L>>), Fault>
+    ) -> Result<(PipeTask<L, J>, Vec<Inserter<LoadOf<L, J>, L>>), Fault>
         requires same_job { job.now ≡ self.old.job }
         requires of_site { IsEndAt self.old (L.Sender.home to) (L.Sender.job to) }
         requires fresh { L.Sender.sent to ≡ [] }
-        ensures may_poll { IfOk result (λ made. ⟦<Stepping<Merging<L, J>> as Task<L::Board>>⟧.can_poll (self.old.board) made.0) }
+        ensures may_poll { IfOk result (λ made. ⟦<PipeTask<L, J> as Task<L::Board>>⟧.can_poll (self.old.board) made.0) }
         ensures inserters { IfOk result (λ made. All (λ inserter. IsNewSender L.Sender.home L.Sender.job L.Sender.room L.Sender.sent self.old.board.lane_table job.now (L.room_of self.old.room) inserter.sender) made.1.items) }
         ensures same { self.new ≡ self.old }
     {
@@ -181,11 +170,11 @@ where
         job: &J,
         from: L::Receiver,
         seed: u64,
-    ) -> Result<(Stepping<Distributing<L, J>>, Vec<L::Receiver>), Fault>
+    ) -> Result<(PipeTask<L, J>, Vec<L::Receiver>), Fault>
         requires same_job { job.now ≡ self.old.job }
         requires of_site { IsEndAt self.old (L.Receiver.home from) (L.Receiver.job from) }
         requires fresh { L.Receiver.taken from ≡ [] }
-        ensures may_poll { IfOk result (λ made. ⟦<Stepping<Distributing<L, J>> as Task<L::Board>>⟧.can_poll (self.old.board) made.0) }
+        ensures may_poll { IfOk result (λ made. ⟦<PipeTask<L, J> as Task<L::Board>>⟧.can_poll (self.old.board) made.0) }
         ensures receivers { IfOk result (λ made. All (IsNewReceiver L.Receiver.home L.Receiver.job L.Receiver.taken L.Receiver.is_whole L.Receiver.is_cut self.old.board.lane_table job.now) made.1.items) }
         ensures same { self.new ≡ self.old }
     {
@@ -198,16 +187,16 @@ where
         alloc: Global,
         from: L::Receiver,
         to: Inserter<LoadOf<L, J>, L>,
-    ) -> Result<Stepping<Inserting<L, J>>, Fault>
+    ) -> Result<PipeTask<L, J>, Fault>
         requires from_site { IsEndAt self.now (L.Receiver.home from) (L.Receiver.job from) }
         requires to_site { IsEndAt self.now (L.Sender.home to.sender) (L.Sender.job to.sender) }
         requires fresh { (L.Receiver.taken from ≡ []) × (L.Sender.sent to.sender ≡ []) }
-        ensures may_poll { IfOk result (⟦<Stepping<Inserting<L, J>> as Task<L::Board>>⟧.can_poll (self.now.board)) }
+        ensures may_poll { IfOk result (⟦<PipeTask<L, J> as Task<L::Board>>⟧.can_poll (self.now.board)) }
     {
         // The board's tokens are those that the loads of its lanes may have.
         let _room = self.room;
         let task = Inserting::new(alloc, from, to)?;
-        Ok(Stepping::new(task))
+        Ok(Stepping::new(PipeWork::Inserting(task)))
     }
 
     /// The task behind a lane of a distributor.
@@ -216,35 +205,25 @@ where
         alloc: Global,
         from: L::Receiver,
         to: L::Sender,
-    ) -> Result<Stepping<HandingOn<L, J>>, Fault>
+    ) -> Result<PipeTask<L, J>, Fault>
         requires from_site { IsEndAt self.old (L.Receiver.home from) (L.Receiver.job from) }
         requires to_site { IsEndAt self.old (L.Sender.home to) (L.Sender.job to) }
         requires fresh { (L.Receiver.taken from ≡ []) × (L.Sender.sent to ≡ []) }
-        ensures may_poll { IfOk result (⟦<Stepping<HandingOn<L, J>> as Task<L::Board>>⟧.can_poll (self.old.board)) }
+        ensures may_poll { IfOk result (⟦<PipeTask<L, J> as Task<L::Board>>⟧.can_poll (self.old.board)) }
         ensures same { self.new ≡ self.old }
     {
         let task = HandingOn::new(alloc, &mut self.cx.board, from, to)?;
-        Ok(Stepping::new(task))
+        Ok(Stepping::new(PipeWork::HandingOn(task)))
     }
 
-    /// Sets the task between all lanes, and makes it ready.
-    pub fn set_first(&mut self, task: A)
-        requires may_poll { A.can_poll (self.old.board) task }
+    /// Puts a task last, and makes it ready.
+    pub fn push(&mut self, task: T) -> Result<(), Fault>
+        requires may_poll { T.can_poll (self.old.board) task }
         ensures same { self.new ≡ self.old }
     {
-        self.first = Some(task);
+        let number = self.tasks.len();
+        self.tasks.push(Some(task))?;
         self.ended.open = self.ended.open.saturating_add(1);
-        self.cx.wakes.wake(Some(TaskNo(0)));
-    }
-
-    /// Puts the task of a pipeline last, and makes it ready.
-    pub fn push(&mut self, task: B) -> Result<(), Fault>
-        requires may_poll { B.can_poll (self.old.board) task }
-        ensures same { self.new ≡ self.old }
-    {
-        self.others.push(Some(task))?;
-        self.ended.open = self.ended.open.saturating_add(1);
-        let number = self.others.len();
         if number < TASKS as usize {
             self.cx.wakes.wake(Some(TaskNo(number as u32)));
         }
@@ -295,50 +274,24 @@ where
         }
     }
 
-    /// Polls the task between all lanes, unless it has ended.
-    fn poll_first(&mut self) -> Option<A::Out>
-        ensures same { self.new ≡ self.old }
-    {
-        self.cx.me = TaskNo(0);
-        poll_once(&mut self.cx, &mut self.first)
-    }
-
-    /// Polls the task of a pipeline, unless it has ended.
-    fn poll_other(&mut self, number: TaskNo) -> Option<B::Out>
+    /// Polls the task of this number, unless it has ended.
+    fn poll(&mut self, number: TaskNo) -> Option<T::Out>
         ensures same { self.new ≡ self.old }
     {
         let at = number.0 as usize;
-        if at == 0 || at > self.others.len() {
+        if at >= self.tasks.len() {
             return None;
         }
         self.cx.me = number;
-        poll_once(&mut self.cx, &mut self.others[at - 1])
+        poll_once(&mut self.cx, &mut self.tasks[at])
     }
 }
 
-impl<L, J, A, B> Pipe<L, J, A, B>
+impl<L, J, T> Piped for Pipe<L, J, T>
 where
     L: Tokens + Lanes<Load<<L as Tokens>::Token, J>>,
     J: LoadJob<<L as Tokens>::Token>,
-    A: Task<L::Board, Out = PipeOut<ReceiptsOf<L, J>>> + Drop,
-    B: Task<L::Board, Out = PipeOut<ReceiptsOf<L, J>>> + Drop,
-{
-    /// Polls the task of this number, unless it has ended.
-    fn poll(&mut self, number: TaskNo) -> Option<PipeOut<ReceiptsOf<L, J>>> {
-        if number.0 == 0 {
-            self.poll_first()
-        } else {
-            self.poll_other(number)
-        }
-    }
-}
-
-impl<L, J, A, B> Piped for Pipe<L, J, A, B>
-where
-    L: Tokens + Lanes<Load<<L as Tokens>::Token, J>>,
-    J: LoadJob<<L as Tokens>::Token>,
-    A: Task<L::Board, Out = PipeOut<ReceiptsOf<L, J>>> + Drop,
-    B: Task<L::Board, Out = PipeOut<ReceiptsOf<L, J>>> + Drop,
+    T: Task<L::Board, Out = PipeOut<ReceiptsOf<L, J>>> + Drop,
 {
     fn entries(&self) -> usize {
         self.entries.len()
