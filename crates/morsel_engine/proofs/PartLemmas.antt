@@ -15,7 +15,7 @@ use Rattle.morsel_read.specs.ReadScans.{columns_of_format, dialect_of_format, sc
 use Rattle.morsel_read.specs.ScanReads.{PiecesRead, CountsFromFirst, files_asked, pieces_at_start}
 use Rattle.morsel_grammar.specs.Dialect.{IsDialect}
 use Rattle.morsel_line.specs.ScanRuns.{WritesScan}
-use Rattle.morsel_lane_line.specs.LaneRuns.{WritesOrNot}
+use Rattle.morsel_plan.specs.LineRuns.{WritesOrNot}
 use Rattle.morsel_frame.specs.Refusals.{first_fault}
 use Rattle.morsel_sink.specs.declared.spec.SinkSpec.{SinkSpec}
 use Rattle.morsel_query.specs.RunOptions.{RunOptions}

@@ -8,10 +8,11 @@ ghost use Rattle.morsel_query.specs.Meanings.{csv_scan};
 ghost use Rattle.morsel_engine.specs.Stages.{ScansFiles, bytes_bound, AreOpenIn, IsPlannedScan};
 
 use morsel_frame::Schema;
-use morsel_lane_line::write_scan;
 use morsel_local::Steps;
 use morsel_meaning::Fault;
 use morsel_outside::{FileNo, Gate, Io};
+use morsel_phase::{LinePlan, LineRooms};
+use morsel_plan::{ScanRun, write_scan};
 use morsel_query::{Options, ahead};
 use morsel_read::ScanReader;
 use morsel_scan::{CsvSourceNode, ScanFormat, ScanSpec};
@@ -51,7 +52,7 @@ pub fn scan_files<H: Io, G: Gate, Y: Ledger>(
         node,
         columns,
         reader,
-        bytes_ahead(options),
+        scan_run(options),
         gate,
         steps,
     )
@@ -69,6 +70,27 @@ fn node_of(alloc: Global, spec: ScanSpec) -> Result<CsvSourceNode, Fault>
     } = spec;
     let ScanFormat::Csv { schema, options } = format;
     CsvSourceNode::new(alloc, schema, options, file_options, filter)
+}
+
+/// How a scan is run on one thread: each node has one unit.
+fn scan_run(options: &Options) -> ScanRun
+    ensures pipelines { result.line.pipelines ≡ 1 }
+    ensures spread_room { (1 ≤ result.line.rooms.spread) × (result.line.rooms.spread ≤ 65536) }
+    ensures merge_room { (1 ≤ result.line.rooms.merge) × (result.line.rooms.merge ≤ 65536) }
+    ensures bound { result.bound ≡ bytes_bound options.now }
+    ensures some { 0 < result.bound }
+{
+    ScanRun {
+        line: LinePlan {
+            pipelines: 1,
+            rooms: LineRooms {
+                spread: options.distributor_buffer(),
+                merge: options.linearizer_buffer(),
+            },
+        },
+        random_state: options.random_state(),
+        bound: bytes_ahead(options),
+    }
 }
 
 /// How many bytes of rows, the longest record not counted, reading may run ahead of writing.

@@ -1,2 +1,1 @@
-pub mod FailLemmas
 pub mod PartLemmas

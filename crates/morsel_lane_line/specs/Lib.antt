@@ -1,5 +1,2 @@
--- Tasks of two kinds as one, the lanes of a scan, and what their line keeps.
-pub mod Kinds
+-- What the line of a scan keeps.
 pub mod LaneLines
-pub mod ScanLanes
-pub mod LaneRuns

@@ -1,22 +1,23 @@
 //! A line of lanes and tasks, from the pieces of a scan to the text of its rows.
-ghost use Rattle.std.specs.Prelude.{◌≡◌, [], IfOk};
-ghost use Rattle.morsel_local.specs.Sweeps.{spawned_bodies};
+ghost use Rattle.std.specs.Prelude.{◌≡◌, Err};
+ghost use Rattle.morsel_meaning.specs.declared.fault.Fault.{Fault};
 ghost use Rattle.morsel_load.specs.Loads.{load_kind, load_seen};
 ghost use Rattle.morsel_load.specs.declared.load.LoadKind.TheVariants.{Pieces, Parts};
+ghost use Rattle.morsel_stage.specs.Unjoined.{unjoined};
 ghost use Rattle.morsel_scan_units.specs.LaneJobs.{IsUnitFault};
-ghost use Rattle.morsel_lane_line.specs.LaneLines.{FailOnlyBy, IsPartSeen};
+ghost use Rattle.morsel_lane_line.specs.LaneLines.{IsPartSeen};
 
-use crate::collect::collect;
 use morsel_drive::{Line, Taken};
-use morsel_lane_pipe::PipeOut;
 use morsel_line::ScanJob;
 use morsel_load::Load;
 use morsel_local::{Local, Steps};
 use morsel_meaning::Fault;
 use morsel_outside::{Gate, Io};
 use morsel_pipe::{Encoded, RawPiece};
-use morsel_prims::{Board, LaneReceiver, LaneSender, Lanes, RecvError, SendError, Task, Tokens};
+use morsel_prims::{Board, LaneReceiver, LaneSender, Lanes, RecvError, SendError, Tokens};
 use morsel_scan_units::{AtHome, LaneJob};
+use morsel_stage::{Stage, join_ended};
+use std::alloc::Global;
 use std::marker::Model;
 use std::sync::ledger::Ledger;
 
@@ -31,32 +32,33 @@ pub enum Feed<S> {
 
 /// Tasks on one thread, with the caller's two ends: one for pieces, and one for parts of the text.
 #[derive(Drop)]
-pub struct LaneLine<L, K, H, T, R>
+pub struct LaneLine<L, K, H, S>
 where
     L: Tokens + Lanes<Load<<L as Tokens>::Token, LaneJob<K, H>>>,
     <L as Tokens>::Token: AtHome,
     K: AtHome,
     H: Io,
-    T: Task<<L as Tokens>::Board, Out = PipeOut<R>> + Drop,
-    R: Drop,
+    S: Stage<<L as Tokens>::Board> + Drop,
 {
-    local: Local<T, L::Board>,
-    // How many tasks were spawned.
+    alloc: Global,
+    local: Local<S::Task, L::Board>,
+    // How many tasks there may be.
     spawned: u32,
+    // Whose they are.
+    stage: S,
     feed: Feed<L::Sender>,
     parts: L::Receiver,
 }
 
-impl<L, K, H, T, R> Model for LaneLine<L, K, H, T, R>
+impl<L, K, H, S> Model for LaneLine<L, K, H, S>
 where
     L: Tokens + Lanes<Load<<L as Tokens>::Token, LaneJob<K, H>>>,
     <L as Tokens>::Token: AtHome,
     K: AtHome,
     H: Io,
-    T: Task<<L as Tokens>::Board, Out = PipeOut<R>> + Drop,
-    R: Drop,
+    S: Stage<<L as Tokens>::Board> + Drop,
 {
-    ghost use Rattle.morsel_local.specs.Sweeps.{spawned_bodies};
+    ghost use Rattle.morsel_stage.specs.Unjoined.{unjoined};
     ghost use Rattle.morsel_lane_line.specs.LaneLines.{IsLine, LineSeen};
 
     ghost Value = { LineSeen };
@@ -68,38 +70,79 @@ where
 
     ghost view = { λ line. record { lane = L.Receiver.job line.parts; whole = L.Receiver.is_whole line.parts } };
 
-    ghost invariant = { λ line. IsLine T.gives L.Sender.home L.Sender.job line.local.home (L.Board.id line.local.cx.board) (L.Receiver.home line.parts) line.feed (L.Receiver.job line.parts) (spawned_bodies line.local.tasks) };
+    ghost invariant = { λ line. IsLine L.Sender.home L.Sender.job line.spawned line.local.capacity line.local.home (L.Board.id line.local.cx.board) (L.Receiver.home line.parts) line.feed (L.Receiver.job line.parts) (S.owes line.stage (unjoined line.local.tasks)) (S.fails line.stage) };
 }
 
-impl<L, K, H, T, R> LaneLine<L, K, H, T, R>
+impl<L, K, H, S> LaneLine<L, K, H, S>
 where
     L: Tokens + Lanes<Load<<L as Tokens>::Token, LaneJob<K, H>>>,
     <L as Tokens>::Token: AtHome,
     K: AtHome,
     H: Io,
-    T: Task<<L as Tokens>::Board, Out = PipeOut<R>> + Drop,
-    R: Drop,
+    S: Stage<<L as Tokens>::Board> + Drop,
 {
-    /// The line of these tasks, of which so many were spawned. The caller feeds pieces through `feed`, and takes parts from `parts`.
+    /// The line of these tasks of a stage, of which so many were spawned. The caller feeds pieces through `feed`, and takes parts
+    /// from `parts`.
     pub fn new(
-        local: Local<T, L::Board>,
+        alloc: Global,
+        local: Local<S::Task, L::Board>,
         spawned: u32,
+        stage: S,
         feed: L::Sender,
         parts: L::Receiver,
-    ) -> LaneLine<L, K, H, T, R>
+    ) -> LaneLine<L, K, H, S>
+        requires all { local.capacity ≡ spawned }
         requires board { L.Board.id local.cx.board ≡ local.home }
         requires homes { (L.Sender.home feed ≡ local.home.lane_table) × (L.Receiver.home parts ≡ local.home.lane_table) }
         requires kind { (L.Receiver.job parts).kind ≡ Parts }
         requires first { L.Sender.job feed ≡ record (L.Receiver.job parts) { kind = Pieces } }
-        requires fails { FailOnlyBy T.gives (IsUnitFault (L.Receiver.job parts)) (spawned_bodies local.tasks) }
+        requires owed { S.owes stage (unjoined local.tasks) }
+        requires fails { (fault : Fault) → S.fails stage fault → IsUnitFault (L.Receiver.job parts) fault }
         ensures { result ≡ record { lane = L.Receiver.job parts; whole = L.Receiver.is_whole parts } }
     {
         LaneLine {
+            alloc,
             local,
             spawned,
+            stage,
             feed: Feed::Open(feed),
             parts,
         }
+    }
+}
+
+/// What was made, or why it was not; want of memory is left in its place.
+pub fn made<T: Drop>(slot: &mut Result<T, Fault>) -> Result<T, Fault>
+    ensures taken { result ≡ slot.old }
+    ensures left { slot.new ≡ Err Fault.OutOfMemory }
+{
+    std::mem::replace(slot, Err(Fault::OutOfMemory))
+}
+
+/// Ends what has not ended of a line that was made: the caller's ends are cut, and all tasks are abandoned. The line is lent, and
+/// taken.
+pub fn abandon_line<L, K, H, S>(line: &mut Result<LaneLine<L, K, H, S>, Fault>)
+where
+    L: Tokens + Lanes<Load<<L as Tokens>::Token, LaneJob<K, H>>>,
+    <L as Tokens>::Token: AtHome,
+    K: AtHome,
+    H: Io,
+    S: Stage<<L as Tokens>::Board> + Drop,
+{
+    if let Ok(
+        LaneLine {
+            mut local,
+            feed,
+            parts,
+            ..
+        },
+    ) = made(line)
+    {
+        if let Feed::Open(to) = feed {
+            to.cut(local.cx());
+        }
+        parts.cut(local.cx());
+        local.abandon();
     }
 }
 
@@ -114,14 +157,13 @@ fn part_of<X: Drop, J>(load: Load<X, J>) -> Encoded
     }
 }
 
-impl<L, K, H, T, R> Line for LaneLine<L, K, H, T, R>
+impl<L, K, H, S> Line for LaneLine<L, K, H, S>
 where
     L: Tokens + Lanes<Load<<L as Tokens>::Token, LaneJob<K, H>>>,
     <L as Tokens>::Token: AtHome,
     K: AtHome,
     H: Io,
-    T: Task<<L as Tokens>::Board, Out = PipeOut<R>> + Drop,
-    R: Drop,
+    S: Stage<<L as Tokens>::Board> + Drop,
 {
     ghost use Rattle.std.specs.Prelude.{◌≡◌, true};
     ghost use Rattle.morsel_line.specs.ScanJobs.{IsPieceKind};
@@ -163,7 +205,7 @@ where
         if self.local.sweep(gate, steps) == 0 {
             return Ok(());
         }
-        collect(&mut self.local, self.spawned)
+        join_ended::<L::Board, S>(self.alloc, &mut self.local, self.spawned, &mut self.stage)
     }
 
     fn take(&mut self) -> Taken {

@@ -1,15 +1,6 @@
-//! A scan's tasks on one thread: the line of lanes between the caller's two ends, and the run of a scan through it.
+//! The line of lanes and tasks on one thread, between the caller's two ends.
 #![tactic(auto)]
 
-mod collect;
 mod lane_line;
-mod one_of;
-mod run;
-mod scan_lanes;
-mod tasks;
 
-pub use lane_line::LaneLine;
-pub use one_of::OneOf;
-pub use run::{ScanNodes, write_over, write_scan};
-pub use scan_lanes::RowsMerger;
-pub use tasks::{RowsTask, SinkUnit, SourceUnit};
+pub use lane_line::{LaneLine, abandon_line, made};

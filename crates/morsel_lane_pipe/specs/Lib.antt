@@ -3,4 +3,3 @@ pub mod Tasks
 pub mod Stepped
 pub mod Stretches
 pub mod Settled
-pub mod PipeTasks

@@ -8,13 +8,13 @@ use Rattle.morsel_merge.proofs.AskLemmas.{All-from_map, map_twice}
 use Rattle.morsel_merge.proofs.SpreadLemmas.{All-to_map}
 use Rattle.morsel_merge.specs.Ends.{IsNewReceiver, IsNewSender}
 use Rattle.morsel_lane_pipe.specs.Tasks.{Has, HoldsTokensOf}
-use Rattle.morsel_lane_pipe.specs.PipeTasks.{ByWork}
+use Rattle.morsel_pipe_task.specs.PipeTasks.{ByWork}
 use Rattle.morsel_lane_pipe.specs.declared.merging.Merging as merging
 use Rattle.morsel_lane_pipe.specs.declared.inserting.Inserting as inserting
 use Rattle.morsel_lane_pipe.specs.declared.distributing.Distributing as distributing
 use Rattle.morsel_lane_pipe.specs.declared.handing_on.HandingOn as handing_on
-use Rattle.morsel_lane_pipe.specs.declared.pipe_task.PipeWork.{PipeWork}
-use Rattle.morsel_lane_pipe.specs.declared.pipe_task.PipeWork.TheVariants.{Merging, Inserting, Distributing, HandingOn}
+use Rattle.morsel_pipe_task.specs.declared.pipe_task.PipeWork.{PipeWork}
+use Rattle.morsel_pipe_task.specs.declared.pipe_task.PipeWork.TheVariants.{Merging, Inserting, Distributing, HandingOn}
 use Rattle.morsel_ports.specs.Joining.{MayJoin}
 use Rattle.morsel_ports.specs.Between.{PipeKind, TaskLanes, tasks_by_pairs}
 

@@ -3,8 +3,8 @@ use Rattle.std.specs.Prelude.{List, [], ◌∷◌, Option, None, Some}
 use Rattle.atomic_table.specs.Seated.{TableId}
 use Rattle.morsel_prims.specs.Polled.{LaneId}
 use Rattle.morsel_lane_pipe.specs.Tasks.{PipeRole, HandsOn, Merges, Spreads, TaskSeen}
-use Rattle.morsel_lane_pipe.specs.declared.pipe_task.PipeWork.{PipeWork}
-use Rattle.morsel_lane_pipe.specs.declared.pipe_task.PipeWork.TheVariants.{Merging, Inserting, Distributing, HandingOn}
+use Rattle.morsel_pipe_task.specs.declared.pipe_task.PipeWork.{PipeWork}
+use Rattle.morsel_pipe_task.specs.declared.pipe_task.PipeWork.TheVariants.{Merging, Inserting, Distributing, HandingOn}
 
 -- the four kinds of tasks of a pipe
 pub data PipeKind : Type 0 where

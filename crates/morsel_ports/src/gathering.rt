@@ -2,9 +2,10 @@
 ghost use Rattle.std.specs.Prelude.{◌≡◌, ◌∷◌, ◌++◌, Some, map, IfOk, IfSome, IsSome, IsOkUnless};
 ghost use Rattle.morsel_meaning.specs.declared.fault.Fault.TheVariants.{OutOfMemory};
 
-use morsel_lane_pipe::{Distributing, HandingOn, Inserting, Merging, PipeTask, PipeWork, Stepping};
+use morsel_lane_pipe::{Distributing, HandingOn, Inserting, Merging, Stepping};
 use morsel_load::{Load, LoadJob};
 use morsel_meaning::Fault;
+use morsel_pipe_task::{PipeTask, PipeWork};
 use morsel_prims::{Lanes, Tokens};
 use std::alloc::Global;
 

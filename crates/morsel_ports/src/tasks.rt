@@ -11,12 +11,11 @@ ghost use Rattle.morsel_ports.specs.Between.{merging_tasks, spreading_tasks, tas
 use crate::gathering::{gather_merging, gather_spreading};
 use crate::joining::join_each;
 use crate::pipe::{LANE_ROOM, PhysicalPipe};
-use morsel_lane_pipe::{
-    Distributing, HandingOn, Inserting, LoadOf, Merging, PipeTask, PipeWork, Stepwise,
-};
+use morsel_lane_pipe::{Distributing, HandingOn, Inserting, LoadOf, Merging, Stepwise};
 use morsel_load::{Load, LoadJob};
 use morsel_meaning::Fault;
 use morsel_merge::{Linearizer, distributor_channel};
+use morsel_pipe_task::{PipeTask, PipeWork};
 use morsel_prims::{Lanes, Task, Tokens};
 use rand_xoshiro::Xoshiro256PlusPlus;
 use std::alloc::Global;

@@ -7,9 +7,9 @@ ghost use Rattle.morsel_ports.specs.Pipes.{is_direct, is_half, is_uninit, pipe_r
 ghost use Rattle.morsel_lane_pipe.specs.Tasks.{HoldsTokensOf};
 ghost use Rattle.morsel_ports_uses.specs.Pairings.{half_stage, made_stage, tasks_between};
 
-use morsel_lane_pipe::PipeTask;
 use morsel_load::{Load, LoadJob};
 use morsel_meaning::Fault;
+use morsel_pipe_task::PipeTask;
 use morsel_ports::{LANE_ROOM, PhysicalPipe};
 use morsel_prims::{Lanes, Task, Tokens};
 use rand_xoshiro::Xoshiro256PlusPlus;

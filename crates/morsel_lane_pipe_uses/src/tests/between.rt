@@ -4,10 +4,11 @@ ghost use Rattle.morsel_merge.specs.Ends.{IsNewReceiver, IsNewSender};
 ghost use Rattle.morsel_load.specs.Loads.{held_token};
 ghost use Rattle.morsel_lane_pipe.specs.Tasks.{HoldsTokensOf};
 
-use morsel_lane_pipe::{Distributing, LoadOf, Merging, PipeTask, PipeWork, Stepping};
+use morsel_lane_pipe::{Distributing, LoadOf, Merging, Stepping};
 use morsel_load::{Load, LoadJob};
 use morsel_meaning::Fault;
 use morsel_merge::{Inserter, Linearizer, distributor_channel};
+use morsel_pipe_task::{PipeTask, PipeWork};
 use morsel_prims::{Board, Cx, LaneReceiver, Lanes, Poll, RecvError, Task, Tokens};
 use rand_core::SeedableRng;
 use rand_xoshiro::Xoshiro256PlusPlus;

@@ -3,10 +3,11 @@ ghost use Rattle.std.specs.Prelude.{◌≡◌, All};
 ghost use Rattle.morsel_merge.specs.Ends.{IsNewReceiver, IsNewSender};
 
 use crate::tests::pipe::Pipe;
-use morsel_lane_pipe::{LoadOf, PipeTask};
+use morsel_lane_pipe::LoadOf;
 use morsel_load::{Load, LoadJob};
 use morsel_meaning::Fault;
 use morsel_merge::Inserter;
+use morsel_pipe_task::PipeTask;
 use morsel_prims::{Lanes, Tokens};
 use std::alloc::Global;
 

@@ -8,12 +8,11 @@ ghost use Rattle.morsel_lane_pipe_uses.specs.Sites.{HoldsTokenAt, IsEndAt};
 use crate::tests::between::{distributing, merging, poll_once, take_from};
 use crate::tests::numbered::{morsel_of, number_of};
 use crate::tests::piped::{Ends, Piped, SendAnswer};
-use morsel_lane_pipe::{
-    HandingOn, Inserting, LoadOf, PipeOut, PipeTask, PipeWork, ReceiptsOf, Stepping,
-};
+use morsel_lane_pipe::{HandingOn, Inserting, LoadOf, PipeOut, ReceiptsOf, Stepping};
 use morsel_load::{Load, LoadJob};
 use morsel_meaning::{Fault, TaskNo};
 use morsel_merge::Inserter;
+use morsel_pipe_task::{PipeTask, PipeWork};
 use morsel_prims::{Cx, LaneReceiver, LaneSender, Lanes, Poll, RecvError, Task, Tokens, Wakes};
 use std::alloc::Global;
 use std::marker::Model;

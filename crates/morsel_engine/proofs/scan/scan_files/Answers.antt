@@ -27,6 +27,6 @@ returns-clause-scans g c =
     let start = c.in-Ok.ensures.value ∙ ap (λ (s : CsvScan). pieces_at_start (files_asked s c.args.spec.sources.items c.args.files.items 0 c.chunk_bytes.result)) (read_is c.args.spec)
     ∙ ap (λ (n : ℕ). pieces_at_start (files_asked (csv_scan (file_scan c.args.spec)) c.args.spec.sources.items c.args.files.items 0 n)) c.chunk_bytes.ensures.value in
     scanned (g.H.Io.seen c.args.io.now) (g.H.Io.seen c.write_scan.new.io) (csv_scan (file_scan c.args.spec)) c.in-Ok-node_of.node c.args.spec.sources.items c.args.files.items c.args.options.now c.write_scan.result
-    c.in-Ok.reader c.bytes_ahead.result (subst (λ (s : CsvScan). IsDialect s.options) (read_is c.args.spec) c.in-Ok.ensures.fit)
-    (let some = c.bytes_ahead.ensures.some in let is = c.bytes_ahead.ensures.value in omega (arith, some, is))
-    c.in-Ok-node_of.ensures start c.bytes_ahead.ensures.value c.write_scan.ensures.writes
+    c.in-Ok.reader c.scan_run.result.bound (subst (λ (s : CsvScan). IsDialect s.options) (read_is c.args.spec) c.in-Ok.ensures.fit)
+    (let some = c.scan_run.ensures.some in let is = c.scan_run.ensures.bound in omega (arith, some, is))
+    c.in-Ok-node_of.ensures start c.scan_run.ensures.bound c.write_scan.ensures.writes

@@ -1,6 +1,6 @@
 use Rattle.std.proofs.Common.{◌≡◌, ◌++◌, Some, map}
 use Rattle.std.specs.Vec.Iter.{into_iter_items}
-use Rattle.morsel_lane_pipe.specs.declared.pipe_task.PipeWork.TheVariants.{HandingOn}
+use Rattle.morsel_pipe_task.specs.declared.pipe_task.PipeWork.TheVariants.{HandingOn}
 use Rattle.morsel_ports.proofs.gathering.add_handing_on.Given as goal
 
 abbrev pub invariant-each : goal.invariant-each

@@ -1,5 +1,5 @@
 use Rattle.std.proofs.Common.{sym}
-use Rattle.morsel_lane_pipe.specs.declared.pipe_task.PipeWork.TheVariants.{HandingOn, Distributing}
+use Rattle.morsel_pipe_task.specs.declared.pipe_task.PipeWork.TheVariants.{HandingOn, Distributing}
 use Rattle.morsel_ports.proofs.BetweenLemmas.{gathered}
 use Rattle.morsel_ports.proofs.gathering.gather_spreading.Goals as goal
 

@@ -3,8 +3,8 @@ use Rattle.std.proofs.lemmas.List.{length-map}
 use Rattle.atomic_table.specs.Seated.{TableId}
 use Rattle.morsel_prims.specs.Polled.{LaneId}
 use Rattle.morsel_lane_pipe.specs.Tasks.{Merges}
-use Rattle.morsel_lane_pipe.specs.PipeTasks.{by_work}
-use Rattle.morsel_lane_pipe.specs.declared.pipe_task.PipeWork.TheVariants.{Inserting, Merging}
+use Rattle.morsel_pipe_task.specs.PipeTasks.{by_work}
+use Rattle.morsel_pipe_task.specs.declared.pipe_task.PipeWork.TheVariants.{Inserting, Merging}
 use Rattle.morsel_ports.specs.Between.{InsertingKind, MergingKind, TaskLanes, lanes_of_work, task_lanes, tasks_by_pairs}
 use Rattle.morsel_ports.proofs.BetweenLemmas.{gathered-lanes, may_join-new, merging-can_poll}
 use Rattle.morsel_ports.proofs.JoinLemmas.{if_ok-on}

@@ -1,4 +1,0 @@
-use Rattle.morsel_lane_line.proofs.tasks.rows_task.Goals as goal
-
-pub returns-clause-can_poll : goal.returns-clause-can_poll
-returns-clause-can_poll g c id home = rw c.new-2.ensures (c.in_ok-new.ensures.can_step id home)

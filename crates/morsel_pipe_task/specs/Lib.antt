@@ -1,0 +1,2 @@
+-- The tasks of a pipe, by their kinds.
+pub mod PipeTasks

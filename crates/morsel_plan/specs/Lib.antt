@@ -1,0 +1,2 @@
+-- What the run of a line does.
+pub mod LineRuns

@@ -1,0 +1,3 @@
+pub mod UnjoinedLemmas
+pub mod SpawnLemmas
+pub mod JoinLemmas
