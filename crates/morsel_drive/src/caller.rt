@@ -9,12 +9,13 @@ use crate::line::{Line, LineJob, PieceSource, Taken};
 use crate::written::Written;
 use morsel_local::Steps;
 use morsel_meaning::Fault;
-use morsel_outside::{Gate, Io, IoErr};
+use morsel_outside::{Gate, Io};
 use morsel_pipe::{Encoded, RawPiece};
+use morsel_sink::SinkWriter;
 use std::sync::ledger::Ledger;
 
-/// How many sweeps may be made for each byte that was given, and before the first one.
-const SWEEPS_A_BYTE: u64 = 1024;
+/// How many sweeps in a row may bring a run no further: no byte more was given, and none more has all its rows written.
+const IDLE_SWEEPS: u64 = 512;
 
 /// What the caller holds of the input.
 #[derive(Debug, Drop)]
@@ -27,25 +28,34 @@ pub enum Input {
     Ended,
 }
 
-/// Writes a part where it begins at the place where the text ends.
-fn write_part<H: Io>(io: &mut H, part: &Encoded, written: &mut Written) -> Result<(), Fault>
+/// Writes a part where it begins at the place where the text ends, and ends within the bytes that were given.
+fn write_part<H: Io>(
+    io: &mut H,
+    writer: &mut SinkWriter,
+    part: Encoded,
+    given: u64,
+    written: &mut Written,
+) -> Result<(), Fault>
     requires made { 0 < (H.seen io.old).sinks }
-    ensures { WritesPart (H.seen io.old) part.now written.old result (H.seen io.new) written.new }
+    requires rows { writer.old.rows ≡ written.old.rows }
+    ensures writes { WritesPart (H.seen io.old) part written.old result (H.seen io.new) written.new }
+    ensures rows { OnOk result (writer.new.rows ≡ written.new.rows) }
+    ensures within { (size : ℕ) → given ≤ size → written.old.next ≤ size → written.new.next ≤ size }
 {
-    // The parts come in order, so this test never fails. With it nothing has to be known of what goes on in the line.
-    if part.from != written.next || part.skip != written.rows - written.begun {
+    // The parts come in order, so these tests never fail. With them nothing has to be known of what goes on in the line.
+    if part.from != written.next || part.skip != written.rows - written.begun || part.to > given {
         return Err(Fault::OutOfMemory);
     }
     let Some(rows) = written.rows.checked_add(part.rows) else {
         return Err(Fault::OutOfMemory);
     };
-    match io.write(part.bytes.as_slice()) {
+    let then = after(*written, &part, rows);
+    match writer.put(io, part) {
         Ok(()) => {
-            *written = after(*written, part, rows);
+            *written = then;
             Ok(())
         }
-        Err(IoErr::OutOfMemory) => Err(Fault::OutOfMemory),
-        Err(IoErr::Failed) => Err(Fault::WriteFault),
+        Err(fault) => Err(fault),
     }
 }
 
@@ -69,20 +79,30 @@ fn after(written: Written, part: &Encoded, rows: u64) -> Written
 }
 
 /// Takes parts out and writes them until none is there; answers whether the line has ended.
-fn write_on<H: Io, L: Line>(io: &mut H, line: &mut L, written: &mut Written) -> Result<bool, Fault>
+fn write_on<H: Io, L: Line>(
+    io: &mut H,
+    line: &mut L,
+    writer: &mut SinkWriter,
+    given: u64,
+    written: &mut Written,
+) -> Result<bool, Fault>
     requires made { 0 < (H.seen io.old).sinks }
+    requires rows { writer.old.rows ≡ written.old.rows }
     ensures writes { WritesOn (λ writes. (job : L.Job) → L.serves line.old job → IsSoundAxis (L.Job.axis job)
         → OnOk result (L.serves line.new job) × ((w chunk : ℕ) (before : List Action) → KeepsText (L.Job.axis job) w chunk before written.old
         → KeepsOrStops (L.Job.axis job) w chunk (before ++ writes) result written.new)) (H.seen io.old) result (H.seen io.new) }
     ensures told { (job : L.Job) → L.told line.new job → L.told line.old job }
     ensures whole { IfOk result (λ whole. whole ≡ true → L.is_whole line.new) }
+    ensures rows { OnOk result (writer.new.rows ≡ written.new.rows) }
+    ensures joined { L.is_joined line.old → L.is_joined line.new }
+    ensures within { (size : ℕ) → given ≤ size → written.old.next ≤ size → written.new.next ≤ size }
 {
     'parts: for _ in 0..u64::MAX {
         match line.take() {
             Taken::Empty => return Ok(false),
             Taken::Whole => return Ok(true),
             Taken::Part(part) => {
-                if let Err(fault) = write_part(io, &part, written) {
+                if let Err(fault) = write_part(io, writer, part, given, written) {
                     return Err(fault);
                 }
             }
@@ -133,6 +153,7 @@ fn feed_on<L: Line>(line: &mut L, input: Input) -> Input
     requires fits { HoldsFitting input }
     requires told { (job : L.Job) → L.told line.old job → HoldsPieceOf (L.Job.is_piece job) input }
     ensures told { (job : L.Job) → L.told line.new job → L.told line.old job }
+    ensures joined { L.is_joined line.old → L.is_joined line.new }
     ensures fits { HoldsFitting result }
     ensures ended { HasEnded result → HasEnded input }
     ensures input { (job : L.Job) → L.serves line.old job → (given asked : ℕ) → FitsInput (L.Job.is_piece job) (L.Job.is_end job) given asked input
@@ -151,33 +172,72 @@ fn feed_on<L: Line>(line: &mut L, input: Input) -> Input
     }
 }
 
-/// The answer where the line has ended: the number of rows that were written, where they are those of all the input and no others.
-fn end(given: u64, input: &Input, written: &Written) -> Result<u64, Fault>
-    ensures { EndsWith given input.now written.now result }
+/// Ends the text where the line has ended: the answer is the number of rows that were written, where they are those of all the
+/// input and no others.
+fn end<H: Io>(
+    io: &mut H,
+    writer: SinkWriter,
+    given: u64,
+    input: &Input,
+    written: &Written,
+) -> Result<u64, Fault>
+    requires rows { writer.rows ≡ written.now.rows }
+    ensures answer { EndsWith given input.now written.now result }
+    ensures same { H.seen io.new ≡ H.seen io.old }
 {
     match input {
-        Input::Ended if written.next == given && written.begun == written.rows => Ok(written.rows),
+        Input::Ended if written.next == given && written.begun == written.rows => writer.finish(io),
         _ => Err(Fault::OutOfMemory),
+    }
+}
+
+/// How far a run has come, by the bytes that were given and those of which all rows are written, and how many sweeps ago.
+#[derive(Clone, Copy, Debug)]
+struct Reached {
+    furthest: u64,
+    idle: u64,
+}
+
+/// How far a run has come after a sweep more, which brought it to this place.
+fn after_sweep(place: u64, before: Reached) -> Reached
+    requires going_on { before.idle < 512 }
+    ensures counted { 512 * before.furthest + before.idle + 1 ≤ 512 * result.furthest + result.idle }
+    ensures idle { result.idle ≤ 512 }
+    ensures within { (size : ℕ) → place ≤ size → before.furthest ≤ size → result.furthest ≤ size }
+{
+    if place > before.furthest {
+        return Reached {
+            furthest: place,
+            idle: 0,
+        };
+    }
+    Reached {
+        furthest: before.furthest,
+        idle: before.idle + 1,
     }
 }
 
 /// Reads the input of a line, feeds it, and writes what comes out; answers how many rows were written.
 ///
-/// The sink is made, and what comes before its first row is written. No read is made while `bound` bytes or more were given and
-/// are not written. It makes few sweeps for each byte that it is given, so it always returns.
+/// The sink is made, what comes before its first row is written, and the writer has written no row. No read is made while `bound`
+/// bytes or more were given and are not written. It gives up where many sweeps in a row bring it no further, so it makes few sweeps
+/// for each byte and always returns. After a fault of the line it makes no further sweep.
 pub fn drive<H: Io, L: Line, S: PieceSource<H, <L as Line>::Job>, G: Gate, Y: Ledger>(
     io: &mut H,
     reader: &mut S,
     line: &mut L,
+    mut writer: SinkWriter,
     bound: u64,
     gate: &G,
     steps: &mut Steps<Y>,
 ) -> Result<u64, Fault>
     requires made { 0 < (H.seen io.old).sinks }
+    requires none_written { writer.rows ≡ 0 }
     requires suits { S.suits reader.old (H.seen io.old) }
     requires given { S.given reader.old ≡ 0 }
     requires asked { S.asked reader.old ≡ 0 }
     requires told { (job : L.Job) → L.told line.old job → S.reads reader.old job (H.seen io.old) × L.serves line.old job × IsSoundAxis (L.Job.axis job) }
+    requires joined { L.is_joined line.old }
     ensures sweeps { steps.new ≤ steps.old + 1024 * (S.size reader.old (H.seen io.old).sizes + 1) }
     ensures whole { OnOk result (L.is_whole line.new) }
     ensures drives { Drives (S.did reader.old reader.new (H.seen io.old).sizes) (S.failed reader.new) (L.broke line.new) (S.ended reader.new × S.suits reader.new (H.seen io.new)) (λ actions. (job : L.Job)
@@ -191,9 +251,13 @@ pub fn drive<H: Io, L: Line, S: PieceSource<H, <L as Line>::Job>, G: Gate, Y: Le
         rows: 0,
     };
     let mut input = Input::Reading;
-    'turns: for turn in 0..u64::MAX {
-        // No run comes so far: a piece has a byte at least, and goes through the line in a few sweeps.
-        if turn / SWEEPS_A_BYTE > reader.given() {
+    let mut reached = Reached {
+        furthest: 0,
+        idle: 0,
+    };
+    'turns: for _ in 0..u64::MAX {
+        // No run comes so far: a piece goes through the line in a few sweeps.
+        if reached.idle >= IDLE_SWEEPS {
             return Err(Fault::OutOfMemory);
         }
         input = match read_on(io, reader, &written, bound, input) {
@@ -204,13 +268,15 @@ pub fn drive<H: Io, L: Line, S: PieceSource<H, <L as Line>::Job>, G: Gate, Y: Le
         if let Err(fault) = line.step(gate, steps) {
             return Err(fault);
         }
-        let whole = match write_on(io, line, &mut written) {
+        let given = reader.given();
+        let whole = match write_on(io, line, &mut writer, given, &mut written) {
             Ok(whole) => whole,
             Err(fault) => return Err(fault),
         };
         if whole {
-            return end(reader.given(), &input, &written);
+            return end(io, writer, given, &input, &written);
         }
+        reached = after_sweep(given.saturating_add(written.next), reached);
     }
     // No run makes so many turns.
     Err(Fault::OutOfMemory)

@@ -63,21 +63,29 @@ pub trait Line {
     /// All that came out of it was taken, and no more comes.
     ghost is_whole: { Self → Type 0 };
 
+    /// Nothing that a task of it has ended with is left to be looked at.
+    ghost is_joined: { Self → Type 0 };
+
     /// Feeds a piece, or hands it back where there is no room.
     fn feed(&mut self, piece: RawPiece) -> Result<(), RawPiece>
         requires fits { FitsScan piece }
         requires told { (job : Self.Job) → told self.old job → Self.Job.is_piece job piece }
         ensures serves { (job : Self.Job) → serves self.old job → Self.Job.is_piece job piece → serves self.new job }
         ensures told { (job : Self.Job) → told self.new job → told self.old job }
+        ensures joined { is_joined self.old → is_joined self.new }
         ensures back { IfErr result (λ back. back ≡ piece) };
 
     /// Says that no piece follows.
     fn close(&mut self)
         ensures serves { (job : Self.Job) → serves self.old job → serves self.new job }
-        ensures told { (job : Self.Job) → told self.new job → told self.old job };
+        ensures told { (job : Self.Job) → told self.new job → told self.old job }
+        ensures joined { is_joined self.old → is_joined self.new };
 
-    /// Lets each task that can run do so, between the gate's `enter` and `left`: a sweep.
+    /// Lets each task that can run do so, between the gate's `enter` and `left`: a sweep. Once a task has ended with a fault, or
+    /// with a cut, no sweep follows.
     fn step<G: Gate, Y: Ledger>(&mut self, gate: &G, steps: &mut Steps<Y>) -> Result<(), Fault>
+        requires joined { is_joined self.old }
+        ensures joined { OnOk result (is_joined self.new) }
         ensures counted { steps.new ≡ steps.old + 1 }
         ensures serves { (job : Self.Job) → serves self.old job → OnOk result (serves self.new job) }
         ensures told { (job : Self.Job) → told self.new job → told self.old job }
@@ -88,6 +96,7 @@ pub trait Line {
     fn take(&mut self) -> Taken
         ensures serves { (job : Self.Job) → serves self.old job → serves self.new job }
         ensures told { (job : Self.Job) → told self.new job → told self.old job }
+        ensures joined { is_joined self.old → is_joined self.new }
         ensures suits { (job : Self.Job) → serves self.old job → IfPart result (SuitsPart (Self.Job.axis job)) }
         ensures whole { OnWhole result (is_whole self.new) };
 }

@@ -96,7 +96,7 @@ runs_not_opened old new query options faults.Usage planned h = absurd h
 
 -- making the sink failed
 pub runs_not_made : (old now new : Outside) (query : QueryParts) (options : RunOptions) (numbers : List FileNo) (files : List (List ℕ)) (fault : Fault) → query_fault query ≡ None
-    → HasOpenedAll old (sources_of query) numbers files now → MakesSink now query.sink.name (Err fault) new → Runs old query options (Err fault) new
+    → HasOpenedAll old (sources_of query) numbers files now → MakesSink {A = Unit {0}} now query.sink.name (Err fault) new → Runs old query options (Err fault) new
 runs_not_made old now new query options numbers files faults.OutOfMemory planned opened same =
     subst (Runs old query options (Err faults.OutOfMemory)) (sym same) (runs_short old now query options files planned opened.first)
 runs_not_made old now new query options numbers files faults.WriteFault planned opened does = runs_unmade old now new query options files planned opened.first opened.all does

@@ -45,7 +45,7 @@ OpensSources old names (Err (faults.ReadFault file)) new = (files : List (List �
 OpensSources old names (Err fault) new = ⊥
 
 -- a sink is made, or could not be
-abbrev pub MakesSink : Outside → List ℕ → Result (Unit {0}) Fault → Outside → Type 0
+abbrev pub MakesSink : {A : Type 0} → Outside → List ℕ → Result A Fault → Outside → Type 0
 MakesSink old name (Ok _) new = Does old (Making name ∷ []) new
 MakesSink old name (Err faults.OutOfMemory) new = new ≡ old
 MakesSink old name (Err faults.WriteFault) new = Does old (FailedMaking name ∷ []) new

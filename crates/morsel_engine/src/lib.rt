@@ -5,4 +5,4 @@ mod outside;
 mod run;
 mod scan;
 
-pub use run::run_local;
+pub use run::{run_local, run_pipelines};

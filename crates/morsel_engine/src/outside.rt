@@ -1,10 +1,12 @@
 //! The opening of a query's sources and the making of its sink, with the faults that a run answers.
-ghost use Rattle.std.specs.Prelude.{◌≡◌, ◌≤◌, length, Result};
+ghost use Rattle.std.specs.Prelude.{◌≡◌, ◌≤◌, length, Result, IfOk};
 ghost use Rattle.morsel_engine.specs.Stages.{OpensSources, MakesSink};
 ghost use Rattle.morsel_engine.specs.Opened.{numbers_seen};
 
+use morsel_frame::Schema;
 use morsel_meaning::{Fault, Name};
 use morsel_outside::{FileNo, Io, IoErr};
+use morsel_sink::{SinkSpec, SinkWriter};
 use std::alloc::Global;
 
 /// Opens the sources of a query, in order.
@@ -29,13 +31,19 @@ pub fn open_sources<H: Io>(alloc: Global, io: &mut H, names: &[Name]) -> Result<
     Ok(files)
 }
 
-/// Makes the query's sink.
-pub fn make_sink<H: Io>(io: &mut H, name: &str) -> Result<(), Fault>
-    ensures { MakesSink (H.seen io.old) name.now result (H.seen io.new) }
+/// Makes the query's sink, for rows with these columns; answers its writer.
+pub fn make_sink<H: Io>(io: &mut H, columns: &Schema, sink: &SinkSpec) -> Result<SinkWriter, Fault>
+    ensures made { MakesSink (H.seen io.old) sink.now.name result (H.seen io.new) }
+    ensures writer { IfOk result (λ writer. writer ≡ record { schema = columns.now; name = sink.now.name; format = sink.now.format; rows = 0 }) }
 {
-    match io.make_sink(name) {
-        Ok(()) => Ok(()),
-        Err(IoErr::OutOfMemory) => Err(Fault::OutOfMemory),
-        Err(IoErr::Failed) => Err(Fault::WriteFault),
+    let Ok(columns) = columns.clone() else {
+        return Err(Fault::OutOfMemory);
+    };
+    let Ok(mut writer) = SinkWriter::new(columns, sink) else {
+        return Err(Fault::OutOfMemory);
+    };
+    match writer.begin(io) {
+        Ok(()) => Ok(writer),
+        Err(fault) => Err(fault),
     }
 }

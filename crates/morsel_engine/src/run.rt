@@ -1,5 +1,5 @@
 //! A run of a query on one thread.
-ghost use Rattle.std.specs.Prelude.{◌≡◌, None};
+ghost use Rattle.std.specs.Prelude.{◌≡◌, ◌≤◌, None};
 ghost use Rattle.morsel_query.specs.Queries.{query_parts};
 ghost use Rattle.morsel_query.specs.QueryFlaws.{IsSound};
 ghost use Rattle.morsel_query.specs.Plans.{output_of, planned, query_fault};
@@ -20,11 +20,11 @@ use std::sync::ledger::Ledger;
 
 /// Runs a query: reads its sources, writes its rows into its sink, and answers how many there are.
 ///
-/// It waits for nothing, so it always returns: its sweeps over its tasks, which `steps` counts, have a bound. Its sources are opened in order before the sink is made, and nothing is read
-/// before that. A query whose names do not meet its columns is refused as `check` refuses it, before anything is done. A fault
-/// of a source names it by its number within the query, from 0 on: `Malformed` a record that is none, or has another number of
-/// fields than there are columns; `Unsupported` a compressed file; `ComputeError` a record that is not UTF-8, a field of a used
-/// column that does not fit its type, a row or a number of one past its limit.
+/// It waits for nothing, so it always returns: its sweeps over its tasks, which `steps` counts, have a bound. Its sources are opened
+/// in order before the sink is made, and nothing is read before that. A query whose names do not meet its columns is refused as
+/// `check` refuses it, before anything is done. A fault of a source names it by its number within the query, from 0 on: `Malformed`
+/// a record that is none, or has another number of fields than there are columns; `Unsupported` a compressed file; `ComputeError` a
+/// record that is not UTF-8, a field of a used column that does not fit its type, a row or a number of one past its limit.
 pub fn run_local<H: Io, G: Gate, Y: Ledger>(
     alloc: Global,
     io: &mut H,
@@ -33,6 +33,23 @@ pub fn run_local<H: Io, G: Gate, Y: Ledger>(
     gate: &G,
     steps: &mut Steps<Y>,
 ) -> Result<u64, Fault>
+    ensures runs { Runs (H.seen io.old) query options.now result (H.seen io.new) }
+    ensures sweeps { SweepsWithin (H.seen io.old) query options.now steps.old (H.seen io.new) steps.new }
+{
+    run_pipelines(alloc, io, query, options, 1, gate, steps)
+}
+
+/// Runs a query as `run_local` does, with so many units of each node in place of one. What is promised is the same for any number.
+pub fn run_pipelines<H: Io, G: Gate, Y: Ledger>(
+    alloc: Global,
+    io: &mut H,
+    query: Query,
+    options: &Options,
+    pipelines: u32,
+    gate: &G,
+    steps: &mut Steps<Y>,
+) -> Result<u64, Fault>
+    requires pipelines { (1 ≤ pipelines) × (pipelines ≤ 32768) }
     ensures runs { Runs (H.seen io.old) query options.now result (H.seen io.new) }
     ensures sweeps { SweepsWithin (H.seen io.old) query options.now steps.old (H.seen io.new) steps.new }
 {
@@ -48,6 +65,7 @@ pub fn run_local<H: Io, G: Gate, Y: Ledger>(
         sink,
         plan.left.output,
         options,
+        pipelines,
         gate,
         steps,
     )
@@ -61,11 +79,13 @@ fn run_parts<H: Io, G: Gate, Y: Ledger>(
     sink: SinkSpec,
     columns: Schema,
     options: &Options,
+    pipelines: u32,
     gate: &G,
     steps: &mut Steps<Y>,
 ) -> Result<u64, Fault>
     requires sound { IsSound (query_parts left sink) }
     requires planned { query_fault (query_parts left sink) ≡ None }
+    requires pipelines { (1 ≤ pipelines) × (pipelines ≤ 32768) }
     requires columns { columns ≡ output_of (planned (query_parts left sink)) }
     ensures runs { Runs (H.seen io.old) (query_parts left sink) options.now result (H.seen io.new) }
     ensures sweeps { SweepsWithin (H.seen io.old) (query_parts left sink) options.now steps.old (H.seen io.new) steps.new }
@@ -74,8 +94,11 @@ fn run_parts<H: Io, G: Gate, Y: Ledger>(
         Ok(files) => files,
         Err(fault) => return Err(fault),
     };
-    if let Err(fault) = make_sink(io, sink.name.as_str()) {
-        return Err(fault);
-    }
-    scan_files(alloc, io, left, columns, files, options, gate, steps)
+    let writer = match make_sink(io, &columns, &sink) {
+        Ok(writer) => writer,
+        Err(not_made) => return Err(not_made),
+    };
+    scan_files(
+        alloc, io, left, columns, files, writer, options, pipelines, gate, steps,
+    )
 }

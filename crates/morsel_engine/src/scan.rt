@@ -16,17 +16,21 @@ use morsel_plan::{ScanRun, write_scan};
 use morsel_query::{Options, ahead};
 use morsel_read::ScanReader;
 use morsel_scan::{CsvSourceNode, ScanFormat, ScanSpec};
+use morsel_sink::SinkWriter;
 use std::alloc::Global;
 use std::sync::ledger::Ledger;
 
-/// Writes the rows of a scan's open files, which have these columns, into the last sink, and answers how many there are.
+/// Writes the rows of a scan's open files, which have these columns, into the last sink, and answers how many there are. The
+/// writer has written no row.
 pub fn scan_files<H: Io, G: Gate, Y: Ledger>(
     alloc: Global,
     io: &mut H,
     spec: ScanSpec,
     columns: Schema,
     files: Vec<FileNo>,
+    writer: SinkWriter,
     options: &Options,
+    pipelines: u32,
     gate: &G,
     steps: &mut Steps<Y>,
 ) -> Result<u64, Fault>
@@ -37,6 +41,8 @@ pub fn scan_files<H: Io, G: Gate, Y: Ledger>(
     requires opened { AreOpenIn (H.seen io.old) files.items }
     requires planned { IsPlannedScan (file_scan spec) }
     requires columns { columns ≡ output_fields (scan_asked (file_scan spec)) }
+    requires none_written { writer.rows ≡ 0 }
+    requires pipelines { (1 ≤ pipelines) × (pipelines ≤ 32768) }
     ensures sweeps { steps.new ≤ steps.old + 1024 * (sum_by (λ n. n) (sizes_in (H.seen io.old).sizes files.items) + 1) }
     ensures scans { ScansFiles (H.seen io.old) (csv_scan (file_scan spec)) spec.sources.items files.items options.now result (H.seen io.new) }
 {
@@ -52,7 +58,8 @@ pub fn scan_files<H: Io, G: Gate, Y: Ledger>(
         node,
         columns,
         reader,
-        scan_run(options),
+        writer,
+        scan_run(options, pipelines),
         gate,
         steps,
     )
@@ -72,9 +79,9 @@ fn node_of(alloc: Global, spec: ScanSpec) -> Result<CsvSourceNode, Fault>
     CsvSourceNode::new(alloc, schema, options, file_options, filter)
 }
 
-/// How a scan is run on one thread: each node has one unit.
-fn scan_run(options: &Options) -> ScanRun
-    ensures pipelines { result.line.pipelines ≡ 1 }
+/// How a scan is run with so many units of each node.
+fn scan_run(options: &Options, pipelines: u32) -> ScanRun
+    ensures pipelines { result.line.pipelines ≡ pipelines }
     ensures spread_room { (1 ≤ result.line.rooms.spread) × (result.line.rooms.spread ≤ 65536) }
     ensures merge_room { (1 ≤ result.line.rooms.merge) × (result.line.rooms.merge ≤ 65536) }
     ensures bound { result.bound ≡ bytes_bound options.now }
@@ -82,7 +89,7 @@ fn scan_run(options: &Options) -> ScanRun
 {
     ScanRun {
         line: LinePlan {
-            pipelines: 1,
+            pipelines,
             rooms: LineRooms {
                 spread: options.distributor_buffer(),
                 merge: options.linearizer_buffer(),

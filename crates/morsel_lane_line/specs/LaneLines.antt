@@ -10,22 +10,23 @@ use Rattle.morsel_scan_units.specs.LaneJobs.{LaneFor, IsUnitFault}
 use Rattle.morsel_lane_line.specs.declared.lane_line.Feed.{Feed}
 use Rattle.morsel_lane_line.specs.declared.lane_line.Feed.TheVariants.{Open, Closed}
 
--- what is seen of a line: what the lane of its parts is for, and whether all was taken that came through it
+-- what is seen of a line: what the lane of its parts is for, whether all was taken that came through it, and how many outputs of its tasks were not taken
 pub record LineSeen : Type 0 where
   pub lane : LaneFor
   pub whole : Bool
+  pub left : ℕ
 
 -- so it is of the caller's sending end, while it is open
 abbrev pub IfOpenFeed : {S : Type 0} → Feed S → (S → Type 0) → Type 0
 IfOpenFeed (Open end) P = P end
 IfOpenFeed Closed P = Unit {0}
 
--- the sending end feeds pieces into the lanes of which the receiving end is the last
+-- the sending end is of this table, and for the pieces of which the lane `last` gives parts
 pub record FeedsLine (table home : TableId) (lane last : LaneFor) : Type 0 where
   pub at_home : home ≡ table
   pub is_first : lane ≡ record last { kind = Pieces }
 
--- all tasks are joined, and both ends of the caller and the board are those with which they were made; all outputs that were not taken are owed, and tasks end with no faults but those that units may end with
+-- as many tasks were spawned as there may be; both ends of the caller and the board are those with which they were made; the tasks whose outputs were not taken are owed, and tasks end with no faults but those that units may end with
 pub record IsLine {S : Type 0} (sender_home : S → TableId) (sender_lane : S → LaneFor) (spawned capacity : ℕ) (home board : BoardId) (parts_home : TableId) (feed : Feed S) (last : LaneFor) (is_owed : Type 0) (may_fail : Fault → Type 0) : Type 0 where
   pub all : capacity ≡ spawned
   pub same_board : board ≡ home

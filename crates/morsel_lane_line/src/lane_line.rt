@@ -3,6 +3,7 @@ ghost use Rattle.std.specs.Prelude.{◌≡◌, Err};
 ghost use Rattle.morsel_meaning.specs.declared.fault.Fault.{Fault};
 ghost use Rattle.morsel_load.specs.Loads.{load_kind, load_seen};
 ghost use Rattle.morsel_load.specs.declared.load.LoadKind.TheVariants.{Pieces, Parts};
+ghost use Rattle.morsel_stage.specs.Joined.{outputs_left};
 ghost use Rattle.morsel_stage.specs.Unjoined.{unjoined};
 ghost use Rattle.morsel_scan_units.specs.LaneJobs.{IsUnitFault};
 ghost use Rattle.morsel_lane_line.specs.LaneLines.{IsPartSeen};
@@ -58,6 +59,7 @@ where
     H: Io,
     S: Stage<<L as Tokens>::Board> + Drop,
 {
+    ghost use Rattle.morsel_stage.specs.Joined.{outputs_left};
     ghost use Rattle.morsel_stage.specs.Unjoined.{unjoined};
     ghost use Rattle.morsel_lane_line.specs.LaneLines.{IsLine, LineSeen};
 
@@ -68,7 +70,7 @@ where
 
     ghost coded = { Prim.hlevel (codes, tree.the_row.coded) };
 
-    ghost view = { λ line. record { lane = L.Receiver.job line.parts; whole = L.Receiver.is_whole line.parts } };
+    ghost view = { λ line. record { lane = L.Receiver.job line.parts; whole = L.Receiver.is_whole line.parts; left = outputs_left line.spawned line.local.tasks } };
 
     ghost invariant = { λ line. IsLine L.Sender.home L.Sender.job line.spawned line.local.capacity line.local.home (L.Board.id line.local.cx.board) (L.Receiver.home line.parts) line.feed (L.Receiver.job line.parts) (S.owes line.stage (unjoined line.local.tasks)) (S.fails line.stage) };
 }
@@ -96,9 +98,10 @@ where
         requires homes { (L.Sender.home feed ≡ local.home.lane_table) × (L.Receiver.home parts ≡ local.home.lane_table) }
         requires kind { (L.Receiver.job parts).kind ≡ Parts }
         requires first { L.Sender.job feed ≡ record (L.Receiver.job parts) { kind = Pieces } }
+        requires none_ended { outputs_left spawned local.tasks ≡ 0 }
         requires owed { S.owes stage (unjoined local.tasks) }
         requires fails { (fault : Fault) → S.fails stage fault → IsUnitFault (L.Receiver.job parts) fault }
-        ensures { result ≡ record { lane = L.Receiver.job parts; whole = L.Receiver.is_whole parts } }
+        ensures { result ≡ record { lane = L.Receiver.job parts; whole = L.Receiver.is_whole parts; left = 0 } }
     {
         LaneLine {
             alloc,
@@ -128,6 +131,7 @@ where
     K: AtHome,
     H: Io,
     S: Stage<<L as Tokens>::Board> + Drop,
+    ensures taken { line.new ≡ Err Fault.OutOfMemory }
 {
     if let Ok(
         LaneLine {
@@ -179,6 +183,8 @@ where
 
     ghost is_whole = { λ line. line.whole ≡ true };
 
+    ghost is_joined = { λ line. line.left ≡ 0 };
+
     fn feed(&mut self, piece: RawPiece) -> Result<(), RawPiece> {
         let Feed::Open(to) = &mut self.feed else {
             return Err(piece);
@@ -202,9 +208,7 @@ where
     }
 
     fn step<G: Gate, Y: Ledger>(&mut self, gate: &G, steps: &mut Steps<Y>) -> Result<(), Fault> {
-        if self.local.sweep(gate, steps) == 0 {
-            return Ok(());
-        }
+        self.local.sweep(gate, steps);
         join_ended::<L::Board, S>(self.alloc, &mut self.local, self.spawned, &mut self.stage)
     }
 

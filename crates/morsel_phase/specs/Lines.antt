@@ -1,5 +1,5 @@
 -- The nodes of a line.
-use Rattle.std.specs.Prelude.{◌≡◌, ℕ, [], ◌∷◌, Some}
+use Rattle.std.specs.Prelude.{◌≡◌, ◌+◌, ℕ, [], ◌∷◌, Option, None, Some}
 use Rattle.morsel_ports.specs.Nodes.{NodeSeen}
 use Rattle.morsel_ports.specs.declared.node.PortKind.TheVariants.{Parallel}
 
@@ -9,3 +9,8 @@ pub record IsLineNode (pipelines : ℕ) (seen : NodeSeen) : Type 0 where
   pub takes : seen.recv_kinds ≡ Parallel ∷ []
   pub gives : seen.send_kinds ≡ Parallel ∷ []
   pub none_out : seen.units ≡ 0
+
+-- how many tasks stand between the ends of a pipe that merges or spreads: one for each pipeline, and the one at the end that is alone
+abbrev pub tasks_of : {P : Type 0} → (P → ℕ) → Option P → ℕ
+tasks_of pipelines None = 0
+tasks_of pipelines (Some pipe) = pipelines pipe + 1

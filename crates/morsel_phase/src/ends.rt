@@ -1,8 +1,8 @@
 //! The ends of a line of two nodes, between the caller's two.
-ghost use Rattle.std.specs.Prelude.{◌≡◌, ◌≤◌, true, All, IfOk, IsOkUnless, length};
+ghost use Rattle.std.specs.Prelude.{◌≡◌, ◌≤◌, All, [], ◌∷◌, IfOk, IsOkUnless, length, map};
 ghost use Rattle.morsel_meaning.specs.declared.fault.Fault.TheVariants.{OutOfMemory};
 ghost use Rattle.morsel_merge.specs.Ends.{IsNewReceiver, IsNewSender};
-ghost use Rattle.morsel_ports.specs.Pipes.{is_made, pipe_receivers, pipe_senders, pipelines_of, stage_of};
+ghost use Rattle.morsel_ports.specs.Pipes.{ToMerge, ToSpread, pipe_receivers, pipe_senders, pipelines_of, stage_of};
 
 use morsel_load::{Load, LoadJob};
 use morsel_meaning::Fault;
@@ -35,7 +35,9 @@ pub fn fed_ends<L: Tokens + Lanes<Load<<L as Tokens>::Token, J>>, J: LoadJob<<L 
     ensures feed { IfOk result (λ ends. IsNewSender L.Sender.home L.Sender.job L.Sender.room L.Sender.sent (L.Board.id board.old).lane_table job.now (L.room_of LANE_ROOM) ends.feed) }
     ensures from { IfOk result (λ ends. All (IsNewReceiver L.Receiver.home L.Receiver.job L.Receiver.taken L.Receiver.is_whole L.Receiver.is_cut (L.Board.id board.old).lane_table job.now) ends.from.items) }
     ensures len { IfOk result (λ ends. length ends.from.items ≡ pipelines) }
-    ensures made { IfOk result (λ ends. is_made (stage_of ends.pipe) ≡ true) }
+    ensures feed_lane { IfOk result (λ ends. map L.Receiver.lane (pipe_receivers ends.pipe) ≡ L.Sender.lane ends.feed ∷ []) }
+    ensures from_lanes { IfOk result (λ ends. map L.Sender.lane (pipe_senders ends.pipe) ≡ map L.Receiver.lane ends.from.items) }
+    ensures stage { IfOk result (λ ends. stage_of ends.pipe ≡ ToSpread) }
     ensures pipelines { IfOk result (λ ends. pipelines_of ends.pipe ≡ pipelines) }
     ensures senders { IfOk result (λ ends. All (IsNewSender L.Sender.home L.Sender.job L.Sender.room L.Sender.sent (L.Board.id board.old).lane_table job.now (L.room_of LANE_ROOM)) (pipe_senders ends.pipe)) }
     ensures receivers { IfOk result (λ ends. All (IsNewReceiver L.Receiver.home L.Receiver.job L.Receiver.taken L.Receiver.is_whole L.Receiver.is_cut (L.Board.id board.old).lane_table job.now) (pipe_receivers ends.pipe)) }
@@ -71,7 +73,9 @@ pub fn given_ends<
     ensures take { IfOk result (λ ends. IsNewReceiver L.Receiver.home L.Receiver.job L.Receiver.taken L.Receiver.is_whole L.Receiver.is_cut (L.Board.id board.old).lane_table job.now ends.take) }
     ensures to { IfOk result (λ ends. All (IsNewSender L.Sender.home L.Sender.job L.Sender.room L.Sender.sent (L.Board.id board.old).lane_table job.now (L.room_of LANE_ROOM)) ends.to.items) }
     ensures len { IfOk result (λ ends. length ends.to.items ≡ pipelines) }
-    ensures made { IfOk result (λ ends. is_made (stage_of ends.pipe) ≡ true) }
+    ensures take_lane { IfOk result (λ ends. map L.Sender.lane (pipe_senders ends.pipe) ≡ L.Receiver.lane ends.take ∷ []) }
+    ensures to_lanes { IfOk result (λ ends. map L.Receiver.lane (pipe_receivers ends.pipe) ≡ map L.Sender.lane ends.to.items) }
+    ensures stage { IfOk result (λ ends. stage_of ends.pipe ≡ ToMerge) }
     ensures pipelines { IfOk result (λ ends. pipelines_of ends.pipe ≡ pipelines) }
     ensures senders { IfOk result (λ ends. All (IsNewSender L.Sender.home L.Sender.job L.Sender.room L.Sender.sent (L.Board.id board.old).lane_table job.now (L.room_of LANE_ROOM)) (pipe_senders ends.pipe)) }
     ensures receivers { IfOk result (λ ends. All (IsNewReceiver L.Receiver.home L.Receiver.job L.Receiver.taken L.Receiver.is_whole L.Receiver.is_cut (L.Board.id board.old).lane_table job.now) (pipe_receivers ends.pipe)) }
@@ -106,6 +110,7 @@ pub fn middle_ends<
     requires pipelines { (1 ≤ pipelines) × (pipelines ≤ 32768) }
     ensures to { IfOk result (λ ends. All (IsNewSender L.Sender.home L.Sender.job L.Sender.room L.Sender.sent (L.Board.id board.old).lane_table job.now (L.room_of LANE_ROOM)) ends.to.items) }
     ensures from { IfOk result (λ ends. All (IsNewReceiver L.Receiver.home L.Receiver.job L.Receiver.taken L.Receiver.is_whole L.Receiver.is_cut (L.Board.id board.old).lane_table job.now) ends.from.items) }
+    ensures same_lanes { IfOk result (λ ends. map L.Sender.lane ends.to.items ≡ map L.Receiver.lane ends.from.items) }
     ensures to_len { IfOk result (λ ends. length ends.to.items ≡ pipelines) }
     ensures from_len { IfOk result (λ ends. length ends.from.items ≡ pipelines) }
     ensures out_of_memory { IsOkUnless result OutOfMemory }

@@ -1,7 +1,9 @@
 //! The tasks of the pipes of a line.
-ghost use Rattle.std.specs.Prelude.{◌≡◌, ◌≤◌, true, All, IfOk, IsOkUnless};
+ghost use Rattle.std.specs.Prelude.{◌≡◌, ◌≤◌, All, IfOk, IsOkUnless, length};
 ghost use Rattle.morsel_meaning.specs.declared.fault.Fault.TheVariants.{OutOfMemory};
+ghost use Rattle.morsel_phase.specs.Lines.{tasks_of};
 ghost use Rattle.morsel_phase.specs.Stages.{HasNoFault};
+ghost use Rattle.morsel_ports.specs.Pipes.{pipelines_of};
 
 use crate::start::LineRooms;
 use morsel_lane_pipe::{PipeOut, ReceiptsOf};
@@ -16,7 +18,7 @@ use std::alloc::Global;
 /// What makes the tasks of a pipe on a board, whose lanes are for a job. A proof that names the kind of the tasks is large, so
 /// whoever runs a line takes any kind.
 pub trait MakesPipeTasks<B: Board, J> {
-    ghost use Rattle.std.specs.Prelude.{◌≡◌, All, IfOk, IsOkUnless};
+    ghost use Rattle.std.specs.Prelude.{◌≡◌, ℕ, All, IfOk, IsOkUnless, length};
     ghost use Rattle.morsel_meaning.specs.declared.fault.Fault.TheVariants.{OutOfMemory};
     ghost use Rattle.morsel_prims.specs.Polled.{BoardId};
     ghost use Rattle.morsel_phase.specs.Stages.{HasNoFault};
@@ -30,6 +32,9 @@ pub trait MakesPipeTasks<B: Board, J> {
     /// Its tasks can be made on this board, for this job.
     ghost ready: { Self → J → BoardId → Type 0 };
 
+    /// How many they are.
+    ghost count: { Self → ℕ };
+
     /// The tasks of the pipe, which are made once.
     fn pipe_tasks(
         &mut self,
@@ -38,6 +43,7 @@ pub trait MakesPipeTasks<B: Board, J> {
         job: &J,
     ) -> Result<Vec<Self::Task>, Fault>
         requires ready { ready self.old job.now (B.id board.old) }
+        ensures len { IfOk result (λ tasks. length tasks.items ≡ count self.old) }
         ensures can_poll { IfOk result (λ tasks. All (Self.Task.can_poll (B.id board.old)) tasks.items) }
         ensures no_fault { IfOk result (λ tasks. All (HasNoFault Self.Task.gives) tasks.items) }
         ensures out_of_memory { IsOkUnless result OutOfMemory }
@@ -64,10 +70,11 @@ where
     L: Tokens + Lanes<Load<<L as Tokens>::Token, J>>,
     J: LoadJob<<L as Tokens>::Token>,
 {
-    ghost use Rattle.std.specs.Prelude.{◌≡◌, ◌≤◌, true, All, IfSome, IsSome};
+    ghost use Rattle.std.specs.Prelude.{◌≡◌, ◌≤◌, true, false, All, IfSome, IsSome};
     ghost use Rattle.morsel_merge.specs.Ends.{IsNewReceiver, IsNewSender};
     ghost use Rattle.morsel_lane_pipe.specs.Tasks.{HoldsTokensOf};
-    ghost use Rattle.morsel_ports.specs.Pipes.{is_made, pipe_receivers, pipe_senders, pipelines_of, stage_of};
+    ghost use Rattle.morsel_phase.specs.Lines.{tasks_of};
+    ghost use Rattle.morsel_ports.specs.Pipes.{is_direct, is_made, pipe_receivers, pipe_senders, pipelines_of, stage_of};
     ghost use Rattle.morsel_ports.specs.declared.pipe.TheConstants.{LANE_ROOM};
 
     type Receipts = ReceiptsOf<L, J>;
@@ -78,10 +85,12 @@ where
         × ((1 ≤ order.rooms.spread) × (order.rooms.spread ≤ 65536))
         × ((1 ≤ order.rooms.merge) × (order.rooms.merge ≤ 65536))
         × HoldsTokensOf J.holds L.token_home job board.group_table
-        × IfSome order.pipe (λ pipe. (is_made (stage_of pipe) ≡ true)
+        × IfSome order.pipe (λ pipe. (is_made (stage_of pipe) ≡ true) × (is_direct (stage_of pipe) ≡ false)
         × ((1 ≤ pipelines_of pipe) × (pipelines_of pipe ≤ 32768))
         × All (IsNewSender L.Sender.home L.Sender.job L.Sender.room L.Sender.sent board.lane_table job (L.room_of LANE_ROOM)) (pipe_senders pipe)
         × All (IsNewReceiver L.Receiver.home L.Receiver.job L.Receiver.taken L.Receiver.is_whole L.Receiver.is_cut board.lane_table job) (pipe_receivers pipe)) };
+
+    ghost count = { λ order. tasks_of pipelines_of order.pipe };
 
     fn pipe_tasks(
         &mut self,
@@ -90,6 +99,7 @@ where
         job: &J,
     ) -> Result<Vec<PipeTask<L, J>>, Fault>
         requires ready { ⟦<PipeOrder<L, J> as MakesPipeTasks<L::Board, J>>⟧.ready self.old job.now (L.Board.id board.old) }
+        ensures len { IfOk result (λ tasks. length tasks.items ≡ tasks_of pipelines_of self.old.pipe) }
         ensures can_poll { IfOk result (λ tasks. All (⟦<PipeTask<L, J> as Task<L::Board>>⟧.can_poll (L.Board.id board.old)) tasks.items) }
         ensures no_fault { IfOk result (λ tasks. All (HasNoFault ⟦<PipeTask<L, J> as Task<L::Board>>⟧.gives) tasks.items) }
         ensures out_of_memory { IsOkUnless result OutOfMemory }

@@ -79,6 +79,7 @@ where
     requires from { All (IsNewReceiver L.Receiver.home L.Receiver.job L.Receiver.taken L.Receiver.is_whole L.Receiver.is_cut (L.Board.id board.old).lane_table ends.from_job.now) ends.from.items }
     requires to { All (λ end. (room : ℕ) × IsNewSender L.Sender.home L.Sender.job L.Sender.room L.Sender.sent (L.Board.id board.old).lane_table ends.to_job.now room end) ends.to.items }
     requires tokens { HoldsTokensOf J.holds L.token_home ends.from_job.now (L.Board.id board.old).group_table }
+    ensures len { IfOk result (λ units. length units.items ≡ length ends.entry.from.items) }
     ensures can_poll { IfOk result (λ units. All (N.Unit.can_poll (L.Board.id board.old)) units.items) }
     ensures out { IfOk result (λ units. HasOut (N.seen node.new).units (N.is_unit node.new) N.unit_fails (N.fails node.old (ends.entry.from_job.now ∷ [])) units.items) }
     ensures out_of_memory { IsOkUnless result OutOfMemory }
@@ -110,6 +111,7 @@ where
     requires from { All (IsNewReceiver L.Receiver.home L.Receiver.job L.Receiver.taken L.Receiver.is_whole L.Receiver.is_cut (L.Board.id board.old).lane_table ends.from_job.now) ends.from.items }
     requires to { All (λ end. (room : ℕ) × IsNewSender L.Sender.home L.Sender.job L.Sender.room L.Sender.sent (L.Board.id board.old).lane_table ends.to_job.now room end) ends.to.items }
     requires tokens { HoldsTokensOf J.holds L.token_home ends.from_job.now (L.Board.id board.old).group_table }
+    ensures len { IfOk result (λ opened. length opened.1.items ≡ length ends.entry.from.items) }
     ensures can_poll { IfOk result (λ opened. All (N.Unit.can_poll (L.Board.id board.old)) opened.1.items) }
     ensures out { IfOk result (λ opened. HasOut (N.seen opened.0.node).units (N.is_unit opened.0.node) N.unit_fails (N.fails opened.0.begun.value (opened.0.job.value ∷ [])) opened.1.items) }
     ensures begun { IfOk result (λ opened. (opened.0.begun.value ≡ node) × (opened.0.job.value ≡ ends.entry.from_job.now)) }

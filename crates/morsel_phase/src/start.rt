@@ -1,12 +1,13 @@
 //! A line of two nodes, between the caller's two ends.
-ghost use Rattle.std.specs.Prelude.{◌≡◌, ◌≤◌, ◌⊎◌, ◌++◌, true, All, [], ◌∷◌, IfOk, IsOkUnless};
+ghost use Rattle.std.specs.Prelude.{◌≡◌, ◌≤◌, ◌⊎◌, ◌++◌, All, [], ◌∷◌, IfOk, IsOkUnless, length};
 ghost use Rattle.morsel_meaning.specs.declared.fault.Fault.{Fault};
 ghost use Rattle.morsel_meaning.specs.declared.fault.Fault.TheVariants.{OutOfMemory};
 ghost use Rattle.morsel_merge.specs.Ends.{IsNewReceiver, IsNewSender};
 ghost use Rattle.morsel_lane_pipe.specs.Tasks.{HoldsTokensOf};
-ghost use Rattle.morsel_ports.specs.Pipes.{is_made, pipe_receivers, pipe_senders, pipelines_of, stage_of};
+ghost use Rattle.morsel_ports.specs.Pipes.{ToMerge, ToSpread, pipe_receivers, pipe_senders, pipelines_of, stage_of};
 ghost use Rattle.morsel_phase.specs.Lines.{IsLineNode};
 ghost use Rattle.morsel_phase.specs.Stages.{HasNoFault, HasOut};
+ghost use Rattle.morsel_stage.specs.Joined.{outputs_left};
 ghost use Rattle.morsel_stage.specs.Kinds.{firsts, seconds, thirds};
 ghost use Rattle.morsel_stage.specs.Unjoined.{unjoined};
 
@@ -121,6 +122,8 @@ where
     requires last_fits { Z.fits nodes.last (jobs.between.now ∷ []) (jobs.given.now ∷ []) }
     requires fed_tokens { HoldsTokensOf J.holds L.token_home jobs.fed.now (L.Board.id board.old).group_table }
     requires between_tokens { HoldsTokensOf J.holds L.token_home jobs.between.now (L.Board.id board.old).group_table }
+    ensures first_len { IfOk result (λ line. length line.nodes.firsts.items ≡ pipelines) }
+    ensures last_len { IfOk result (λ line. length line.nodes.lasts.items ≡ pipelines) }
     ensures firsts { IfOk result (λ line. All (A.Unit.can_poll (L.Board.id board.old)) line.nodes.firsts.items) }
     ensures lasts { IfOk result (λ line. All (Z.Unit.can_poll (L.Board.id board.old)) line.nodes.lasts.items) }
     ensures first_out { IfOk result (λ line. HasOut (A.seen line.nodes.first.node).units (A.is_unit line.nodes.first.node) A.unit_fails (A.fails line.nodes.first.begun.value (line.nodes.first.job.value ∷ [])) line.nodes.firsts.items) }
@@ -129,11 +132,11 @@ where
     ensures last_begun { IfOk result (λ line. (line.nodes.last.begun.value ≡ nodes.last) × (line.nodes.last.job.value ≡ jobs.entry.between.now)) }
     ensures feed { IfOk result (λ line. IsNewSender L.Sender.home L.Sender.job L.Sender.room L.Sender.sent (L.Board.id board.old).lane_table jobs.entry.fed.now (L.room_of LANE_ROOM) line.feed) }
     ensures take { IfOk result (λ line. IsNewReceiver L.Receiver.home L.Receiver.job L.Receiver.taken L.Receiver.is_whole L.Receiver.is_cut (L.Board.id board.old).lane_table jobs.entry.given.now line.take) }
-    ensures fed_made { IfOk result (λ line. is_made (stage_of line.fed) ≡ true) }
+    ensures fed_stage { IfOk result (λ line. stage_of line.fed ≡ ToSpread) }
     ensures fed_pipelines { IfOk result (λ line. pipelines_of line.fed ≡ pipelines) }
     ensures fed_senders { IfOk result (λ line. All (IsNewSender L.Sender.home L.Sender.job L.Sender.room L.Sender.sent (L.Board.id board.old).lane_table jobs.entry.fed.now (L.room_of LANE_ROOM)) (pipe_senders line.fed)) }
     ensures fed_receivers { IfOk result (λ line. All (IsNewReceiver L.Receiver.home L.Receiver.job L.Receiver.taken L.Receiver.is_whole L.Receiver.is_cut (L.Board.id board.old).lane_table jobs.entry.fed.now) (pipe_receivers line.fed)) }
-    ensures given_made { IfOk result (λ line. is_made (stage_of line.given) ≡ true) }
+    ensures given_stage { IfOk result (λ line. stage_of line.given ≡ ToMerge) }
     ensures given_pipelines { IfOk result (λ line. pipelines_of line.given ≡ pipelines) }
     ensures given_senders { IfOk result (λ line. All (IsNewSender L.Sender.home L.Sender.job L.Sender.room L.Sender.sent (L.Board.id board.old).lane_table jobs.entry.given.now (L.room_of LANE_ROOM)) (pipe_senders line.given)) }
     ensures given_receivers { IfOk result (λ line. All (IsNewReceiver L.Receiver.home L.Receiver.job L.Receiver.taken L.Receiver.is_whole L.Receiver.is_cut (L.Board.id board.old).lane_table jobs.entry.given.now) (pipe_receivers line.given)) }
@@ -205,6 +208,7 @@ where
     requires last_out { HasOut (Z.seen nodes.last.node).units (Z.is_unit nodes.last.node) Z.unit_fails (Z.fails nodes.last.begun.value (nodes.last.job.value ∷ [])) nodes.lasts.items }
     requires spreading_faults { All (HasNoFault P.gives) spreading.items }
     requires merging_faults { All (HasNoFault P.gives) merging.items }
+    ensures none_ended { IfOk result (λ line. outputs_left line.spawned line.local.tasks ≡ 0) }
     ensures home { IfOk result (λ line. line.local.home ≡ L.Board.id board) }
     ensures capacity { IfOk result (λ line. line.local.capacity ≡ line.spawned) }
     ensures firsts { IfOk result (λ line. firsts (unjoined line.local.tasks) ≡ nodes.firsts.items) }

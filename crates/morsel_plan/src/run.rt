@@ -28,6 +28,7 @@ use morsel_ports::ComputeNode;
 use morsel_prims::{Board, LaneReceiver, LaneSender, Lanes, Task, Tokens};
 use morsel_read::ScanReader;
 use morsel_scan_units::{AtHome, LaneJob};
+use morsel_sink::SinkWriter;
 use morsel_stage::Stage;
 use rand_xoshiro::Xoshiro256PlusPlus;
 use std::alloc::Global;
@@ -39,6 +40,7 @@ use std::sync::ledger::Ledger;
 fn run_line<L, K, H, S, G, Y>(
     io: &mut H,
     reader: ScanReader,
+    writer: SinkWriter,
     line: &mut LaneLine<L, K, H, S>,
     bound: u64,
     gate: &G,
@@ -55,14 +57,16 @@ where
     requires made { 0 < (H.seen io.old).sinks }
     requires suits { SuitsPieces (H.seen io.old) reader }
     requires start { reader ≡ pieces_at_start reader.sources }
+    requires none_written { writer.rows ≡ 0 }
     requires reader { line.old.lane.reader ≡ reader }
     requires outside { line.old.lane.outside ≡ H.seen io.old }
+    requires joined { line.old.left ≡ 0 }
     ensures sweeps { steps.new ≤ steps.old + 1024 * (sum_by (λ n. n) (sizes_in (H.seen io.old).sizes reader.sources.files) + 1) }
     ensures whole { OnOk result (line.new.whole ≡ true) }
     ensures writes { WritesScan line.old.lane.scan reader bound (H.seen io.old) result (H.seen io.new) }
 {
     let mut source = ScanSource::new(reader);
-    drive(io, &mut source, line, bound, gate, steps)
+    drive(io, &mut source, line, writer, bound, gate, steps)
 }
 
 /// What a line is made of, but for the tasks of its pipes: a board, two nodes with their units out, and the caller's two ends.
@@ -112,6 +116,7 @@ where
     ensures spreading_taken { spreading.new ≡ Err Fault.OutOfMemory }
     ensures merging_taken { merging.new ≡ Err Fault.OutOfMemory }
     ensures lane { IfOk result (λ line. line.lane ≡ record lane.now { kind = Parts }) }
+    ensures none_left { IfOk result (λ line. line.left ≡ 0) }
     ensures out_of_memory { IsOkUnless result OutOfMemory }
 {
     let Some(
@@ -143,6 +148,7 @@ fn run_parts<L, K, H, A, Z, P, R, G, Y>(
     alloc: Global,
     io: &mut H,
     reader: ScanReader,
+    writer: SinkWriter,
     lane: &LaneJob<K, H>,
     parts: &mut Option<LineParts<L, LaneJob<K, H>, A, Z>>,
     spreading: &mut Result<Vec<P>, Fault>,
@@ -165,6 +171,7 @@ where
     requires made { 0 < (H.seen io.old).sinks }
     requires suits { SuitsPieces (H.seen io.old) reader }
     requires start { reader ≡ pieces_at_start reader.sources }
+    requires none_written { writer.rows ≡ 0 }
     requires reader { lane.now.reader ≡ reader }
     requires outside { lane.now.outside ≡ H.seen io.old }
     requires some { IsSome parts.old }
@@ -188,7 +195,7 @@ where
     let Ok(made_line) = &mut line else {
         return Err(Fault::OutOfMemory);
     };
-    let answer = run_line(io, reader, made_line, bound, gate, steps);
+    let answer = run_line(io, reader, writer, made_line, bound, gate, steps);
     abandon_line(&mut line);
     answer
 }
@@ -200,6 +207,7 @@ fn run_orders<L, K, H, A, Z, P, G, Y>(
     alloc: Global,
     io: &mut H,
     reader: ScanReader,
+    writer: SinkWriter,
     lane: &LaneJob<K, H>,
     last: &LaneJob<K, H>,
     parts: &mut Option<LineParts<L, LaneJob<K, H>, A, Z>>,
@@ -222,6 +230,7 @@ where
     requires made { 0 < (H.seen io.old).sinks }
     requires suits { SuitsPieces (H.seen io.old) reader }
     requires start { reader ≡ pieces_at_start reader.sources }
+    requires none_written { writer.rows ≡ 0 }
     requires reader { lane.now.reader ≡ reader }
     requires outside { lane.now.outside ≡ H.seen io.old }
     requires some { IsSome parts.old }
@@ -254,6 +263,7 @@ where
         alloc,
         io,
         reader,
+        writer,
         lane,
         &mut Some(LineParts {
             board,
@@ -271,12 +281,14 @@ where
 
 /// Reads a scan's files, and writes what two nodes make of them into the last sink; answers how many rows were written.
 ///
-/// The board and the nodes, which were made ready for the plan's pipelines, are lent, and taken. The reader has read nothing.
-/// `bound` says how many bytes of rows, the longest record not counted, reading may run ahead of writing.
+/// The board and the nodes, which were made ready for the plan's pipelines, are lent, and taken. The reader has read nothing, and
+/// the writer has written no row. `bound` says how many bytes of rows, the longest record not counted, reading may run ahead of
+/// writing.
 pub fn run_nodes<L, K, H, A, Z, G, Y>(
     alloc: Global,
     io: &mut H,
     reader: ScanReader,
+    writer: SinkWriter,
     board: &mut Option<L::Board>,
     jobs: LineJobs<'_, LaneJob<K, H>>,
     nodes: &mut Option<LineNodes<A, Z>>,
@@ -298,6 +310,7 @@ where
     requires made { 0 < (H.seen io.old).sinks }
     requires suits { SuitsPieces (H.seen io.old) reader }
     requires start { reader ≡ pieces_at_start reader.sources }
+    requires none_written { writer.rows ≡ 0 }
     requires reader { jobs.fed.now.reader ≡ reader }
     requires outside { jobs.fed.now.outside ≡ H.seen io.old }
     requires jobs { AreLineJobs jobs.fed.now jobs.between.now jobs.given.now }
@@ -349,6 +362,7 @@ where
         alloc,
         io,
         reader,
+        writer,
         fed_job,
         given_job,
         &mut Some(LineParts {

@@ -23,7 +23,7 @@ use morsel_prims::{Board, Lanes, PlainBoard, PlainGroup, PlainLanes, PlainToken,
 use morsel_read::ScanReader;
 use morsel_scan::CsvSourceNode;
 use morsel_scan_units::{AtHome, LaneJob};
-use morsel_sink::NDJsonSinkNode;
+use morsel_sink::{NDJsonSinkNode, SinkWriter};
 use rand_core::SeedableRng;
 use rand_xoshiro::Xoshiro256PlusPlus;
 use std::alloc::Global;
@@ -54,7 +54,7 @@ pub struct ScanRun {
 /// written.
 ///
 /// The jobs are those of the line's lanes on this board. The board and the other node, which was made ready, are lent, and taken;
-/// the reader has read nothing.
+/// the reader has read nothing, and the writer has written no row.
 // Apart from the other node's kind, so that no proof names the units of both.
 fn run_source<L, K, H, Z, G, Y>(
     alloc: Global,
@@ -64,6 +64,7 @@ fn run_source<L, K, H, Z, G, Y>(
     source: Arc<CsvSourceNode, Global>,
     last: &mut Option<Z>,
     reader: ScanReader,
+    writer: SinkWriter,
     run: ScanRun,
     gate: &G,
     steps: &mut Steps<Y>,
@@ -79,6 +80,7 @@ where
     requires made { 0 < (H.seen io.old).sinks }
     requires suits { SuitsPieces (H.seen io.old) reader }
     requires start { reader ≡ pieces_at_start reader.sources }
+    requires none_written { writer.rows ≡ 0 }
     requires lane { IsLaneOf (arc_value source) reader (H.seen io.old) jobs.fed.now }
     requires jobs { AreLineJobs jobs.fed.now jobs.between.now jobs.given.now }
     requires pipelines { (1 ≤ run.line.pipelines) × (run.line.pipelines ≤ 32768) }
@@ -105,6 +107,7 @@ where
         alloc,
         io,
         reader,
+        writer,
         board,
         jobs,
         &mut Some(LineNodes { first, last }),
@@ -118,7 +121,8 @@ where
 
 /// Reads a scan's files, and writes their rows as NDJSON into the last sink, over any lanes; answers how many rows were written.
 ///
-/// The jobs are those of the line's lanes on this board, which is lent, and taken; the reader has read nothing.
+/// The jobs are those of the line's lanes on this board, which is lent, and taken; the reader has read nothing, and the writer has
+/// written no row.
 pub fn write_over<L, K, H, G, Y>(
     alloc: Global,
     io: &mut H,
@@ -126,6 +130,7 @@ pub fn write_over<L, K, H, G, Y>(
     jobs: LineJobs<'_, LaneJob<K, H>>,
     nodes: ScanNodes,
     reader: ScanReader,
+    writer: SinkWriter,
     run: ScanRun,
     gate: &G,
     steps: &mut Steps<Y>,
@@ -140,6 +145,7 @@ where
     requires made { 0 < (H.seen io.old).sinks }
     requires suits { SuitsPieces (H.seen io.old) reader }
     requires start { reader ≡ pieces_at_start reader.sources }
+    requires none_written { writer.rows ≡ 0 }
     requires lane { IsLaneOf (arc_value nodes.source) reader (H.seen io.old) jobs.fed.now }
     requires jobs { AreLineJobs jobs.fed.now jobs.between.now jobs.given.now }
     requires columns { arc_value nodes.sink ≡ output_fields (arc_value nodes.source).scan }
@@ -164,6 +170,7 @@ where
         nodes.source,
         &mut Some(sink),
         reader,
+        writer,
         run,
         gate,
         steps,
@@ -175,13 +182,15 @@ type PlainLoad<H> = Load<PlainToken, LaneJob<PlainGroup, H>>;
 
 /// Reads a scan's files, and writes their rows as NDJSON into the last sink, on one thread; answers how many rows were written.
 ///
-/// The columns are those of the rows, and the reader, which has read nothing, is one of the scan that the node is for.
+/// The columns are those of the rows, and the reader, which has read nothing, is one of the scan that the node is for. The writer
+/// has written no row.
 pub fn write_scan<H: Io, G: Gate, Y: Ledger>(
     alloc: Global,
     io: &mut H,
     node: CsvSourceNode,
     columns: Schema,
     reader: ScanReader,
+    writer: SinkWriter,
     run: ScanRun,
     gate: &G,
     steps: &mut Steps<Y>,
@@ -189,6 +198,7 @@ pub fn write_scan<H: Io, G: Gate, Y: Ledger>(
     requires made { 0 < (H.seen io.old).sinks }
     requires suits { SuitsPieces (H.seen io.old) reader }
     requires start { reader ≡ pieces_at_start reader.sources }
+    requires none_written { writer.rows ≡ 0 }
     requires columns { columns ≡ output_fields node.scan }
     requires pipelines { (1 ≤ run.line.pipelines) × (run.line.pipelines ≤ 32768) }
     requires spread_room { (1 ≤ run.line.rooms.spread) × (run.line.rooms.spread ≤ 65536) }
@@ -223,6 +233,7 @@ pub fn write_scan<H: Io, G: Gate, Y: Ledger>(
         jobs,
         ScanNodes { source, sink },
         reader,
+        writer,
         run,
         gate,
         steps,

@@ -61,13 +61,6 @@ impl<G: AtHome, H: Io> LaneJob<G, H> {
             group: Snapshot::of(group),
         }
     }
-
-    /// Makes it one for loads of this kind.
-    pub fn set_kind(&mut self, kind: LoadKind)
-        ensures { self.new ≡ record self.old { kind = kind } }
-    {
-        self.kind = kind;
-    }
 }
 
 impl<K: AtHome, G: AtHome, H: Io> LoadJob<K> for LaneJob<G, H> {

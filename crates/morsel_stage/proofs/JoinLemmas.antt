@@ -5,7 +5,7 @@ use Rattle.morsel_local.specs.declared.local_task.LocalTask.{LocalTask}
 use Rattle.morsel_local.specs.declared.local_task.LocalAt.{LocalAt}
 use Rattle.morsel_local.specs.declared.local_task.LocalAt.TheVariants.{Unfinished, Ended, Taken}
 use Rattle.morsel_local.specs.Sweeps.{changed, output_at, output_in, output_taken_at, taken_out}
-use Rattle.morsel_stage.specs.Joined.{AreJoined}
+use Rattle.morsel_stage.specs.Joined.{AreJoined, output_left, outputs_left}
 
 -- so it is of no output
 pub if_none : {O : Type 0} (P : O → Type 0) (out : Option O) → out ≡ None → IfSome out P
@@ -62,3 +62,22 @@ module _ {T O : Type 0} where
       → (n : ℕ) → number + 1 < n → output_at after n ≡ output_at before n
   others_more number before now after is others n less =
       ap (λ (ts : List (LocalTask T O)). output_at ts n) is ∙ taken_other (number + 1) n now (λ e. omega (arith, less, e)) ∙ others n (omega (arith, less))
+
+  left_none : (at : LocalAt T O) → output_in at ≡ None → output_left at ≡ 0
+  left_none (Unfinished queued body) none = refl
+  left_none (Ended out) none = absurd (some_is_none out none)
+    where
+      some_is_none : (out : O) → Some out ≡ None → ⊥
+      some_is_none out e = cc
+  left_none Taken none = refl
+
+  -- where no output of the first so many tasks is left, none is counted
+  pub none_counted : (n : ℕ) (tasks : List (LocalTask T O)) → ((k : ℕ) → k ≤ n → output_at tasks k ≡ None) → outputs_left n tasks ≡ 0
+  none_counted n [] none = refl
+  none_counted zero (task ∷ tasks) none = refl
+  none_counted (suc n) (task ∷ tasks) none =
+      let here = left_none task.at (none 1 (omega arith)) in let later = none_counted n tasks (λ k le. behind k le) in omega (arith, here, later)
+    where
+      behind : (k : ℕ) → k ≤ n → output_at tasks k ≡ None
+      behind zero le = none_at tasks zero (omega arith)
+      behind (suc k) le = none (suc (suc k)) (omega (arith, le))

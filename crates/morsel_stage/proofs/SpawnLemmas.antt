@@ -1,9 +1,10 @@
 -- Tasks of three kinds, spawned one after the other.
-use Rattle.std.proofs.Common.{◌≡◌, List, [], ◌∷◌, ◌++◌, refl, ap, sym, ◌∙◌, append_assoc, append-nil}
+use Rattle.std.proofs.Common.{◌≡◌, ℕ, zero, suc, ◌+◌, List, [], ◌∷◌, ◌++◌, refl, ap, sym, ◌∙◌, append_assoc, append-nil}
 use Rattle.morsel_local.specs.Sweeps.{new_task}
 use Rattle.morsel_local.specs.declared.local_task.LocalTask.{LocalTask}
 use Rattle.morsel_stage.specs.declared.one_of.OneOf.{OneOf}
 use Rattle.morsel_stage.specs.declared.one_of.OneOf.TheVariants.{First, Second, Third}
+use Rattle.morsel_stage.specs.Joined.{output_left, outputs_left}
 use Rattle.morsel_stage.specs.Kinds.{firsts, seconds, thirds}
 use Rattle.morsel_stage.specs.Unjoined.{unjoined}
 use Rattle.morsel_stage.proofs.UnjoinedLemmas.{unjoined_spawned}
@@ -26,6 +27,17 @@ module _ {A M Z : Type 0} where
   thirds_more (First x ∷ xs) ys = thirds_more xs ys
   thirds_more (Second x ∷ xs) ys = thirds_more xs ys
   thirds_more (Third x ∷ xs) ys = ap (λ zs. x ∷ zs) (thirds_more xs ys)
+
+-- a task more has not ended
+module _ {T O : Type 0} where
+  left_more : (n : ℕ) (tasks : List (LocalTask T O)) (task : T) → outputs_left n (tasks ++ new_task task ∷ []) ≡ outputs_left n tasks
+  left_more zero [] task = refl
+  left_more (suc n) [] task = refl
+  left_more zero (other ∷ tasks) task = refl
+  left_more (suc n) (other ∷ tasks) task = ap (λ k. output_left other.at + k) (left_more n tasks task)
+
+  pub left_spawned : (n : ℕ) (tasks tasks' : List (LocalTask T O)) (task : T) → tasks' ≡ tasks ++ new_task task ∷ [] → outputs_left n tasks' ≡ outputs_left n tasks
+  left_spawned n tasks tasks' task are = ap (outputs_left n) are ∙ left_more n tasks task
 
 -- a task more, by its kind
 module _ {A M Z O : Type 0} where

@@ -1,6 +1,7 @@
 //! The tasks of a phase are spawned, kind by kind.
-ghost use Rattle.std.specs.Prelude.{◌≡◌, ◌++◌, All, IfOk, OnOk, IsOkUnless};
+ghost use Rattle.std.specs.Prelude.{◌≡◌, ◌++◌, ℕ, All, IfOk, OnOk, IsOkUnless};
 ghost use Rattle.morsel_meaning.specs.declared.fault.Fault.TheVariants.{OutOfMemory};
+ghost use Rattle.morsel_stage.specs.Joined.{outputs_left};
 ghost use Rattle.morsel_stage.specs.Kinds.{firsts, seconds, thirds};
 ghost use Rattle.morsel_stage.specs.Unjoined.{unjoined};
 
@@ -19,6 +20,7 @@ pub fn spawn_firsts<B: Board + Drop, A: Task<B> + Drop, M: Task<B> + Drop, Z: Ta
     ensures spawned { OnOk result (firsts (unjoined local.new.tasks) ≡ firsts (unjoined local.old.tasks) ++ tasks.items) }
     ensures same_seconds { seconds (unjoined local.new.tasks) ≡ seconds (unjoined local.old.tasks) }
     ensures same_thirds { thirds (unjoined local.new.tasks) ≡ thirds (unjoined local.old.tasks) }
+    ensures none_ended { (n : ℕ) → outputs_left n local.new.tasks ≡ outputs_left n local.old.tasks }
     ensures same_cx { local.new.cx ≡ local.old.cx }
     ensures same_home { local.new.home ≡ local.old.home }
     ensures same_capacity { local.new.capacity ≡ local.old.capacity }
@@ -41,6 +43,7 @@ pub fn spawn_seconds<B: Board + Drop, A: Task<B> + Drop, M: Task<B> + Drop, Z: T
     ensures spawned { OnOk result (seconds (unjoined local.new.tasks) ≡ seconds (unjoined local.old.tasks) ++ tasks.items) }
     ensures same_firsts { firsts (unjoined local.new.tasks) ≡ firsts (unjoined local.old.tasks) }
     ensures same_thirds { thirds (unjoined local.new.tasks) ≡ thirds (unjoined local.old.tasks) }
+    ensures none_ended { (n : ℕ) → outputs_left n local.new.tasks ≡ outputs_left n local.old.tasks }
     ensures same_cx { local.new.cx ≡ local.old.cx }
     ensures same_home { local.new.home ≡ local.old.home }
     ensures same_capacity { local.new.capacity ≡ local.old.capacity }
@@ -63,6 +66,7 @@ pub fn spawn_thirds<B: Board + Drop, A: Task<B> + Drop, M: Task<B> + Drop, Z: Ta
     ensures spawned { OnOk result (thirds (unjoined local.new.tasks) ≡ thirds (unjoined local.old.tasks) ++ tasks.items) }
     ensures same_firsts { firsts (unjoined local.new.tasks) ≡ firsts (unjoined local.old.tasks) }
     ensures same_seconds { seconds (unjoined local.new.tasks) ≡ seconds (unjoined local.old.tasks) }
+    ensures none_ended { (n : ℕ) → outputs_left n local.new.tasks ≡ outputs_left n local.old.tasks }
     ensures same_cx { local.new.cx ≡ local.old.cx }
     ensures same_home { local.new.home ≡ local.old.home }
     ensures same_capacity { local.new.capacity ≡ local.old.capacity }
@@ -105,6 +109,7 @@ pub fn spawn_all<B: Board + Drop, A: Task<B> + Drop, M: Task<B> + Drop, Z: Task<
     ensures firsts { IfOk result (λ made. firsts (unjoined made.0.tasks) ≡ tasks.firsts.items) }
     ensures seconds { IfOk result (λ made. seconds (unjoined made.0.tasks) ≡ tasks.seconds.items) }
     ensures thirds { IfOk result (λ made. thirds (unjoined made.0.tasks) ≡ tasks.spreading.items ++ tasks.merging.items) }
+    ensures none_ended { IfOk result (λ made. outputs_left made.1 made.0.tasks ≡ 0) }
     ensures home { IfOk result (λ made. made.0.home ≡ B.id board) }
     ensures capacity { IfOk result (λ made. made.0.capacity ≡ made.1) }
     ensures board { IfOk result (λ made. B.id made.0.cx.board ≡ B.id board) }

@@ -1,6 +1,6 @@
 //! A gate notes the tasks of a run.
 use super::commands::{ROWS, SCANNED_TEXT};
-use super::runs::{TWO, counted, read};
+use super::runs::{TWO, counted_in, read};
 use super::{LOCAL, makes, outside_of};
 use morsel_meaning::TaskNo;
 use morsel_outside::{Gate, MemIo};
@@ -55,29 +55,49 @@ impl Gate for NotingGate {
     }
 }
 
-/// The gate after a run of the query over these bytes, which gives so many rows of this text.
-fn noted(rt: &impl Abort, alloc: Global, bytes: &[u8], rows: u64, text: &str) -> NotingGate {
+/// A run: with how many units of each node, over which bytes, and how many rows it gives, with their text.
+#[derive(Clone, Copy)]
+struct Noted<'a> {
+    pipelines: u32,
+    bytes: &'a [u8],
+    rows: u64,
+    text: &'a str,
+}
+
+/// The gate after a run of the query.
+fn after_run(rt: &impl Abort, alloc: Global, run: Noted<'_>) -> NotingGate {
     let gate = NotingGate::new();
-    let mut io = outside_of(rt, alloc, LOCAL, bytes, b"");
+    let mut io = outside_of(rt, alloc, LOCAL, run.bytes, b"");
     let (query, options) = read(alloc, TWO).expect(rt, "a query");
-    let answer = counted::<MemIo, NotingGate, Brand>(
+    assert!(rt; run.pipelines >= 1);
+    assert!(rt; run.pipelines <= 100);
+    let answer = counted_in::<MemIo, NotingGate, Brand>(
         alloc,
         &mut io,
         query,
         &options,
+        run.pipelines,
         &gate,
         Blank::new(1),
     );
-    assert_eq!(rt; answer, Ok(rows));
-    makes(rt, &io, text);
+    assert_eq!(rt; answer, Ok(run.rows));
+    makes(rt, &io, run.text);
     drop(io);
     gate
 }
 
+/// The two rows, with one unit of each node.
+const TWO_ROWS: Noted<'static> = Noted {
+    pipelines: 1,
+    bytes: ROWS,
+    rows: 2,
+    text: SCANNED_TEXT,
+};
+
 /// The source and the sink have a task each, and the pipes before and behind them two each; each is polled more than once.
 #[test]
 fn six_tasks_pass_the_gate(rt: HostRuntime) {
-    let gate = noted(&rt, rt.alloc(), ROWS, 2, SCANNED_TEXT);
+    let gate = after_run(&rt, rt.alloc(), TWO_ROWS);
     assert_eq!(rt; gate.entered.load(Ordering::Relaxed).count_ones(), 6);
     assert_eq!(rt;
         gate.left.load(Ordering::Relaxed),
@@ -86,20 +106,67 @@ fn six_tasks_pass_the_gate(rt: HostRuntime) {
     assert!(rt; gate.polls.load(Ordering::Relaxed) >= 12);
 }
 
-/// Files, how many rows they have, and the text of those.
-const FILES: &[(&[u8], u64, &str)] = &[
-    (b"", 0, ""),
-    (b"id,name\n", 0, ""),
-    (b"id,name\n2,\n", 1, "{\"id\":2,\"name\":null}\n"),
-    (ROWS, 2, SCANNED_TEXT),
+/// Nine rows.
+const NINE_ROWS: Noted<'static> = Noted {
+    pipelines: 1,
+    bytes: b"id,name\n1,a\n2,b\n3,\n4,d\n5,e\n6,\n7,g\n8,h\n9,i",
+    rows: 9,
+    text: "{\"id\":1,\"name\":\"a\"}\n{\"id\":2,\"name\":\"b\"}\n{\"id\":3,\"name\":null}\n\
+           {\"id\":4,\"name\":\"d\"}\n{\"id\":5,\"name\":\"e\"}\n{\"id\":6,\"name\":null}\n\
+           {\"id\":7,\"name\":\"g\"}\n{\"id\":8,\"name\":\"h\"}\n{\"id\":9,\"name\":\"i\"}\n",
+};
+
+/// A source and a sink with so many tasks each, and one more than that for each of the two pipes, write the rows in their order.
+#[test]
+fn any_number_of_pipelines_writes_the_same_text(rt: HostRuntime) {
+    for pipelines in [1, 2, 3, 7] {
+        let run = Noted {
+            pipelines,
+            ..NINE_ROWS
+        };
+        let gate = after_run(&rt, rt.alloc(), run);
+        assert_eq!(rt;
+            u64::from(gate.entered.load(Ordering::Relaxed).count_ones()),
+            u64::from(pipelines) * 4 + 2
+        );
+    }
+}
+
+/// Files without rows, and those of the other tests.
+const RUNS: &[Noted<'static>] = &[
+    Noted {
+        bytes: b"",
+        rows: 0,
+        text: "",
+        ..TWO_ROWS
+    },
+    Noted {
+        bytes: b"id,name\n",
+        rows: 0,
+        text: "",
+        ..TWO_ROWS
+    },
+    Noted {
+        bytes: b"id,name\n2,\n",
+        rows: 1,
+        text: "{\"id\":2,\"name\":null}\n",
+        ..TWO_ROWS
+    },
+    TWO_ROWS,
+    NINE_ROWS,
 ];
 
-/// At most 16 sweeps for each byte, and 16 more, where the bound is 1,024: so no run meets what keeps it.
+/// At most 16 sweeps for each byte, and 16 more, where the bound is 1,024; and fewer in all than may go by in a row without a
+/// byte that is given or written. So no run comes near what keeps the bound.
 #[test]
 fn few_sweeps_are_made_for_each_byte(rt: HostRuntime) {
-    for (bytes, rows, text) in FILES {
-        let gate = noted(&rt, rt.alloc(), bytes, *rows, text);
-        let most = (bytes.len() as u64).saturating_add(1).saturating_mul(16);
-        assert!(rt; gate.sweeps.load(Ordering::Relaxed) <= most);
+    for run in RUNS {
+        let gate = after_run(&rt, rt.alloc(), *run);
+        let sweeps = gate.sweeps.load(Ordering::Relaxed);
+        let most = (run.bytes.len() as u64)
+            .saturating_add(1)
+            .saturating_mul(16);
+        assert!(rt; sweeps <= most);
+        assert!(rt; sweeps < 512);
     }
 }

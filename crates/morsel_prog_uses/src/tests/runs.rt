@@ -1,9 +1,9 @@
 //! Runs of queries called by themselves, over each outside in memory.
-ghost use Rattle.std.specs.Prelude.{◌≡◌, ◌<◌};
+ghost use Rattle.std.specs.Prelude.{◌≡◌, ◌<◌, ◌≤◌};
 
 use super::commands::{ROWS, SCANNED_TEXT};
 use super::{LOCAL, Run, files_of, leaves, outside_of};
-use morsel_engine::run_local;
+use morsel_engine::{run_local, run_pipelines};
 use morsel_local::Steps;
 use morsel_meaning::{ComputeKind, Fault, QUERY_FILE};
 use morsel_outside::{Asked, Gate, Io, MemIo, Memory, OpenGate, SureMemIo};
@@ -49,6 +49,25 @@ pub fn counted<H: Io, G: Gate, Y: Ledger>(
 {
     let mut steps = Steps::<Y>::new(blank);
     run_local(alloc, io, query, options, gate, &mut steps)
+}
+
+/// What a run of the query answers with so many units of each node, with a count of its sweeps.
+pub fn counted_in<H: Io, G: Gate, Y: Ledger>(
+    alloc: Global,
+    io: &mut H,
+    query: Query,
+    options: &Options,
+    pipelines: u32,
+    gate: &G,
+    blank: Blank,
+) -> Result<u64, Fault>
+    requires pipelines { (1 ≤ pipelines) × (pipelines ≤ 32768) }
+    requires name { blank.name ≡ Y.name }
+    requires parts { blank.parts ≡ Y.parts }
+    requires some { 0 < blank.parts }
+{
+    let mut steps = Steps::<Y>::new(blank);
+    run_pipelines(alloc, io, query, options, pipelines, gate, &mut steps)
 }
 
 /// What was asked for: `open` and the name of a file, or `make` and that of a sink.

@@ -1,4 +1,4 @@
-use Rattle.std.proofs.Common.{ℕ, ◌≤◌, ◌∙◌, refl, subst, arith}
+use Rattle.std.proofs.Common.{ℕ, ◌*◌, ◌≤◌, ◌∙◌, refl, subst, arith}
 use Rattle.std.specs.Prelude.{List}
 use Rattle.morsel_drive.proofs.TransferLemmas.{either_reading, either_writing, stays}
 use Rattle.morsel_drive.proofs.TurnLemmas.{stands_begun, stands_read, read_failed, stands_served, step_failed, stands_written, write_failed, run_ended}
@@ -9,10 +9,14 @@ turns-init g c = record {
   suits = c.requires.suits;
   made = c.requires.made;
   told = λ job is. is;
-  counted = omega arith;
+  rows = c.requires.none_written;
+  joined = c.requires.joined;
   size = refl;
   within = let none = c.requires.given in omega (arith, none);
+  next = omega arith;
   few = omega arith;
+  idle = omega arith;
+  far = omega arith;
   chunk = refl;
   same = refl;
   fits = tt;
@@ -56,8 +60,8 @@ returns-then-whole-clause-drives g c =
     let same = stays _ _ writes.writes (either_writing writes.writes writes.are) writes.does in
     let written = stands_written _ _ _ _ _ _ (λ job. g.S.PieceSource.reads c.read_on.new.reader job (g.H.Io.seen c.write_on.new.io)) _ _ _ _ _ _ _ _ _ _ _ _ _ c.in-Ok-write_on.whole stepped writes
     (λ job reads. g.met.S.PieceSource.reads_on _ job _ _ same.sizes same.held reads) in
-    run_ended _ _ _ g.L.Job.LineJob.is_due _ _ _ _ _ _ _ _ _ _ _ _ _ _ _ _ _ written (rw c.given-then-whole.ensures at c.end.ensures)
-    (λ end. (c.in-Ok.ensures.ended (c.feed_on-input.ensures.ended end), g.met.S.PieceSource.suits_on _ _ _ same.sizes c.in-Ok.ensures.suits))
+    rw c.end.ensures.same (run_ended _ _ _ g.L.Job.LineJob.is_due _ _ _ _ _ _ _ _ _ _ _ _ _ _ _ _ _ written (rw c.given-given.ensures at c.end.ensures.answer)
+    (λ end. (c.in-Ok.ensures.ended (c.feed_on-input.ensures.ended end), g.met.S.PieceSource.suits_on _ _ _ same.sizes c.in-Ok.ensures.suits)))
 
 pub turns-preserved : goal.turns-preserved
 turns-preserved g c =
@@ -71,16 +75,23 @@ turns-preserved g c =
     let same = stays _ _ writes.writes (either_writing writes.writes writes.are) writes.does in
     let written = stands_written _ _ _ _ _ _ (λ job. g.S.PieceSource.reads c.read_on.new.reader job (g.H.Io.seen c.write_on.new.io)) _ _ _ _ _ _ _ _ _ _ _ _ _ c.in-Ok-write_on.whole stepped writes
     (λ job reads. g.met.S.PieceSource.reads_on _ job _ _ same.sizes same.held reads) in
+    let size = c.turns.invariant.size in
+    let within = subst (λ (x : List ℕ). g.S.PieceSource.given c.read_on.new.reader ≤ g.S.PieceSource.size c.turns.reader x) c.turns.invariant.same c.in-Ok.ensures.within in
+    let given = c.given-given.ensures in
+    let next = c.in-Ok-write_on.ensures.within (g.S.PieceSource.size c.args.reader.now (g.H.Io.seen c.args.io.now).sizes) (omega (arith, size, within, given)) c.turns.invariant.next in
     record {
       suits = g.met.S.PieceSource.suits_on _ _ _ same.sizes c.in-Ok.ensures.suits;
       made = let some = c.turns.invariant.made in let one = (stays _ _ c.in-Ok.ensures.reads.reads (either_reading c.in-Ok.ensures.reads.reads c.in-Ok.ensures.reads.are) c.in-Ok.ensures.reads.does).sinks in
           let two = same.sinks in omega (arith, some, one, two);
       told = λ job is. c.turns.invariant.told job (c.feed_on-input.ensures.told job (c.in_default.ensures.told job (c.in-Ok-write_on.ensures.told job is)));
-      counted = let was = c.turns.invariant.counted in let one = c.in_default.ensures.counted in omega (arith, was, one);
+      rows = c.in-Ok-write_on.ensures.rows;
+      joined = c.in-Ok-write_on.ensures.joined (c.in_default.ensures.joined);
       size = c.in-Ok.ensures.same_size (g.H.Io.seen c.args.io.now).sizes ∙ c.turns.invariant.size;
-      within = let size = c.turns.invariant.size in
-          let here = subst (λ (x : List ℕ). g.S.PieceSource.given c.read_on.new.reader ≤ g.S.PieceSource.size c.turns.reader x) c.turns.invariant.same c.in-Ok.ensures.within in omega (arith, size, here);
-      few = let few = c.if-turn-given.false in let given = c.given.ensures in let within = c.turns.invariant.within in omega (arith, few, given, within);
+      within = omega (arith, size, within);
+      next = next;
+      few = let few = c.turns.invariant.few in let one = c.in_default.ensures.counted in let more = c.after_sweep-reached.ensures.counted in omega (arith, few, one, more);
+      idle = c.after_sweep-reached.ensures.idle;
+      far = c.after_sweep-reached.ensures.within (2 * g.S.PieceSource.size c.args.reader.now (g.H.Io.seen c.args.io.now).sizes) (let place = c.saturating_add.ensures in omega (arith, size, within, given, next, place)) c.turns.invariant.far;
       chunk = c.in-Ok.ensures.chunk ∙ c.turns.invariant.chunk;
       same = same.sizes ∙ (stays _ _ c.in-Ok.ensures.reads.reads (either_reading c.in-Ok.ensures.reads.reads c.in-Ok.ensures.reads.are) c.in-Ok.ensures.reads.does).sizes ∙ c.turns.invariant.same;
       ended = λ end. c.in-Ok.ensures.ended (c.feed_on-input.ensures.ended end);
@@ -91,5 +102,5 @@ turns-preserved g c =
 pub returns-clause-drives : goal.returns-clause-drives
 returns-clause-drives g c = run_ended _ _ _ _ _ _ _ _ _ _ _ _ _ _ _ _ _ _ _ _ _ c.turns.invariant.stands tt (λ end. (c.turns.invariant.ended end, c.turns.invariant.suits))
 
-pub returns-then-turn-given-clause-drives : goal.returns-then-turn-given-clause-drives
-returns-then-turn-given-clause-drives g c = run_ended _ _ _ _ _ _ _ _ _ _ _ _ _ _ _ _ _ _ _ _ _ c.turns.invariant.stands tt (λ end. (c.turns.invariant.ended end, c.turns.invariant.suits))
+pub returns-then-reached-ge-IDLE_SWEEPS-clause-drives : goal.returns-then-reached-ge-IDLE_SWEEPS-clause-drives
+returns-then-reached-ge-IDLE_SWEEPS-clause-drives g c = run_ended _ _ _ _ _ _ _ _ _ _ _ _ _ _ _ _ _ _ _ _ _ c.turns.invariant.stands tt (λ end. (c.turns.invariant.ended end, c.turns.invariant.suits))

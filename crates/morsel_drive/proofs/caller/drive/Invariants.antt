@@ -9,10 +9,14 @@ invariant-turns g l = record {
   suits : g.S.PieceSource.suits l.reader (g.H.Io.seen l.io);
   made : 0 < (g.H.Io.seen l.io).sinks;
   told : (job : g.row.L-Job.Denot) → g.L.Line.told l.line job → g.L.Line.told l.fn.line job;
-  counted : l.steps ≡ l.fn.steps + l.turn;
+  rows : l.writer.rows ≡ l.written.rows;
+  joined : g.L.Line.is_joined l.line;
   size : g.S.PieceSource.size l.reader (g.H.Io.seen l.fn.io).sizes ≡ g.S.PieceSource.size l.fn.reader (g.H.Io.seen l.fn.io).sizes;
   within : g.S.PieceSource.given l.reader ≤ g.S.PieceSource.size l.fn.reader (g.H.Io.seen l.fn.io).sizes;
-  few : l.turn ≤ 1024 * (g.S.PieceSource.size l.fn.reader (g.H.Io.seen l.fn.io).sizes + 1);
+  next : l.written.next ≤ g.S.PieceSource.size l.fn.reader (g.H.Io.seen l.fn.io).sizes;
+  few : l.steps ≤ l.fn.steps + 512 * l.reached.furthest + l.reached.idle;
+  idle : l.reached.idle ≤ 512;
+  far : l.reached.furthest ≤ 2 * g.S.PieceSource.size l.fn.reader (g.H.Io.seen l.fn.io).sizes;
   chunk : g.S.PieceSource.chunk l.reader ≡ g.S.PieceSource.chunk l.fn.reader;
   same : (g.H.Io.seen l.io).sizes ≡ (g.H.Io.seen l.fn.io).sizes;
   fits : HoldsFitting l.input;

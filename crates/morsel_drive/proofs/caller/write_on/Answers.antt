@@ -5,14 +5,17 @@ use Rattle.morsel_drive.proofs.TurnLemmas.{wrote_nothing, wrote_more, wrote_all,
 use Rattle.morsel_drive.proofs.caller.write_on.Goals as goal
 
 pub parts-init : goal.parts-init
-parts-init g c = record { made = c.requires.made; told = λ job is. is; stands = wrote_nothing _ _ _ _ }
+parts-init g c = record { made = c.requires.made; told = λ job is. is; rows = c.requires.rows; joined = λ is. is; within = λ size given next. next; stands = wrote_nothing _ _ _ _ }
 
 pub parts-preserved : goal.parts-preserved
 parts-preserved g c =
-    let w = c.in_default.ensures in
+    let w = c.in_default.ensures.writes in
     let same = stays _ _ (Writing c.in-Part.part.bytes ∷ []) (inr tt, tt) w.3 in record {
       made = let some = c.parts.invariant.made in let sinks = same.sinks in omega (arith, some, sinks);
       told = λ job is. c.parts.invariant.told job (c.in-Part.ensures.told job is);
+      rows = c.in_default.ensures.rows;
+      joined = λ is. c.in-Part.ensures.joined (c.parts.invariant.joined is);
+      within = λ size given next. c.in_default.ensures.within size given (c.parts.invariant.within size given next);
       stands = wrote_more _ _ _ _ _ _ _ _ _ _ c.in-Part.part c.parts.invariant.stands (λ job serving. c.in-Part.ensures.serves job serving)
           (λ job serving. c.in-Part.ensures.suits job serving) w;
     }
@@ -24,7 +27,7 @@ pub returns-in-Whole-clause-writes : goal.returns-in-Whole-clause-writes
 returns-in-Whole-clause-writes g c = wrote_all _ _ _ _ _ _ _ _ true c.parts.invariant.stands (λ job serving. c.in-Whole.ensures.serves job serving)
 
 pub returns-in-Err-clause-writes : goal.returns-in-Err-clause-writes
-returns-in-Err-clause-writes g c = write_stopped _ _ _ (g.L.Line.serves c.take.new.self) _ _ _ _ _ _ c.in-Part.part c.in-Err.fault c.parts.invariant.stands (λ job serving. c.in-Part.ensures.suits job serving) c.in-Err.ensures
+returns-in-Err-clause-writes g c = write_stopped _ _ _ (g.L.Line.serves c.take.new.self) _ _ _ _ _ _ c.in-Part.part c.in-Err.fault c.parts.invariant.stands (λ job serving. c.in-Part.ensures.suits job serving) c.in-Err.ensures.writes
 
 pub returns-clause-writes : goal.returns-clause-writes
 returns-clause-writes g c = wrote_all _ _ _ _ _ _ _ _ false c.parts.invariant.stands (λ job serving. serving)

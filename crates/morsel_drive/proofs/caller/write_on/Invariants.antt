@@ -1,4 +1,4 @@
-use Rattle.std.proofs.Common.{◌<◌, Ok}
+use Rattle.std.proofs.Common.{◌≡◌, ◌<◌, ◌≤◌, ℕ, Ok}
 use Rattle.morsel_drive.specs.Driving.{WritesOn}
 use Rattle.morsel_drive.proofs.TurnLemmas.{ToldWrites}
 use Rattle.morsel_drive.proofs.caller.write_on.Given as goal
@@ -8,5 +8,8 @@ abbrev pub invariant-parts : goal.invariant-parts
 invariant-parts g l = record {
   made : 0 < (g.H.Io.seen l.io).sinks;
   told : (job : g.row.L-Job.Denot) → g.L.Line.told l.line job → g.L.Line.told l.fn.line job;
+  rows : l.writer.rows ≡ l.written.rows;
+  joined : g.L.Line.is_joined l.fn.line → g.L.Line.is_joined l.line;
+  within : (size : ℕ) → l.given ≤ size → l.fn.written.next ≤ size → l.written.next ≤ size;
   stands : WritesOn {T = Unit {0}} (ToldWrites {J = g.row.L-Job.Denot} g.L.Job.LineJob.axis (g.L.Line.serves l.fn.line) (g.L.Line.serves l.line) l.fn.written l.written) (g.H.Io.seen l.fn.io) (Ok tt) (g.H.Io.seen l.io);
 }

@@ -1,7 +1,7 @@
 use Rattle.std.proofs.Common.{subst, sym, ◌∙◌, ℕ}
 use Rattle.std.specs.Prelude.{Err, List}
 use Rattle.morsel_query.specs.Queries.{query_parts}
-use Rattle.morsel_engine.specs.Stages.{OpensSources, HasOpenedAll, MakesSink}
+use Rattle.morsel_engine.specs.Stages.{OpensSources, HasOpenedAll}
 use Rattle.morsel_engine.proofs.PartLemmas.{sources_are, runs_not_opened, runs_not_made, runs_parts, opened_numbers}
 use Rattle.morsel_engine.proofs.SweepLemmas.{no_sweeps, swept}
 use Rattle.morsel_engine.proofs.run.run_parts.Goals as goal
@@ -18,25 +18,25 @@ returns-in-Err-make_sink-clause-runs g c =
     let opened = c.in-Ok.ensures in
     runs_not_made _ (g.H.Io.seen c.open_sources.new.io) _ query _ c.in-Ok.files.items opened.0 _ c.requires.planned
     (subst (λ (names : List (List ℕ)). HasOpenedAll (g.H.Io.seen c.args.io.now) names c.in-Ok.files.items opened.0 (g.H.Io.seen c.open_sources.new.io)) (c.deref.ensures.value ∙ sym (sources_are query)) opened.1)
-    (subst (λ (name : List ℕ). MakesSink (g.H.Io.seen c.open_sources.new.io) name (Err c.in-Err-make_sink.fault) (g.H.Io.seen c.make_sink.new.io)) c.as_str.ensures c.in-Err-make_sink.ensures)
+    c.in-Err-make_sink.ensures.made
 
 pub scan_files-requires-clause-one_each : goal.scan_files-requires-clause-one_each
 scan_files-requires-clause-one_each g c =
     let opened = c.in-Ok.ensures in
     let all = subst (λ (names : List (List ℕ)). HasOpenedAll (g.H.Io.seen c.args.io.now) names c.in-Ok.files.items opened.0 (g.H.Io.seen c.open_sources.new.io)) c.deref.ensures.value opened.1 in
-    (opened_numbers _ _ _ (query_parts c.args.left c.args.sink) _ opened.0 all (rw c.as_str.ensures at c.in_default.ensures)).0
+    (opened_numbers _ _ _ (query_parts c.args.left c.args.sink) _ opened.0 all c.in-Ok-make_sink.ensures.made).0
 
 pub scan_files-requires-clause-opened : goal.scan_files-requires-clause-opened
 scan_files-requires-clause-opened g c =
     let opened = c.in-Ok.ensures in
     let all = subst (λ (names : List (List ℕ)). HasOpenedAll (g.H.Io.seen c.args.io.now) names c.in-Ok.files.items opened.0 (g.H.Io.seen c.open_sources.new.io)) c.deref.ensures.value opened.1 in
-    (opened_numbers _ _ _ (query_parts c.args.left c.args.sink) _ opened.0 all (rw c.as_str.ensures at c.in_default.ensures)).1
+    (opened_numbers _ _ _ (query_parts c.args.left c.args.sink) _ opened.0 all c.in-Ok-make_sink.ensures.made).1
 
 pub returns-clause-runs : goal.returns-clause-runs
 returns-clause-runs g c =
     let opened = c.in-Ok.ensures in
     let all = subst (λ (names : List (List ℕ)). HasOpenedAll (g.H.Io.seen c.args.io.now) names c.in-Ok.files.items opened.0 (g.H.Io.seen c.open_sources.new.io)) c.deref.ensures.value opened.1 in
-    runs_parts _ _ _ _ c.args.left c.args.sink _ _ opened.0 _ c.requires.sound c.requires.planned all (rw c.as_str.ensures at c.in_default.ensures) c.scan_files.ensures.scans
+    runs_parts _ _ _ _ c.args.left c.args.sink _ _ opened.0 _ c.requires.sound c.requires.planned all c.in-Ok-make_sink.ensures.made c.scan_files.ensures.scans
 
 pub returns-in-Err-clause-sweeps : goal.returns-in-Err-clause-sweeps
 returns-in-Err-clause-sweeps g c = no_sweeps (g.H.Io.seen c.args.io.now) (g.H.Io.seen c.open_sources.new.io) (query_parts c.args.left c.args.sink) c.args.options.now c.args.steps.now
@@ -48,4 +48,4 @@ pub returns-clause-sweeps : goal.returns-clause-sweeps
 returns-clause-sweeps g c =
     let opened = c.in-Ok.ensures in
     let all = subst (λ (names : List (List ℕ)). HasOpenedAll (g.H.Io.seen c.args.io.now) names c.in-Ok.files.items opened.0 (g.H.Io.seen c.open_sources.new.io)) c.deref.ensures.value opened.1 in
-    swept _ _ _ _ c.args.left c.args.sink c.args.options.now _ opened.0 _ _ _ all (rw c.as_str.ensures at c.in_default.ensures) c.scan_files.ensures.scans c.scan_files.ensures.sweeps
+    swept _ _ _ _ c.args.left c.args.sink c.args.options.now _ opened.0 _ _ _ all c.in-Ok-make_sink.ensures.made c.scan_files.ensures.scans c.scan_files.ensures.sweeps

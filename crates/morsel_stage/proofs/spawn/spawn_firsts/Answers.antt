@@ -6,7 +6,7 @@ use Rattle.morsel_stage.specs.declared.one_of.OneOf.{OneOf}
 use Rattle.morsel_stage.specs.declared.one_of.OneOf.TheVariants.{First}
 use Rattle.morsel_stage.specs.Kinds.{firsts, seconds, thirds}
 use Rattle.morsel_stage.specs.Unjoined.{unjoined}
-use Rattle.morsel_stage.proofs.SpawnLemmas.{spawned_first, list_more}
+use Rattle.morsel_stage.proofs.SpawnLemmas.{left_spawned, spawned_first, list_more}
 use Rattle.morsel_stage.proofs.spawn.spawn_firsts.Given.{Over}
 use Rattle.morsel_stage.proofs.spawn.spawn_firsts.Goals as goal
 
@@ -22,6 +22,7 @@ tasks-preserved g c =
       each = list_more (firsts (unjoined c.tasks.local.tasks)) (firsts (unjoined c.spawn.new.self.tasks)) (into_iter_items c.tasks.task-iterator) left (firsts (unjoined c.args.local.now.tasks)) c.args.tasks.items c.in-Some.task c.in-Some.ensures.steps.0 more.0 c.tasks.invariant.each;
       same_seconds = more.1 ∙ c.tasks.invariant.same_seconds;
       same_thirds = more.2 ∙ c.tasks.invariant.same_thirds;
+      none_ended = λ n. left_spawned n c.tasks.local.tasks c.spawn.new.self.tasks (First c.in-Some.task) (ap (λ (local : Seen g). local.tasks) c.in-Ok.ensures.ok) ∙ c.tasks.invariant.none_ended n;
       can_poll = All-tail (g.A.Task.can_poll c.args.local.now.home) c.in-Some.task left (subst (All (g.A.Task.can_poll c.args.local.now.home)) c.in-Some.ensures.steps.0 c.tasks.invariant.can_poll);
       same_cx = ap (λ (local : Seen g). local.cx) c.in-Ok.ensures.ok ∙ c.tasks.invariant.same_cx;
       same_home = ap (λ (local : Seen g). local.home) c.in-Ok.ensures.ok ∙ c.tasks.invariant.same_home;

@@ -1,5 +1,6 @@
-use Rattle.std.proofs.Common.{◌≡◌, ◌++◌, All}
+use Rattle.std.proofs.Common.{◌≡◌, ◌++◌, ℕ, All}
 use Rattle.std.specs.Vec.Iter.{into_iter_items}
+use Rattle.morsel_stage.specs.Joined.{outputs_left}
 use Rattle.morsel_stage.specs.Kinds.{firsts, seconds, thirds}
 use Rattle.morsel_stage.specs.Unjoined.{unjoined}
 use Rattle.morsel_stage.proofs.spawn.spawn_firsts.Given as goal
@@ -9,6 +10,7 @@ invariant-tasks g l = record {
   each : firsts (unjoined l.local.tasks) ++ into_iter_items l.task-iterator ≡ firsts (unjoined l.fn.local.tasks) ++ l.fn.tasks.items;
   same_seconds : seconds (unjoined l.local.tasks) ≡ seconds (unjoined l.fn.local.tasks);
   same_thirds : thirds (unjoined l.local.tasks) ≡ thirds (unjoined l.fn.local.tasks);
+  none_ended : (n : ℕ) → outputs_left n l.local.tasks ≡ outputs_left n l.fn.local.tasks;
   can_poll : All (g.A.Task.can_poll l.fn.local.home) (into_iter_items l.task-iterator);
   same_cx : l.local.cx ≡ l.fn.local.cx;
   same_home : l.local.home ≡ l.fn.local.home;

@@ -6,7 +6,7 @@ use Rattle.morsel_stage.specs.declared.one_of.OneOf.{OneOf}
 use Rattle.morsel_stage.specs.declared.one_of.OneOf.TheVariants.{Third}
 use Rattle.morsel_stage.specs.Kinds.{firsts, seconds, thirds}
 use Rattle.morsel_stage.specs.Unjoined.{unjoined}
-use Rattle.morsel_stage.proofs.SpawnLemmas.{spawned_third, list_more}
+use Rattle.morsel_stage.proofs.SpawnLemmas.{left_spawned, spawned_third, list_more}
 use Rattle.morsel_stage.proofs.spawn.spawn_thirds.Given.{Over}
 use Rattle.morsel_stage.proofs.spawn.spawn_thirds.Goals as goal
 
@@ -22,6 +22,7 @@ tasks-preserved g c =
       each = list_more (thirds (unjoined c.tasks.local.tasks)) (thirds (unjoined c.spawn.new.self.tasks)) (into_iter_items c.tasks.task-iterator) left (thirds (unjoined c.args.local.now.tasks)) c.args.tasks.items c.in-Some.task c.in-Some.ensures.steps.0 more.0 c.tasks.invariant.each;
       same_firsts = more.1 ∙ c.tasks.invariant.same_firsts;
       same_seconds = more.2 ∙ c.tasks.invariant.same_seconds;
+      none_ended = λ n. left_spawned n c.tasks.local.tasks c.spawn.new.self.tasks (Third c.in-Some.task) (ap (λ (local : Seen g). local.tasks) c.in-Ok.ensures.ok) ∙ c.tasks.invariant.none_ended n;
       can_poll = All-tail (g.Z.Task.can_poll c.args.local.now.home) c.in-Some.task left (subst (All (g.Z.Task.can_poll c.args.local.now.home)) c.in-Some.ensures.steps.0 c.tasks.invariant.can_poll);
       same_cx = ap (λ (local : Seen g). local.cx) c.in-Ok.ensures.ok ∙ c.tasks.invariant.same_cx;
       same_home = ap (λ (local : Seen g). local.home) c.in-Ok.ensures.ok ∙ c.tasks.invariant.same_home;

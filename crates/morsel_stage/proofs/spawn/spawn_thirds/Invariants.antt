@@ -1,5 +1,6 @@
-use Rattle.std.proofs.Common.{◌≡◌, ◌++◌, All}
+use Rattle.std.proofs.Common.{◌≡◌, ◌++◌, ℕ, All}
 use Rattle.std.specs.Vec.Iter.{into_iter_items}
+use Rattle.morsel_stage.specs.Joined.{outputs_left}
 use Rattle.morsel_stage.specs.Kinds.{firsts, seconds, thirds}
 use Rattle.morsel_stage.specs.Unjoined.{unjoined}
 use Rattle.morsel_stage.proofs.spawn.spawn_thirds.Given as goal
@@ -9,6 +10,7 @@ invariant-tasks g l = record {
   each : thirds (unjoined l.local.tasks) ++ into_iter_items l.task-iterator ≡ thirds (unjoined l.fn.local.tasks) ++ l.fn.tasks.items;
   same_firsts : firsts (unjoined l.local.tasks) ≡ firsts (unjoined l.fn.local.tasks);
   same_seconds : seconds (unjoined l.local.tasks) ≡ seconds (unjoined l.fn.local.tasks);
+  none_ended : (n : ℕ) → outputs_left n l.local.tasks ≡ outputs_left n l.fn.local.tasks;
   can_poll : All (g.Z.Task.can_poll l.fn.local.home) (into_iter_items l.task-iterator);
   same_cx : l.local.cx ≡ l.fn.local.cx;
   same_home : l.local.home ≡ l.fn.local.home;

@@ -3,7 +3,7 @@ use Rattle.morsel_query.specs.Queries.{QueryParts}
 use Rattle.morsel_engine.specs.SweepBounds.{SweepsWithin}
 use Rattle.morsel_engine.proofs.RunLemmas.{runs_refused, refused_by}
 use Rattle.morsel_engine.proofs.SweepLemmas.{no_sweeps}
-use Rattle.morsel_engine.proofs.run.run_local.Goals as goal
+use Rattle.morsel_engine.proofs.run.run_pipelines.Goals as goal
 
 pub returns-in-Err-clause-runs : goal.returns-in-Err-clause-runs
 returns-in-Err-clause-runs g c = runs_refused _ _ _ _ (refused_by (Unit {0}) _ _ c.in-Err.ensures.refused)

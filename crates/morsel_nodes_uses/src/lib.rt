@@ -1,0 +1,5 @@
+//! Uses of the nodes of a scan as a query has them.
+#![tactic(auto)]
+
+#[cfg(test)]
+mod tests;
