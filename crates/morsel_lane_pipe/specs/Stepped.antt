@@ -9,6 +9,6 @@ abbrev pub places_if : {A : Type 0} → Option A → (A → List WaitPlace) → 
 places_if None places = []
 places_if (Some x) places = places x
 
--- a later state of the task: it may go on, the same is seen of it, and it may have no other faults
-abbrev pub IsOn : {T : Type 0} → (T → Type 0) → (T → TaskSeen) → (T → Fault → Type 0) → Option T → Option T → Type 0
-IsOn can seen fails begun now = Has now (λ new. can new × Has begun (λ old. (seen new ≡ seen old) × ((fault : Fault) → fails new fault → fails old fault)))
+-- a later state of the task: it may go on, the same is seen of it, and it may end with no other faults and receipts
+abbrev pub IsOn : {T R : Type 0} → (T → Type 0) → (T → TaskSeen) → (T → Fault → Type 0) → (T → R → Type 0) → Option T → Option T → Type 0
+IsOn can seen fails leaves begun now = Has now (λ new. can new × Has begun (λ old. (seen new ≡ seen old) × ((fault : Fault) → fails new fault → fails old fault) × ((receipts : _) → leaves new receipts → leaves old receipts)))

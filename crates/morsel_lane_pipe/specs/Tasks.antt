@@ -21,12 +21,15 @@ abbrev pub Has : {A : Type 0} → Option A → (A → Type 0) → Type 0
 Has None P = ⊥
 Has (Some x) P = P x
 
--- what a task does with what it takes: it gives it on in its order, merges several lanes by number, spreads it over several, or makes other loads of it
+-- what a task does with what it takes: it gives it on in its order, merges several lanes by number, spreads it over several, makes other loads of it, or keeps it;
+-- or it takes none, and gives loads of its own
 pub data PipeRole : Type 0 where
   HandsOn : PipeRole
   Merges : PipeRole
   Spreads : PipeRole
   MakesOthers : PipeRole
+  KeepsAll : PipeRole
+  GivesOwn : PipeRole
 
 -- what is seen of a task: what it does, the table of its board, the lanes from which it takes and through which it sends, and where it may wait
 pub record TaskSeen : Type 0 where
@@ -72,6 +75,8 @@ IsWorkOf HandsOn taken sent = map (map load_seen) taken ≡ map (map load_seen) 
 IsWorkOf Merges taken sent = (all : List (Load _ _)) × (sent ≡ all ∷ []) × IsMerged by_seq taken all
 IsWorkOf Spreads taken sent = (all : List (Load _ _)) × (taken ≡ all ∷ []) × AreSpread (map (map load_seen) sent) (map load_seen all)
 IsWorkOf MakesOthers taken sent = map stretches taken ≡ map stretches sent
+IsWorkOf KeepsAll taken sent = sent ≡ []
+IsWorkOf GivesOwn taken sent = taken ≡ []
 
 -- the receipts of all ends of a task, in order of lanes: what it sent is what it took
 pub record AreReceipts {R S K J : Type 0} (taken_home : R → TableId) (taken_lane : R → LaneId) (all_taken : R → List (Load K J)) (sent_home : S → TableId) (sent_lane : S → LaneId) (all_sent : S → List (Load K J)) (seen : TaskSeen) (taken : List R) (sent : List S) : Type 0 where

@@ -98,6 +98,8 @@ impl<L: Tokens + Lanes<Load<<L as Tokens>::Token, J>>, J: LoadJob<<L as Tokens>:
     ghost can_step = { λ id task. IsPassing ⟦<Load<L::Token, J> as Message>⟧.suits id.lane_table (L.Receiver.home task.passing.from) (L.Board.id task.passing.to.board.value).lane_table (L.Receiver.job task.passing.from) task.passing.to.job.value (L.Receiver.taken task.passing.from) (sent_values task.passing.to.log.seat.me.0) task.passing.held
         × HoldsTokensOf J.holds L.token_home (L.Receiver.job task.passing.from) id.group_table × (token_of task.passing.held ≡ None) };
 
+    ghost leaves = { λ task receipts. Unit {0} };
+
     ghost fails = { λ task fault. ⊥ };
 
     ghost is_done = { λ task. (L.Receiver.is_whole task.passing.from ≡ true) × (task.passing.held ≡ None) };

@@ -155,6 +155,8 @@ impl<L: Tokens + Lanes<Load<<L as Tokens>::Token, J>>, J: LoadJob<<L as Tokens>:
         × HoldsTokensOf J.holds L.token_home (L.Receiver.job task.passing.from) id.group_table × (L.group_home task.group ≡ id.group_table)
         × (task.waits ≡ false → task.passing.held ≡ None → L.parts task.group ≡ 2 ^ 62) × (task.waits ≡ true → task.passing.held ≡ None) };
 
+    ghost leaves = { λ task receipts. Unit {0} };
+
     ghost fails = { λ task fault. ⊥ };
 
     ghost is_done = { λ task. (L.Receiver.is_whole task.passing.from ≡ true) × (task.passing.held ≡ None) };

@@ -102,6 +102,8 @@ impl<L: Tokens + Lanes<Load<<L as Tokens>::Token, J>>, J: LoadJob<<L as Tokens>:
         × HoldsTokensOf J.holds L.token_home (L.Receiver.job task.passing.from) id.group_table × IfSome task.token (λ token. L.token_home token ≡ id.group_table)
         × KeepsToken (L.Receiver.taken task.passing.from) task.passing.held task.token };
 
+    ghost leaves = { λ task receipts. Unit {0} };
+
     ghost fails = { λ task fault. ⊥ };
 
     ghost is_done = { λ task. (L.Receiver.is_whole task.passing.from ≡ true) × (task.passing.held ≡ None) };

@@ -73,6 +73,8 @@ impl<L: Tokens + Lanes<Load<<L as Tokens>::Token, J>>, J: LoadJob<<L as Tokens>:
         × IfSome task.held (⟦<Load<L::Token, J> as Message>⟧.suits task.from.job.value)
         × IsMerging ⟦<Load<L::Token, J> as Ord>⟧.cmp (⟦<Load<L::Token, J> as Message>⟧.suits task.from.job.value) (map L.Receiver.taken task.from.receivers.items) task.from.held.items task.from.from task.from.to (L.Sender.sent task.to ++ held_list task.held) };
 
+    ghost leaves = { λ task receipts. Unit {0} };
+
     ghost fails = { λ task fault. ⊥ };
 
     ghost is_done = { λ task. (task.from.ended ≡ true) × IsMerged ⟦<Load<L::Token, J> as Ord>⟧.cmp (map L.Receiver.taken task.from.receivers.items) (L.Sender.sent task.to) };

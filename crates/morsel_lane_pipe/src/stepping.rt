@@ -34,7 +34,7 @@ impl<T: Drop> Stepping<T> {
     where
         T: Stepwise<B>,
         requires can_step { Has self.old.task (T.can_step (B.id cx.old.board)) }
-        ensures again { IsOn (T.can_step (B.id cx.old.board)) T.seen T.fails self.old.task self.new.task }
+        ensures again { IsOn (T.can_step (B.id cx.old.board)) T.seen T.fails T.leaves self.old.task self.new.task }
         ensures failed { IfReady result (λ ending. (fault : Fault) → ending ≡ Some (Ending.Failed fault) → Has self.old.task (λ task. T.fails task fault)) }
         ensures done { IfReady result (λ ending. ending ≡ Some Ending.Whole → Has self.new.task T.is_done) }
         ensures met { IfReady result (λ ending. ending ≡ Some Ending.Cut → Has self.new.task (T.met_cut cx.new.board)) }
@@ -56,7 +56,7 @@ impl<T: Drop> Stepping<T> {
         T: Stepwise<B>,
         requires can_step { Has self.old.task (T.can_step (B.id cx.old.board)) }
         requires done { ending ≡ Ending.Whole → Has self.old.task T.is_done }
-        ensures gives { Has self.old.task (λ task. IfWhole result (T.gives (T.seen task))) }
+        ensures gives { Has self.old.task (λ task. IfWhole result (T.gives (T.seen task)) × IfWhole result (T.leaves task)) }
         ensures cut { Has self.old.task (λ task. UnlessWhole result (T.has_cut cx.new.board (T.seen task))) }
         ensures asked { OnCut result (ending ≡ Ending.Cut) }
         ensures failed { IfFailed result (λ fault. ending ≡ Ending.Failed fault) }
@@ -97,7 +97,7 @@ impl<B: Board, T: Stepwise<B> + Drop> Task<B> for Stepping<T> {
 
     ghost can_poll = { λ id stepping. Has stepping.task (T.can_step id) };
 
-    ghost gives = { λ stepping out. Has stepping.task (λ task. IfWhole out (T.gives (T.seen task)) × IfFailed out (T.fails task)) };
+    ghost gives = { λ stepping out. Has stepping.task (λ task. IfWhole out (T.gives (T.seen task)) × IfFailed out (T.fails task) × IfWhole out (T.leaves task)) };
 
     ghost waits = { λ me board before stepping. Has stepping.task (T.waits me board) };
 
@@ -107,12 +107,12 @@ impl<B: Board, T: Stepwise<B> + Drop> Task<B> for Stepping<T> {
 
     fn poll(&mut self, cx: &mut Cx<B>) -> Poll<PipeOut<T::Receipts>>
         requires can_poll { Has self.old.task (T.can_step (B.id cx.old.board)) }
-        ensures ready { IfReady result (λ out. Has self.old.task (λ task. IfWhole out (T.gives (T.seen task)) × IfFailed out (T.fails task))) }
+        ensures ready { IfReady result (λ out. Has self.old.task (λ task. IfWhole out (T.gives (T.seen task)) × IfFailed out (T.fails task) × IfWhole out (T.leaves task))) }
         // A task that does not end whole has cut its ends; and it tells of a cut only where it met one.
         ensures cut { IfReady result (λ out. Has self.old.task (λ task. UnlessWhole out (T.has_cut cx.new.board (T.seen task)))) }
         ensures met { IfReady result (λ out. Has self.old.task (λ task. OnCut out ((last : T) × (T.seen last ≡ T.seen task) × OnEarlierEnd B.waits_at cx.new.board cx.new.wakes (λ board. T.met_cut board last)))) }
         ensures again { OnPending result (Has self.new.task (T.can_step (B.id cx.old.board))) }
-        ensures gives { OnPending result ((out : PipeOut T.Receipts) → Has self.new.task (λ task. IfWhole out (T.gives (T.seen task)) × IfFailed out (T.fails task)) → Has self.old.task (λ task. IfWhole out (T.gives (T.seen task)) × IfFailed out (T.fails task))) }
+        ensures gives { OnPending result ((out : PipeOut T.Receipts) → Has self.new.task (λ task. IfWhole out (T.gives (T.seen task)) × IfFailed out (T.fails task) × IfWhole out (T.leaves task)) → Has self.old.task (λ task. IfWhole out (T.gives (T.seen task)) × IfFailed out (T.fails task) × IfWhole out (T.leaves task))) }
         ensures waits { OnPending result ((has_number cx.new.wakes.numbers cx.old.me.0 ≡ true) ⊎ Has self.new.task (T.waits cx.old.me cx.new.board)) }
         ensures keeps_waiting { KeepsOthersWaiting (places_if self.old.task (λ task. (T.seen task).places)) cx.old.me (B.waits_at cx.old.board) (B.waits_at cx.new.board) cx.new.wakes }
         ensures same_places { OnPending result (places_if self.new.task (λ task. (T.seen task).places) ≡ places_if self.old.task (λ task. (T.seen task).places)) }

@@ -47,6 +47,9 @@ pub trait Stepwise<B: Board> {
     /// A task that is seen so may end with these receipts.
     ghost gives: { TaskSeen → Self.Receipts → Type 0 };
 
+    /// It may end with these receipts, by more than what is seen of it.
+    ghost leaves: { Self → Self.Receipts → Type 0 };
+
     /// It may end with this fault.
     ghost fails: { Self → Fault → Type 0 };
 
@@ -59,6 +62,7 @@ pub trait Stepwise<B: Board> {
         ensures again { can_step (B.id cx.old.board) self.new }
         ensures same { seen self.new ≡ seen self.old }
         ensures same_faults { (fault : Fault) → fails self.new fault → fails self.old fault }
+        ensures same_leaves { (receipts : Self.Receipts) → leaves self.new receipts → leaves self.old receipts }
         ensures failed { IfReady result (λ ending. (fault : Fault) → ending ≡ Some (Ending.Failed fault) → fails self.old fault) }
         ensures done { IfReady result (λ ending. ending ≡ Some Ending.Whole → is_done self.new) }
         ensures met { IfReady result (λ ending. ending ≡ Some Ending.Cut → met_cut cx.new.board self.new) }
@@ -73,6 +77,7 @@ pub trait Stepwise<B: Board> {
         requires can_step { can_step (B.id cx.old.board) self }
         requires done { is_done self }
         ensures gives { gives (seen self) result }
+        ensures leaves { leaves self result }
         ensures keeps_waiting { KeepsWaiting (B.waits_at cx.old.board) (B.waits_at cx.new.board) cx.new.wakes }
         ensures same_board { B.id cx.new.board ≡ B.id cx.old.board }
         ensures same_task { cx.new.me ≡ cx.old.me }

@@ -53,6 +53,8 @@ impl<L: Tokens + Lanes<Load<<L as Tokens>::Token, J>>, J: LoadJob<<L as Tokens>:
 
     ghost can_step = { λ id work. ByWork work (⟦<Merging<L, J> as Stepwise<L::Board>>⟧.can_step id) (⟦<Inserting<L, J> as Stepwise<L::Board>>⟧.can_step id) (⟦<Distributing<L, J> as Stepwise<L::Board>>⟧.can_step id) (⟦<HandingOn<L, J> as Stepwise<L::Board>>⟧.can_step id) };
 
+    ghost leaves = { λ work receipts. Unit {0} };
+
     ghost fails = { λ work fault. ByWork work (λ task. ⟦<Merging<L, J> as Stepwise<L::Board>>⟧.fails task fault) (λ task. ⟦<Inserting<L, J> as Stepwise<L::Board>>⟧.fails task fault) (λ task. ⟦<Distributing<L, J> as Stepwise<L::Board>>⟧.fails task fault) (λ task. ⟦<HandingOn<L, J> as Stepwise<L::Board>>⟧.fails task fault) };
 
     ghost is_done = { λ work. ByWork work ⟦<Merging<L, J> as Stepwise<L::Board>>⟧.is_done ⟦<Inserting<L, J> as Stepwise<L::Board>>⟧.is_done ⟦<Distributing<L, J> as Stepwise<L::Board>>⟧.is_done ⟦<HandingOn<L, J> as Stepwise<L::Board>>⟧.is_done };

@@ -1,0 +1,2 @@
+-- What the units of nodes that make several loads of one keep.
+pub mod FlatUnits
