@@ -15,7 +15,7 @@ use morsel_sink::SinkWriter;
 use std::sync::ledger::Ledger;
 
 /// How many sweeps in a row may bring a run no further: no byte more was given, and none more has all its rows written.
-const IDLE_SWEEPS: u64 = 512;
+pub const IDLE_SWEEPS: u64 = 512;
 
 /// What the caller holds of the input.
 #[derive(Debug, Drop)]
@@ -112,7 +112,7 @@ fn write_on<H: Io, L: Line>(
 }
 
 /// Reads a piece where none is held and fewer than `bound` bytes were given and are not written.
-fn read_on<H: Io, J: LineJob, S: PieceSource<H, J>>(
+pub fn read_on<H: Io, J: LineJob, S: PieceSource<H, J>>(
     io: &mut H,
     reader: &mut S,
     written: &Written,
@@ -149,7 +149,7 @@ fn read_on<H: Io, J: LineJob, S: PieceSource<H, J>>(
 }
 
 /// Feeds the piece that is held, where the line has room; closes the line at the end of the input.
-fn feed_on<L: Line>(line: &mut L, input: Input) -> Input
+pub fn feed_on<L: Line>(line: &mut L, input: Input) -> Input
     requires fits { HoldsFitting input }
     requires told { (job : L.Job) → L.told line.old job → HoldsPieceOf (L.Job.is_piece job) input }
     ensures told { (job : L.Job) → L.told line.new job → L.told line.old job }
@@ -193,13 +193,15 @@ fn end<H: Io>(
 
 /// How far a run has come, by the bytes that were given and those of which all rows are written, and how many sweeps ago.
 #[derive(Clone, Copy, Debug)]
-struct Reached {
-    furthest: u64,
-    idle: u64,
+pub struct Reached {
+    /// The furthest place: how many bytes were given, and how many of those have all rows written, together.
+    pub furthest: u64,
+    /// How many sweeps in a row did not bring the run further.
+    pub idle: u64,
 }
 
 /// How far a run has come after a sweep more, which brought it to this place.
-fn after_sweep(place: u64, before: Reached) -> Reached
+pub fn after_sweep(place: u64, before: Reached) -> Reached
     requires going_on { before.idle < 512 }
     ensures counted { 512 * before.furthest + before.idle + 1 ≤ 512 * result.furthest + result.idle }
     ensures idle { result.idle ≤ 512 }

@@ -1,11 +1,13 @@
 //! The caller of a line of tasks: it reads the pieces of a scan, feeds them, and writes what comes out.
 //!
-//! `line` has what it asks of a reader and of a line, `written` how far the text is, and `caller` the loop.
+//! `line` has what it asks of a reader and of a line, `written` how far the text is, and `caller` the loop and its parts, of which
+//! other loops are made.
 #![tactic(auto)]
 
 mod caller;
 mod line;
 mod written;
 
-pub use caller::drive;
+pub use caller::{IDLE_SWEEPS, Input, Reached, after_sweep, drive, feed_on, read_on};
 pub use line::{Line, LineJob, PieceSource, Taken};
+pub use written::Written;
