@@ -112,6 +112,8 @@ where
         ensures token { IfSome self.new.token (λ t. L.token_home t ≡ (L.Board.id cx.old.board).group_table) }
         ensures later { M.is_later self.old.maker self.new.maker }
         ensures lost { result ≡ None → self.new.lost ≡ false }
+        // The token is released, and not only let go: who waits for it goes on.
+        ensures released { IfSome self.old.token (λ t. self.new.token ≡ None → L.counted_less cx.old.board cx.new.board t) }
         ensures failed { IfSome result (λ ending. (fault : Fault) × (ending ≡ Ending.Failed fault) × M.may_fail (L.Receiver.job self.old.from) fault) }
         ensures keeps_waiting { KeepsWaiting (L.Board.waits_at cx.old.board) (L.Board.waits_at cx.new.board) cx.new.wakes }
         ensures same_board { L.Board.id cx.new.board ≡ L.Board.id cx.old.board }

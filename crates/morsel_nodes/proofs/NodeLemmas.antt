@@ -98,18 +98,18 @@ stretches_each loads [] = refl
 stretches_each loads (receipt ∷ receipts) = ap (λ x. x ∷ map stretches (map loads receipts)) (stretches_seen (loads receipt)) ∙ ap (λ xs. seen_stretches (map load_seen (loads receipt)) ∷ xs) (stretches_each loads receipts)
 
 -- what a unit that ended whole has sent ends the stretches of what it took
-pub made_by : {T R S K J : Type 0} (taken_home : R → TableId) (taken_lane : R → LaneId) (all_taken : R → List (Load K J)) (sent_home : S → TableId) (sent_lane : S → LaneId) (all_sent : S → List (Load K J)) (seen : T → TaskSeen) (fails : T → Fault → Type 0)
+pub made_by : {T R S K J : Type 0} (taken_home : R → TableId) (taken_lane : R → LaneId) (all_taken : R → List (Load K J)) (sent_home : S → TableId) (sent_lane : S → LaneId) (all_sent : S → List (Load K J)) (seen : T → TaskSeen) (fails : T → Fault → Type 0) (leaves : T → Receipts R S → Type 0)
     → ((t : T) → (seen t).work ≡ MakesOthers) → (task : Option T) (out : PipeOut (Receipts R S))
-    → Has task (λ t. IfWhole out (λ receipts. AreReceipts taken_home taken_lane all_taken sent_home sent_lane all_sent (seen t) receipts.taken.items receipts.sent.items) × IfFailed out (fails t))
+    → Has task (λ t. IfWhole out (λ receipts. AreReceipts taken_home taken_lane all_taken sent_home sent_lane all_sent (seen t) receipts.taken.items receipts.sent.items) × IfFailed out (fails t) × IfWhole out (leaves t))
     → IfEndedWhole (end_of_out out) (λ taken sent. map seen_stretches (map (λ receipt. map load_seen (all_taken receipt)) taken) ≡ map seen_stretches (map (λ receipt. map load_seen (all_sent receipt)) sent))
-made_by taken_home taken_lane all_taken sent_home sent_lane all_sent seen fails makes None out h = absurd h
-made_by taken_home taken_lane all_taken sent_home sent_lane all_sent seen fails makes (Some t) (Whole receipts) h =
+made_by taken_home taken_lane all_taken sent_home sent_lane all_sent seen fails leaves makes None out h = absurd h
+made_by taken_home taken_lane all_taken sent_home sent_lane all_sent seen fails leaves makes (Some t) (Whole receipts) h =
     sym (stretches_each all_taken receipts.taken.items)
     ∙ subst (λ (role : PipeRole). IsWorkOf role (map all_taken receipts.taken.items) (map all_sent receipts.sent.items)) (makes t) h.0.work
     ∙ stretches_each all_sent receipts.sent.items
-made_by taken_home taken_lane all_taken sent_home sent_lane all_sent seen fails makes (Some t) Cut h = tt
-made_by taken_home taken_lane all_taken sent_home sent_lane all_sent seen fails makes (Some t) OutOfMemory h = tt
-made_by taken_home taken_lane all_taken sent_home sent_lane all_sent seen fails makes (Some t) (Failed fault) h = tt
+made_by taken_home taken_lane all_taken sent_home sent_lane all_sent seen fails leaves makes (Some t) Cut h = tt
+made_by taken_home taken_lane all_taken sent_home sent_lane all_sent seen fails leaves makes (Some t) OutOfMemory h = tt
+made_by taken_home taken_lane all_taken sent_home sent_lane all_sent seen fails leaves makes (Some t) (Failed fault) h = tt
 
 -- a unit may end by the faults of the node
 pub fails_from : {J : Type 0} (may_fail : J → Fault → Type 0) (jobs : List J) (job : J) (fault : Fault) → jobs ≡ job ∷ [] → MayFail may_fail job fault → (fault ≡ faults.OutOfMemory) ⊎ ((first : J) × (jobs ≡ first ∷ []) × may_fail first fault)

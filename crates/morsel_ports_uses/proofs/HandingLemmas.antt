@@ -67,17 +67,17 @@ seen-each loads seen [] = refl
 seen-each loads seen (receipt ∷ receipts) = ap (λ more. map seen (loads receipt) ∷ more) (seen-each loads seen receipts)
 
 -- a task that hands on has sent what it took
-pub handed_on : {T R S K J : Type 0} (taken_home : R → TableId) (taken_lane : R → LaneId) (all_taken : R → List (Load K J)) (sent_home : S → TableId) (sent_lane : S → LaneId) (all_sent : S → List (Load K J)) (seen : T → TaskSeen) (fails : T → Fault → Type 0) (out : PipeOut (Receipts R S)) (task : Option T)
+pub handed_on : {T R S K J : Type 0} (taken_home : R → TableId) (taken_lane : R → LaneId) (all_taken : R → List (Load K J)) (sent_home : S → TableId) (sent_lane : S → LaneId) (all_sent : S → List (Load K J)) (seen : T → TaskSeen) (fails : T → Fault → Type 0) (leaves : T → Receipts R S → Type 0) (out : PipeOut (Receipts R S)) (task : Option T)
     → ((one : T) → (seen one).work ≡ HandsOn)
-    → Has task (λ one. IfWhole out (λ receipts. AreReceipts taken_home taken_lane all_taken sent_home sent_lane all_sent (seen one) receipts.taken.items receipts.sent.items) × IfFailed out (fails one))
+    → Has task (λ one. IfWhole out (λ receipts. AreReceipts taken_home taken_lane all_taken sent_home sent_lane all_sent (seen one) receipts.taken.items receipts.sent.items) × IfFailed out (fails one) × IfWhole out (leaves one))
     → IfEndedWhole (end_of_out out) (λ taken sent. map (λ receipt. map load_seen (all_taken receipt)) taken ≡ map (λ receipt. map load_seen (all_sent receipt)) sent)
-handed_on taken_home taken_lane all_taken sent_home sent_lane all_sent seen fails out None hands gives = absurd gives
-handed_on taken_home taken_lane all_taken sent_home sent_lane all_sent seen fails (Whole receipts) (Some one) hands gives =
+handed_on taken_home taken_lane all_taken sent_home sent_lane all_sent seen fails leaves out None hands gives = absurd gives
+handed_on taken_home taken_lane all_taken sent_home sent_lane all_sent seen fails leaves (Whole receipts) (Some one) hands gives =
     let same = subst (λ work. IsWorkOf work (map all_taken receipts.taken.items) (map all_sent receipts.sent.items)) (hands one) gives.0.work in
     sym (seen-each all_taken load_seen receipts.taken.items) ∙ same ∙ seen-each all_sent load_seen receipts.sent.items
-handed_on taken_home taken_lane all_taken sent_home sent_lane all_sent seen fails Cut (Some one) hands gives = tt
-handed_on taken_home taken_lane all_taken sent_home sent_lane all_sent seen fails OutOfMemory (Some one) hands gives = tt
-handed_on taken_home taken_lane all_taken sent_home sent_lane all_sent seen fails (Failed fault) (Some one) hands gives = tt
+handed_on taken_home taken_lane all_taken sent_home sent_lane all_sent seen fails leaves Cut (Some one) hands gives = tt
+handed_on taken_home taken_lane all_taken sent_home sent_lane all_sent seen fails leaves OutOfMemory (Some one) hands gives = tt
+handed_on taken_home taken_lane all_taken sent_home sent_lane all_sent seen fails leaves (Failed fault) (Some one) hands gives = tt
 
 -- a unit that is one task may go on, and is of the task's lanes
 pub one-can_poll : {U T : Type 0} (work : U → Option T) (can : T → Type 0) (units : List U) (unit : U) (task : T) → units ≡ unit ∷ [] → work unit ≡ Some task → can task → All (λ one. Has (work one) can) units

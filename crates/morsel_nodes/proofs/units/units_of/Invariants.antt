@@ -24,8 +24,8 @@ module _ (g : Over) where
   suits job load = g.J.LoadJob.suits job (load_seen load) × IfSome (held_token load) (g.J.LoadJob.holds job)
 
   abbrev pub can_step : BoardId → TheUnit → Type 0
-  can_step id task = IsUnit suits g.W.Maker.LoadMaker.joins id.lane_table (g.L.Receiver.LaneReceiver.home task.from) (g.L.Sender.LaneSender.home task.to) task.maker (g.L.Receiver.LaneReceiver.job task.from) (g.L.Sender.LaneSender.job task.to)
-      (g.L.Receiver.LaneReceiver.taken task.from) (g.L.Sender.LaneSender.sent task.to) task.held task.lost
+  can_step id task = IsUnit suits g.W.Maker.LoadMaker.joins id.lane_table (g.L.Receiver.LaneReceiver.home task.from) (g.L.Sender.LaneSender.home task.sending.to) task.maker (g.L.Receiver.LaneReceiver.job task.from) (g.L.Sender.LaneSender.job task.sending.to)
+      (g.L.Receiver.LaneReceiver.taken task.from) (g.L.Sender.LaneSender.sent task.sending.to) task.sending.held task.lost
       × HoldsTokensOf g.J.LoadJob.holds g.L.Tokens.token_home (g.L.Receiver.LaneReceiver.job task.from) id.group_table
 
   abbrev pub task_seen : TheUnit → TaskSeen
@@ -33,8 +33,8 @@ module _ (g : Over) where
     work = MakesOthers;
     home = g.L.Receiver.LaneReceiver.home task.from;
     from = g.L.Receiver.LaneReceiver.lane task.from ∷ [];
-    to = g.L.Sender.LaneSender.lane task.to ∷ [];
-    places = g.L.Receiver.LaneReceiver.wait_places task.from ++ g.L.Sender.LaneSender.wait_places task.to;
+    to = g.L.Sender.LaneSender.lane task.sending.to ∷ [];
+    places = g.L.Receiver.LaneReceiver.wait_places task.from ++ g.L.Sender.LaneSender.wait_places task.sending.to;
   }
 
   abbrev pub fails : TheUnit → Fault → Type 0

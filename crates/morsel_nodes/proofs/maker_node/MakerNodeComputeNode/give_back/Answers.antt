@@ -15,8 +15,8 @@ module _ (g : Over) where
     work = MakesOthers;
     home = g.L.Receiver.LaneReceiver.home task.from;
     from = g.L.Receiver.LaneReceiver.lane task.from ∷ [];
-    to = g.L.Sender.LaneSender.lane task.to ∷ [];
-    places = g.L.Receiver.LaneReceiver.wait_places task.from ++ g.L.Sender.LaneSender.wait_places task.to;
+    to = g.L.Sender.LaneSender.lane task.sending.to ∷ [];
+    places = g.L.Receiver.LaneReceiver.wait_places task.from ++ g.L.Sender.LaneSender.wait_places task.sending.to;
   }
 
   abbrev fails : TheUnit → Fault → Type 0
@@ -25,4 +25,4 @@ module _ (g : Over) where
 pub returns-in-Whole-clause-made : goal.returns-in-Whole-clause-made
 returns-in-Whole-clause-made g c unit is gives =
     made_by g.L.Receiver.LaneReceiver.receipt_home g.L.Receiver.LaneReceiver.receipt_lane g.L.Receiver.LaneReceiver.all_taken g.L.Sender.LaneSender.receipt_home g.L.Sender.LaneSender.receipt_lane g.L.Sender.LaneSender.all_sent
-    (task_seen g) (fails g) (λ task. refl) unit.task c.args.out gives
+    (task_seen g) (fails g) (λ task receipts. Unit {0}) (λ task. refl) unit.task c.args.out gives

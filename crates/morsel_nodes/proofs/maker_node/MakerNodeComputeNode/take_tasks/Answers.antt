@@ -26,8 +26,8 @@ module _ (g : Over) where
     work = MakesOthers;
     home = g.L.Receiver.LaneReceiver.home task.from;
     from = g.L.Receiver.LaneReceiver.lane task.from ∷ [];
-    to = g.L.Sender.LaneSender.lane task.to ∷ [];
-    places = g.L.Receiver.LaneReceiver.wait_places task.from ++ g.L.Sender.LaneSender.wait_places task.to;
+    to = g.L.Sender.LaneSender.lane task.sending.to ∷ [];
+    places = g.L.Receiver.LaneReceiver.wait_places task.from ++ g.L.Sender.LaneSender.wait_places task.sending.to;
   }
 
   abbrev new_from : TableId → g.row.J.Denot → g.row.L-Receiver.Denot → Type 0

@@ -1,0 +1,16 @@
+use Rattle.std.proofs.Common.{◌≡◌, ◌++◌, ◌∷◌, [], ap, ◌∙◌, append-nil}
+use Rattle.std.specs.Vec.Iter.{into_iter_items}
+use Rattle.morsel_stage.proofs.SpawnLemmas.{list_more}
+use Rattle.morsel_pair.specs.declared.two_of.TwoOf.TheVariants.{First}
+use Rattle.morsel_pair.specs.Pairs.{firsts_of_two, seconds_of_two}
+use Rattle.morsel_pair.proofs.PairLemmas.{two_firsts_more, two_seconds_more}
+use Rattle.morsel_pair.proofs.spawn_each.as_firsts.Goals as goal
+
+pub tasks-preserved : goal.tasks-preserved
+tasks-preserved g c =
+    let left = into_iter_items c.next.new.self in
+    let are = c.in_ok-push.ensures.items in
+    record {
+      each = list_more (firsts_of_two c.tasks.tasks.items) (firsts_of_two c.push.new.self.items) (into_iter_items c.tasks.task-iterator) left (firsts_of_two c.args.tasks.now.items) c.args.more.items c.in-Some.task c.in-Some.ensures.steps.0 (ap firsts_of_two are ∙ two_firsts_more c.tasks.tasks.items (First c.in-Some.task ∷ [])) c.tasks.invariant.each;
+      same_others = ap seconds_of_two are ∙ two_seconds_more c.tasks.tasks.items (First c.in-Some.task ∷ []) ∙ append-nil (seconds_of_two c.tasks.tasks.items) ∙ c.tasks.invariant.same_others;
+    }

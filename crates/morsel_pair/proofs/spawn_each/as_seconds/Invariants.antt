@@ -1,0 +1,10 @@
+use Rattle.std.proofs.Common.{◌≡◌, ◌++◌}
+use Rattle.std.specs.Vec.Iter.{into_iter_items}
+use Rattle.morsel_pair.specs.Pairs.{firsts_of_two, seconds_of_two}
+use Rattle.morsel_pair.proofs.spawn_each.as_seconds.Given as goal
+
+abbrev pub invariant-tasks : goal.invariant-tasks
+invariant-tasks g l = record {
+  each : seconds_of_two l.tasks.items ++ into_iter_items l.task-iterator ≡ seconds_of_two l.fn.tasks.items ++ l.fn.more.items;
+  same_others : firsts_of_two l.tasks.items ≡ firsts_of_two l.fn.tasks.items;
+}

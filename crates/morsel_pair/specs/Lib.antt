@@ -1,0 +1,2 @@
+-- Tasks of two kinds as one.
+pub mod Pairs
