@@ -22,7 +22,7 @@ module _ {T R : Type 0} (can : T → Type 0) (seen : T → TaskSeen) (fails : T 
   on-next begun mid None first second = absurd second
   on-next begun None (Some now) first second = absurd first
   on-next None (Some mid) (Some now) first second = absurd first.1
-  on-next (Some begun) (Some mid) (Some now) first second = (second.0, (second.1.0 ∙ first.1.0, (λ fault has. first.1.1.0 fault (second.1.1.0 fault has)), (λ receipts has. first.1.1.1 receipts (second.1.1.1 receipts has))))
+  on-next (Some begun) (Some mid) (Some now) first second = (second.0, (second.1.0 ∙ first.1.0, (λ fault has. first.1.1 fault (second.1.1 fault has)), (λ receipts has. first.1.2 receipts (second.1.2 receipts has))))
 
   pub on-can : (begun now : Option T) → IsOn can seen fails leaves begun now → Has now can
   on-can begun None on = absurd on
@@ -38,7 +38,7 @@ module _ {T R : Type 0} (can : T → Type 0) (seen : T → TaskSeen) (fails : T 
   pub on-fault : (begun now : Option T) (fault : Fault) → IsOn can seen fails leaves begun now → Has now (λ task. fails task fault) → Has begun (λ task. fails task fault)
   on-fault begun None fault on is = absurd on
   on-fault None (Some now) fault on is = absurd on.1
-  on-fault (Some begun) (Some now) fault on is = on.1.1.0 fault is
+  on-fault (Some begun) (Some now) fault on is = on.1.1 fault is
 
   pub on-places : (begun now : Option T) → IsOn can seen fails leaves begun now → places_if now (λ task. (seen task).places) ≡ places_if begun (λ task. (seen task).places)
   on-places begun None on = absurd on
@@ -64,7 +64,7 @@ module _ {T R : Type 0} (can : T → Type 0) (seen : T → TaskSeen) (fails : T 
   pub on-leaves : (out : PipeOut R) (begun now : Option T) → IsOn can seen fails leaves begun now → Has now (λ task. IfWhole out (leaves task)) → Has begun (λ task. IfWhole out (leaves task))
   on-leaves out begun None on is = absurd on
   on-leaves out None (Some now) on is = absurd on.1
-  on-leaves (Whole receipts) (Some begun) (Some now) on is = on.1.1.1 receipts is
+  on-leaves (Whole receipts) (Some begun) (Some now) on is = on.1.2 receipts is
   on-leaves Cut (Some begun) (Some now) on is = tt
   on-leaves OutOfMemory (Some begun) (Some now) on is = tt
   on-leaves (Failed fault) (Some begun) (Some now) on is = tt
@@ -75,7 +75,7 @@ module _ {T R : Type 0} (can : T → Type 0) (seen : T → TaskSeen) (fails : T 
   on-ready gives out how begun mid None first second given told fault = absurd second
   on-ready gives out how begun None (Some now) first second given told fault = absurd first
   on-ready gives out how None (Some mid) (Some now) first second given told fault = absurd first.1
-  on-ready gives (Whole receipts) how (Some begun) (Some mid) (Some now) first second given told fault = (subst (λ s. gives s receipts) (second.1.0 ∙ first.1.0) given.0, tt, first.1.1.1 receipts (second.1.1.1 receipts given.1))
+  on-ready gives (Whole receipts) how (Some begun) (Some mid) (Some now) first second given told fault = (subst (λ s. gives s receipts) (second.1.0 ∙ first.1.0) given.0, tt, first.1.2 receipts (second.1.2 receipts given.1))
   on-ready gives Cut how (Some begun) (Some mid) (Some now) first second given told fault = (tt, tt, tt)
   on-ready gives OutOfMemory how (Some begun) (Some mid) (Some now) first second given told fault = (tt, tt, tt)
-  on-ready gives (Failed what) how (Some begun) (Some mid) (Some now) first second given told fault = (tt, first.1.1.0 what (fault what (ap Some told)), tt)
+  on-ready gives (Failed what) how (Some begun) (Some mid) (Some now) first second given told fault = (tt, first.1.1 what (fault what (ap Some told)), tt)
