@@ -1,5 +1,5 @@
 -- Tasks of two kinds, one after the other.
-use Rattle.std.proofs.Common.{◌≡◌, All, List, [], ◌∷◌, ◌++◌, refl, ap, sym, subst, ◌∙◌}
+use Rattle.std.proofs.Common.{◌≡◌, List, [], ◌∷◌, ◌++◌, refl, ap, sym, subst, ◌∙◌}
 use Rattle.morsel_pair.specs.declared.two_of.TwoOf.{TwoOf}
 use Rattle.morsel_pair.specs.declared.two_of.TwoOf.TheVariants.{First, Second}
 use Rattle.morsel_pair.specs.Pairs.{ByEithers, firsts_of_two, seconds_of_two}

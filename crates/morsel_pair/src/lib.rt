@@ -2,9 +2,9 @@
 #![tactic(auto)]
 
 mod pair_stage;
-mod spawn_each;
+mod spawn;
 mod two_of;
 
 pub use pair_stage::PairStage;
-pub use spawn_each::{as_firsts, as_seconds, spawn_each};
+pub use spawn::{as_firsts, as_seconds, spawn_each};
 pub use two_of::TwoOf;

@@ -1,10 +1,10 @@
-use Rattle.std.proofs.Common.{◌≡◌, ◌++◌, ◌∷◌, [], ap, ◌∙◌, append-nil}
+use Rattle.std.proofs.Common.{◌∷◌, [], ap, ◌∙◌, append-nil}
 use Rattle.std.specs.Vec.Iter.{into_iter_items}
 use Rattle.morsel_stage.proofs.SpawnLemmas.{list_more}
 use Rattle.morsel_pair.specs.declared.two_of.TwoOf.TheVariants.{First}
 use Rattle.morsel_pair.specs.Pairs.{firsts_of_two, seconds_of_two}
 use Rattle.morsel_pair.proofs.PairLemmas.{two_firsts_more, two_seconds_more}
-use Rattle.morsel_pair.proofs.spawn_each.as_firsts.Goals as goal
+use Rattle.morsel_pair.proofs.spawn.as_firsts.Goals as goal
 
 pub tasks-preserved : goal.tasks-preserved
 tasks-preserved g c =

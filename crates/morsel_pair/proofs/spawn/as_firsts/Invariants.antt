@@ -1,7 +1,7 @@
 use Rattle.std.proofs.Common.{◌≡◌, ◌++◌}
 use Rattle.std.specs.Vec.Iter.{into_iter_items}
 use Rattle.morsel_pair.specs.Pairs.{firsts_of_two, seconds_of_two}
-use Rattle.morsel_pair.proofs.spawn_each.as_firsts.Given as goal
+use Rattle.morsel_pair.proofs.spawn.as_firsts.Given as goal
 
 abbrev pub invariant-tasks : goal.invariant-tasks
 invariant-tasks g l = record {

@@ -2,7 +2,7 @@ use Rattle.std.proofs.Common.{◌≡◌, ◌++◌, ℕ, All}
 use Rattle.std.specs.Vec.Iter.{into_iter_items}
 use Rattle.morsel_stage.specs.Joined.{outputs_left}
 use Rattle.morsel_stage.specs.Unjoined.{unjoined}
-use Rattle.morsel_pair.proofs.spawn_each.spawn_each.Given as goal
+use Rattle.morsel_pair.proofs.spawn.spawn_each.Given as goal
 
 abbrev pub invariant-tasks : goal.invariant-tasks
 invariant-tasks g l = record {

@@ -1,5 +1,5 @@
 use Rattle.morsel_pair.proofs.PairLemmas.{two_first_back, two_first_owed, two_second_back, two_second_owed}
-use Rattle.morsel_pair.proofs.pair_stage.PairStageStageB.give_back.Goals as goal
+use Rattle.morsel_pair.proofs.pair_stage.PairStageStage.give_back.Goals as goal
 
 pub give_back-requires : goal.give_back-requires
 give_back-requires g c = record { owed = two_first_owed g.S.Task.Task.gives g.T.Task.Task.gives (g.S.Stage.owes c.args.self.now.first) c.requires.owed.0 c.requires.owed.1 c.requires.owed.2 c.args.out c.in-First.out c.in-First.is c.requires.owed.3.0 c.requires.owed.4 }

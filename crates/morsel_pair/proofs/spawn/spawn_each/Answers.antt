@@ -1,12 +1,12 @@
-use Rattle.std.proofs.Common.{◌≡◌, ◌++◌, ◌∷◌, [], All, ap, subst, ◌∙◌}
+use Rattle.std.proofs.Common.{All, ap, subst, ◌∙◌}
 use Rattle.std.proofs.lemmas.List.Elements.{All-tail}
 use Rattle.std.specs.Vec.Iter.{into_iter_items}
 use Rattle.morsel_local.specs.Sweeps.{LocalSeen}
 use Rattle.morsel_stage.specs.Unjoined.{unjoined}
 use Rattle.morsel_stage.proofs.SpawnLemmas.{left_spawned, list_more}
 use Rattle.morsel_stage.proofs.UnjoinedLemmas.{unjoined_spawned}
-use Rattle.morsel_pair.proofs.spawn_each.spawn_each.Given.{Over}
-use Rattle.morsel_pair.proofs.spawn_each.spawn_each.Goals as goal
+use Rattle.morsel_pair.proofs.spawn.spawn_each.Given.{Over}
+use Rattle.morsel_pair.proofs.spawn.spawn_each.Goals as goal
 
 module _ (g : Over) where
   abbrev Seen : Type 0
