@@ -79,7 +79,7 @@ fn after(written: Written, part: &Encoded, rows: u64) -> Written
 }
 
 /// Takes parts out and writes them until none is there; answers whether the line has ended.
-fn write_on<H: Io, L: Line>(
+pub fn write_on<H: Io, L: Line>(
     io: &mut H,
     line: &mut L,
     writer: &mut SinkWriter,
