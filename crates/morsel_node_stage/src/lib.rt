@@ -1,0 +1,10 @@
+//! Stages of a phase by themselves: a node with any ports, and the tasks of pipes.
+#![tactic(auto)]
+
+mod node_tasks;
+mod open_ports;
+mod pipe_tasks;
+
+pub use node_tasks::NodeTasks;
+pub use open_ports::{NodePorts, open_ports};
+pub use pipe_tasks::PipeTasks;
