@@ -8,8 +8,6 @@ mod caller;
 mod line;
 mod written;
 
-pub use caller::{
-    IDLE_SWEEPS, Input, Reached, after_sweep, drive, feed_on, read_on, write_on,
-};
+pub use caller::{IDLE_SWEEPS, Input, Reached, after_sweep, drive, feed_on, read_on, write_on};
 pub use line::{Line, LineJob, PieceSource, Taken};
 pub use written::Written;

@@ -34,10 +34,7 @@ pub fn spawn_each<B: Board + Drop, T: Task<B> + Drop>(
 }
 
 /// Adds tasks as those of the first kind.
-pub fn as_firsts<A: Drop, Z: Drop>(
-    tasks: &mut Vec<TwoOf<A, Z>>,
-    more: Vec<A>,
-) -> Result<(), Fault>
+pub fn as_firsts<A: Drop, Z: Drop>(tasks: &mut Vec<TwoOf<A, Z>>, more: Vec<A>) -> Result<(), Fault>
     ensures firsts { OnOk result (firsts_of_two tasks.new.items ≡ firsts_of_two tasks.old.items ++ more.items) }
     ensures same_seconds { seconds_of_two tasks.new.items ≡ seconds_of_two tasks.old.items }
     ensures out_of_memory { IsOkUnless result OutOfMemory }
@@ -49,10 +46,7 @@ pub fn as_firsts<A: Drop, Z: Drop>(
 }
 
 /// Adds tasks as those of the second kind.
-pub fn as_seconds<A: Drop, Z: Drop>(
-    tasks: &mut Vec<TwoOf<A, Z>>,
-    more: Vec<Z>,
-) -> Result<(), Fault>
+pub fn as_seconds<A: Drop, Z: Drop>(tasks: &mut Vec<TwoOf<A, Z>>, more: Vec<Z>) -> Result<(), Fault>
     ensures seconds { OnOk result (seconds_of_two tasks.new.items ≡ seconds_of_two tasks.old.items ++ more.items) }
     ensures same_firsts { firsts_of_two tasks.new.items ≡ firsts_of_two tasks.old.items }
     ensures out_of_memory { IsOkUnless result OutOfMemory }
