@@ -3,8 +3,6 @@ use Rattle.std.specs.Prelude.{◌≡◌, ℕ, Bool, true, false, Option, IfSome,
 use Rattle.atomic_table.specs.Seated.{TableId}
 use Rattle.morsel_load.specs.Loads.{LoadSeen, load_seen}
 use Rattle.morsel_load.specs.declared.load.Load.{Load}
-use Rattle.morsel_prims.specs.Polled.{held_list}
-use Rattle.morsel_lane_pipe.specs.Stretches.{stretches}
 use Rattle.morsel_flat_units.specs.FlatUnits.{made_loads}
 
 -- the unit's end is of this board's table; and unless a load was lost, its keeper keeps what was taken, which is of this job
