@@ -1,11 +1,13 @@
 //! What comes of sweeps over timers.
 ghost use Rattle.std.specs.Prelude.{◌≡◌};
 
+use crate::restless::Restless;
 use crate::timer::Timer;
 use crate::timers::Timers;
-use morsel_local::SpawnError;
+use morsel_local::{Local, SpawnError, Steps};
 use morsel_meaning::{Fault, TaskNo};
-use morsel_prims::{Message, PlainBoard};
+use morsel_outside::OpenGate;
+use morsel_prims::{Board, Message, PlainBoard};
 use std::alloc::Global;
 use std::marker::Brand;
 use std::sync::atomic::{AtomicU64, Ordering};
@@ -163,5 +165,67 @@ fn abandoned<Y: Ledger>(alloc: Global, blank: Blank) -> Result<u64, Fault>
 #[test]
 fn a_task_that_has_not_ended_is_abandoned(rt: HostRuntime) -> Result<(), Fail> {
     assert_eq!(rt; abandoned::<Brand>(rt.alloc(), Blank::new(1))?, 430);
+    Ok(())
+}
+
+/// A restless task by itself, with the count of its sweeps.
+#[derive(Drop)]
+struct Alone<'a, B: Board + Drop, Y: Ledger> {
+    local: Local<Restless<'a>, B>,
+    steps: Steps<Y>,
+    ghost board: { B.id local.cx.board ≡ local.home },
+}
+
+impl<'a, B: Board + Drop, Y: Ledger> Alone<'a, B, Y> {
+    /// The task counts its polls here.
+    fn new(
+        alloc: Global,
+        board: B,
+        blank: Blank,
+        polls: &'a AtomicU64,
+    ) -> Result<Alone<'a, B, Y>, Fault>
+        requires name { blank.name ≡ Y.name }
+        requires parts { blank.parts ≡ Y.parts }
+        requires one { blank.parts ≡ 1 }
+    {
+        let mut local = Local::new(alloc, 1, board)?;
+        let restless = Restless::new(&local.cx().wakes, polls);
+        let _ = local.spawn(restless);
+        Ok(Alone {
+            local,
+            steps: Steps::new(blank),
+        })
+    }
+
+    /// How many tasks end in so many sweeps.
+    fn ended_in(&mut self, sweeps: u32) -> u32 {
+        let mut ended = 0u32;
+        for _ in 0..sweeps {
+            ended = ended.saturating_add(self.local.sweep(&OpenGate, &mut self.steps));
+        }
+        ended
+    }
+}
+
+/// More sweeps than a run of a query may make in a row without a byte that is given or written.
+const MANY_SWEEPS: u32 = 600;
+
+/// How many tasks end in many sweeps over a restless one, how often it is polled in them, and whether it has an output then.
+fn restless<Y: Ledger>(alloc: Global, blank: Blank) -> Result<(u32, u64, bool), Fault>
+    requires name { blank.name ≡ Y.name }
+    requires parts { blank.parts ≡ Y.parts }
+    requires one { blank.parts ≡ 1 }
+{
+    let polls = AtomicU64::new(0);
+    let mut alone = Alone::<_, Y>::new(alloc, board_of(alloc)?, blank, &polls)?;
+    let ended = alone.ended_in(MANY_SWEEPS);
+    let out = alone.local.take_out(TaskNo(1));
+    Ok((ended, polls.load(Ordering::Relaxed), out.is_some()))
+}
+
+/// A bound on sweeps does not follow from what a task promises.
+#[test]
+fn a_task_that_wakes_itself_at_each_poll_never_ends(rt: HostRuntime) -> Result<(), Fail> {
+    assert_eq!(rt; restless::<Brand>(rt.alloc(), Blank::new(1))?, (0, 600, false));
     Ok(())
 }
