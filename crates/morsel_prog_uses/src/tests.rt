@@ -13,6 +13,7 @@ mod refusals;
 mod rows;
 mod runs;
 mod sure;
+mod sweeps;
 
 use morsel_meaning::Name;
 use morsel_outside::{Io, MemIo};
@@ -124,8 +125,22 @@ fn after(
     let mut io = outside_of(rt, alloc, run, one, query);
     let found = status_after(rt, alloc, run.line, &mut io);
     assert_eq!(rt; found, status, "{}", run.line);
+    if is_of_query(run, status) {
+        sweeps::ends_so_again(rt, alloc, run, one, query, status, &io);
+    }
     io
 }
+
+/// Whether the query in `q` is one, and no call fails.
+fn is_of_query(run: Run<'_>, status: u8) -> bool {
+    run.line == LOCAL.line
+        && run.fail_reads.is_empty()
+        && run.fail_writes.is_empty()
+        && status != NO_QUERY
+}
+
+/// The status of a query file that is no query.
+const NO_QUERY: u8 = 21;
 
 /// This line was printed and no other; or none.
 fn prints(rt: &impl Abort, io: &MemIo, told: Option<&str>) {
@@ -171,18 +186,11 @@ fn has_text(rt: &impl Abort, io: &MemIo, end: End<'_>) {
     }
 }
 
-/// The status, the line and the sink are those of this end.
-fn has_ended(rt: &impl Abort, io: &MemIo, status: u8, end: End<'_>) {
-    prints(rt, io, Some(end.told));
-    assert_eq!(rt; status, end.status);
-    has_text(rt, io, end);
-}
-
 /// The run ends so.
 fn ends(rt: &impl Abort, alloc: Global, run: Run<'_>, one: &[u8], query: &[u8], end: End<'_>) {
-    let mut io = outside_of(rt, alloc, run, one, query);
-    let status = status_after(rt, alloc, run.line, &mut io);
-    has_ended(rt, &io, status, end);
+    let io = after(rt, alloc, run, one, query, end.status);
+    prints(rt, &io, Some(end.told));
+    has_text(rt, &io, end);
     drop(io);
 }
 

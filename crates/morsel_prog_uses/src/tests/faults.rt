@@ -21,7 +21,7 @@ const THREE: &[(&str, &[u8])] = &[
 ];
 
 /// The query in `q`, which finds the three files.
-const QUERY: Run<'static> = Run {
+pub const QUERY: Run<'static> = Run {
     files: THREE,
     ..LOCAL
 };
@@ -36,7 +36,7 @@ const TEXT_OF_THREE: &str =
     "{\"id\":1,\"name\":\"ann\"}\n{\"id\":2,\"name\":null}\n{\"id\":3,\"name\":\"b\\nb\"}\n{\"id\":4,\"name\":\"dan\"}\n{\"id\":5,\"name\":\"eve\"}\n";
 
 /// The reads of the run on each file by the file's number, in order, and how many writes there are.
-fn calls(rt: &impl Abort, alloc: Global, io: &MemIo) -> (Vec<usize>, u64) {
+pub fn calls(rt: &impl Abort, alloc: Global, io: &MemIo) -> (Vec<usize>, u64) {
     let mut reads = Vec::new(alloc);
     let mut writes = 0u64;
     for number in 0..io.memory().events() {
@@ -159,7 +159,7 @@ fn calls_of(rt: &impl Abort, alloc: Global, query: &[u8]) -> (Vec<usize>, u64) {
 }
 
 /// The query of the three files.
-fn query_of_three(rt: &impl Abort, alloc: Global) -> String {
+pub fn query_of_three(rt: &impl Abort, alloc: Global) -> String {
     query_of(rt, alloc, SCAN_OF_THREE, SMALL)
 }
 

@@ -13,7 +13,7 @@ use std::sync::ledger::Blank;
 
 /// A gate that notes which tasks entered and which left, a bit for each, how many polls there were, and in how many sweeps.
 #[derive(Drop)]
-struct NotingGate {
+pub struct NotingGate {
     entered: AtomicU64,
     left: AtomicU64,
     polls: AtomicU64,
@@ -23,7 +23,7 @@ struct NotingGate {
 }
 
 impl NotingGate {
-    fn new() -> NotingGate {
+    pub fn new() -> NotingGate {
         NotingGate {
             entered: AtomicU64::new(0),
             left: AtomicU64::new(0),
@@ -31,6 +31,11 @@ impl NotingGate {
             sweeps: AtomicU64::new(0),
             last: AtomicU64::new(u64::MAX),
         }
+    }
+
+    /// In how many sweeps a task was polled.
+    pub fn sweeps(&self) -> u64 {
+        self.sweeps.load(Ordering::Relaxed)
     }
 }
 
@@ -68,7 +73,7 @@ struct Noted<'a> {
 fn after_run(rt: &impl Abort, alloc: Global, run: Noted<'_>) -> NotingGate {
     let gate = NotingGate::new();
     let mut io = outside_of(rt, alloc, LOCAL, run.bytes, b"");
-    let (query, options) = read(alloc, TWO).expect(rt, "a query");
+    let (query, options) = read(alloc, TWO.as_bytes()).expect(rt, "a query");
     assert!(rt; run.pipelines >= 1);
     assert!(rt; run.pipelines <= 100);
     let answer = counted_in::<MemIo, NotingGate, Brand>(
@@ -162,7 +167,7 @@ const RUNS: &[Noted<'static>] = &[
 fn few_sweeps_are_made_for_each_byte(rt: HostRuntime) {
     for run in RUNS {
         let gate = after_run(&rt, rt.alloc(), *run);
-        let sweeps = gate.sweeps.load(Ordering::Relaxed);
+        let sweeps = gate.sweeps();
         let most = (run.bytes.len() as u64)
             .saturating_add(1)
             .saturating_mul(16);

@@ -21,8 +21,8 @@ pub const TWO: &str =
     r#"{"left":{"format":"csv","files":["one.csv"],"schema":[["id","int"],["name","text"]]},"sink":{"format":"ndjson"},"options":{"chunk_bytes":4}}"#;
 
 /// The query of a text, into `o`.
-pub fn read(alloc: Global, text: &str) -> Result<(Query, Options), Fault> {
-    let Ok(tree) = Value::from_str(alloc, text) else {
+pub fn read(alloc: Global, text: &[u8]) -> Result<(Query, Options), Fault> {
+    let Ok(tree) = Value::from_slice(alloc, text) else {
         return Err(Fault::QueryText);
     };
     query_of(alloc, &tree, "o")
@@ -30,7 +30,7 @@ pub fn read(alloc: Global, text: &str) -> Result<(Query, Options), Fault> {
 
 /// What a run of the query answers.
 fn answer<H: Io>(rt: &impl Abort, alloc: Global, io: &mut H, text: &str) -> Result<u64, Fault> {
-    let (query, options) = read(alloc, text).expect(rt, "a query");
+    let (query, options) = read(alloc, text.as_bytes()).expect(rt, "a query");
     counted::<H, OpenGate, Brand>(alloc, io, query, &options, &OpenGate, Blank::new(1))
 }
 

@@ -1,0 +1,2 @@
+-- The proofs of these uses.
+pub mod UncountedLemmas
