@@ -46,7 +46,7 @@ where
     requires to { AreEndsFor (λ job end. (room : ℕ) × IsNewSender L.Sender.home L.Sender.job L.Sender.room L.Sender.sent (L.Board.id board.old).lane_table job room end) ports.send.items to.now.items }
     requires tokens { All (λ job. HoldsTokensOf J.holds L.token_home job (L.Board.id board.old).group_table) from.now.items }
     ensures can_poll { IfOk result (λ opened. All (N.Unit.can_poll (L.Board.id board.old)) opened.1.items) }
-    ensures between { IfOk result (λ opened. AreUnitsBetween N.unit_seen (unit_between L.Receiver.lane L.Sender.lane (L.Board.id board.old).lane_table ports.entry.recv.items ports.entry.send.items) ports.entry.recv.items ports.entry.send.items opened.1.items) }
+    ensures between { IfOk result (λ opened. AreUnitsBetween N.unit_seen (unit_between L.Receiver.lane L.Sender.lane (L.Board.id board.old).lane_table ports.recv.items ports.send.items) ports.recv.items ports.send.items opened.1.items) }
     ensures out { IfOk result (λ opened. HasOut (N.seen opened.0.node).units (N.is_unit opened.0.node) N.unit_fails (N.fails opened.0.begun.value opened.0.jobs.value.items) opened.1.items) }
     ensures begun { IfOk result (λ opened. (opened.0.begun.value ≡ node) × (opened.0.jobs.value.items ≡ from.now.items)) }
     ensures out_of_memory { IsOkUnless result OutOfMemory }
