@@ -226,6 +226,9 @@ fn restless<Y: Ledger>(alloc: Global, blank: Blank) -> Result<(u32, u64, bool), 
 /// A bound on sweeps does not follow from what a task promises.
 #[test]
 fn a_task_that_wakes_itself_at_each_poll_never_ends(rt: HostRuntime) -> Result<(), Fail> {
-    assert_eq!(rt; restless::<Brand>(rt.alloc(), Blank::new(1))?, (0, 600, false));
+    assert_eq!(rt;
+        restless::<Brand>(rt.alloc(), Blank::new(1))?,
+        (0, 600, false)
+    );
     Ok(())
 }

@@ -30,20 +30,20 @@ module _ {K J : Type 0} where
   pub adds_no_stretch : AddsNoStretch K J
   adds_no_stretch taken before more after held left none =
       let rest : List (ℕ × ℕ) = stretches (held_list held) ++ left in
-      let same = stretches-among before more after none in
-      ( (λ kept. record { same = kept.same ∙ ap (λ z. z ++ rest) same })
-      , (λ kept. record { same = kept.same ∙ ap (λ z. z ++ rest) (sym same) })
+      let same = stretches-among before more after none in (
+        (λ kept. record { same = kept.same ∙ ap (λ z. z ++ rest) same }),
+        (λ kept. record { same = kept.same ∙ ap (λ z. z ++ rest) (sym same) }),
       )
 
   pub bounds_no_number : (suits : J → Load K J → Type 0) → BoundsNoNumber suits
   bounds_no_number suits job one suited none taken sent held left all kept n =
       let more : List (Load K J) = replicate n one in
       let long = length-append more sent in
-      let many = length-replicate n one in
-      ( more ++ sent
-      , omega (arith, long, many)
-      , All-append (suits job) more sent (All-replicate (suits job) n one suited) all
-      , (adds_no_stretch taken [] more sent held left (All-replicate EndsNone n one none)).0 kept
+      let many = length-replicate n one in (
+        more ++ sent,
+        omega (arith, long, many),
+        All-append (suits job) more sent (All-replicate (suits job) n one suited) all,
+        (adds_no_stretch taken [] more sent held left (All-replicate EndsNone n one none)).0 kept,
       )
 
   pub has_some : SomeEndsNone K J

@@ -14,12 +14,7 @@ use std::process::Abort;
 use std::sync::ledger::Blank;
 
 /// What a run of the query of these bytes answers.
-fn answer(
-    alloc: Global,
-    io: &mut MemIo,
-    query: &[u8],
-    gate: &NotingGate,
-) -> Result<u64, Fault> {
+fn answer(alloc: Global, io: &mut MemIo, query: &[u8], gate: &NotingGate) -> Result<u64, Fault> {
     let (query, options) = read(alloc, query)?;
     counted::<MemIo, NotingGate, Brand>(alloc, io, query, &options, gate, Blank::new(1))
 }
@@ -49,7 +44,10 @@ fn ends_in_few_sweeps(rt: &impl Abort, alloc: Global, io: &mut MemIo, query: &[u
     assert_eq!(rt; found, status);
     let bytes = bytes_opened(io);
     let sweeps = gate.sweeps();
-    assert!(rt; sweeps <= bytes.saturating_add(1).saturating_mul(16), "{sweeps} for {bytes}");
+    assert!(rt;
+        sweeps <= bytes.saturating_add(1).saturating_mul(16),
+        "{sweeps} for {bytes}"
+    );
 }
 
 /// Both outsides have the same sinks.
