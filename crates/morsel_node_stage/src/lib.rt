@@ -2,9 +2,9 @@
 #![tactic(auto)]
 
 mod node_tasks;
-mod open_ports;
+mod opening;
 mod pipe_tasks;
 
 pub use node_tasks::NodeTasks;
-pub use open_ports::{NodePorts, open_ports};
+pub use opening::{NodePorts, open_ports};
 pub use pipe_tasks::PipeTasks;

@@ -1,12 +1,12 @@
-use Rattle.std.proofs.Common.{◌≡◌, ◌+◌, ◌∷◌, [], ◌++◌, ℕ, List, Err, ap, subst, sym}
+use Rattle.std.proofs.Common.{◌≡◌, ◌+◌, ◌∷◌, ◌++◌, List, ap}
 use Rattle.std.proofs.lemmas.Result.{err_from_is_err_and}
 use Rattle.morsel_meaning.specs.declared.fault.Fault.{Fault}
 use Rattle.morsel_ports.specs.Nodes.{NodeSeen}
 use Rattle.morsel_phase.specs.Stages.{HasOut}
 use Rattle.morsel_phase.proofs.StageLemmas.{all_between, given_fault, less_out, not_empty, told_cut, told_fault, told_whole}
-use Rattle.morsel_node_stage.proofs.node_tasks.NodeTasksStage.give_back.Given.{Over}
-use Rattle.morsel_node_stage.proofs.node_tasks.NodeTasksStage.give_back.Goals.{else-is_empty-via-then-is_empty+else-is_empty-2, else-is_empty-via-else-is_empty}
-use Rattle.morsel_node_stage.proofs.node_tasks.NodeTasksStage.give_back.Goals as goal
+use Rattle.morsel_node_stage.proofs.node_tasks.NodeTasksStageBoard.give_back.Given.{Over}
+use Rattle.morsel_node_stage.proofs.node_tasks.NodeTasksStageBoard.give_back.Goals.{else-is_empty-via-then-is_empty+else-is_empty-2, else-is_empty-via-else-is_empty}
+use Rattle.morsel_node_stage.proofs.node_tasks.NodeTasksStageBoard.give_back.Goals as goal
 
 module _ (g : Over) where
   abbrev may_fail : g.row.N.Denot → List g.row.J.Denot → Fault → Type 0
