@@ -1,10 +1,14 @@
 -- What holds of the items of joins, and of their orders.
-use Rattle.std.specs.Prelude.{◌≡◌, List, if◌then◌else◌, map}
+use Rattle.std.specs.Prelude.{◌≡◌, ◌++◌, List, if◌then◌else◌, map}
 use Rattle.morsel_join.specs.declared.join_type.JoinType.{JoinType}
 use Rattle.morsel_join.specs.declared.join_type.JoinType.TheVariants as kinds
 use Rattle.morsel_join.specs.declared.join_type.MaintainOrderJoin.TheVariants as orders
 use Rattle.morsel_join.specs.Items.{JoinItem, Both, LoneLeft, LoneRight, join_items, JoinItems, IsPromised, is_item, count_of}
 use Rattle.std.specs.Prelude.{Bool}
+use Rattle.morsel_meaning.specs.Often.{AsOften}
+use Rattle.morsel_meaning.specs.Values.{Row, Table}
+use Rattle.morsel_join.specs.Rows.{IsJoin}
+use Rattle.morsel_join.specs.Sides.{KeptSide, IsRightSide, is_asked_for, rows_alone, rows_found, rows_on_left, rows_on_right}
 
 -- the items of a join stand once each in its lists, and nothing else stands there
 abbrev pub HasItemsOnce : Type 0 → Type 0 → Type 0
@@ -39,3 +43,20 @@ MirrorsOrder = (list : List JoinItem) → IsPromised orders.LeftRight list → I
 -- who keeps the stronger order keeps the weaker one of the same side, and any order is promised where none is asked
 abbrev pub KeepsWeaker : Type 0
 KeepsWeaker = (list : List JoinItem) → (IsPromised orders.LeftRight list → IsPromised orders.Left list) × (IsPromised orders.RightLeft list → IsPromised orders.Right list) × IsPromised orders.None list
+
+-- what rows find is what the first of them find, and then the others
+abbrev pub AreFoundInParts : Type 0
+AreFoundInParts = (side : KeptSide) (asked more : List Row) → rows_found side (asked ++ more) ≡ rows_found side asked ++ rows_found side more
+
+-- what rows find, and then the kept rows that they do not find, are the rows of the join in the promised order
+abbrev pub GiveTheJoin : Type 0
+GiveTheJoin = (side : KeptSide) (asked : List Row) (left right out : Table) → IsRightSide side → left.rows ≡ rows_on_left side asked → right.rows ≡ rows_on_right side asked
+    → out.schema ≡ side.rules.output → out.rows ≡ rows_found side asked ++ rows_alone side asked → IsJoin side.rules left right out
+
+-- which kept rows are alone depends on nothing but which of them are found
+abbrev pub AreAloneAlike : Type 0
+AreAloneAlike = (side : KeptSide) (asked others : List Row) → ((kept : Row) → is_asked_for side asked kept ≡ is_asked_for side others kept) → rows_alone side asked ≡ rows_alone side others
+
+-- and so they are the same in whatever order the rows are looked up
+abbrev pub AreAloneInAnyOrder : Type 0
+AreAloneInAnyOrder = (side : KeptSide) (asked others : List Row) → AsOften asked others → rows_alone side asked ≡ rows_alone side others

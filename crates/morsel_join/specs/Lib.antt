@@ -6,3 +6,9 @@ pub mod Chains
 pub mod Probes
 pub mod Rows
 pub mod Builds
+pub mod Sides
+pub mod BuildSides
+pub mod Hits
+pub mod Cuts
+pub mod Probings
+pub mod LoneRows

@@ -128,7 +128,7 @@ fn rows_by_right(
 }
 
 /// Whether the left rows are kept by their keys, and the right ones looked up.
-fn keeps_left(how: JoinType, order: MaintainOrderJoin) -> bool
+pub fn keeps_left(how: JoinType, order: MaintainOrderJoin) -> bool
     ensures { result ≡ keeps_left how order }
 {
     match order {
@@ -142,7 +142,7 @@ fn keeps_left(how: JoinType, order: MaintainOrderJoin) -> bool
 }
 
 /// Whether a kind has the left rows that are in no pair.
-fn wants_left(how: JoinType) -> bool
+pub fn wants_left(how: JoinType) -> bool
     ensures { result ≡ wants_left how }
 {
     match how {
@@ -152,7 +152,7 @@ fn wants_left(how: JoinType) -> bool
 }
 
 /// Whether a kind has the right rows that are in no pair.
-fn wants_right(how: JoinType) -> bool
+pub fn wants_right(how: JoinType) -> bool
     ensures { result ≡ wants_right how }
 {
     match how {

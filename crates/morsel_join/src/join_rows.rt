@@ -96,7 +96,7 @@ fn seen_keys(alloc: Global, keys: usize, numbers: &[u32]) -> Result<Vec<bool>, F
 }
 
 /// The numbers of rows' keys among those that are kept, and `u32::MAX` where there is no such key.
-fn found_numbers(
+pub fn found_numbers(
     alloc: Global,
     keys: &RowKeys,
     frame: &Frame,

@@ -7,7 +7,7 @@ ghost use Rattle.morsel_join.specs.Probes.{PutsChain, PutsRow, PutsLookedUp, Put
 use morsel_meaning::Fault;
 
 /// The number that names no row.
-const NO_ROW: u32 = u32::MAX;
+pub const NO_ROW: u32 = u32::MAX;
 
 /// Puts a row last, with each row of a chain.
 fn follow(
@@ -59,7 +59,7 @@ fn probe_row(
 
 /// The link of a key's number, and 0 where there is no such key.
 #[inline(always)]
-fn head_of(first: &[u32], number: u32) -> u32
+pub fn head_of(first: &[u32], number: u32) -> u32
     ensures { result ≡ get_or first.now number 0 }
 {
     let key = number as usize;
@@ -113,7 +113,7 @@ fn mark_key(seen: &mut [bool], number: u32)
 
 /// Whether the key of this number is marked.
 #[inline(always)]
-fn is_seen(seen: &[bool], number: u32) -> bool
+pub fn is_seen(seen: &[bool], number: u32) -> bool
     ensures { result ≡ get_or seen.now number false }
 {
     let key = number as usize;
@@ -139,7 +139,7 @@ pub fn put_lone(
 
 /// Puts a row last alone if its key is not marked.
 #[inline(always)]
-fn put_lone_row(
+pub fn put_lone_row(
     seen: &[bool],
     number: u32,
     row: u32,

@@ -2,8 +2,9 @@
 ghost use Rattle.std.specs.Prelude.{◌≡◌, ◌<◌, ◌^◌, ◌++◌, [], ◌∷◌, length, IfOk, OnOk, IsOkUnless};
 ghost use Rattle.morsel_frame.specs.Refusals.{Refuses};
 ghost use Rattle.morsel_join.specs.Payloads.{key_places, join_fields, join_flaw};
-ghost use Rattle.morsel_join.specs.Rows.{FitRules, join_columns, left_column, left_columns, right_columns};
+ghost use Rattle.morsel_join.specs.Rows.{FitRules, join_columns, keeps_left, left_column, left_columns, right_columns};
 
+use crate::frames::keeps_left;
 use crate::payload::{JoinArgs, Payload};
 use crate::select::select;
 use crate::{JoinType, MaintainOrderJoin};
@@ -81,6 +82,13 @@ impl JoinRules {
             columns,
             output: chosen.output,
         })
+    }
+
+    /// Whether the left rows are kept by their keys, and the right ones looked up.
+    pub fn keeps_left(&self) -> bool
+        ensures { result ≡ keeps_left self.now.how self.now.maintain_order }
+    {
+        keeps_left(self.how, self.maintain_order)
     }
 }
 

@@ -1,0 +1,191 @@
+//! The side of a join whose rows are kept by their keys, and found by the rows of the other side.
+ghost use Rattle.std.specs.Prelude.{◌≡◌, ◌<◌, ◌≤◌, ◌^◌, ◌++◌, List, length, map, IfOk, OnOk, IsOkUnless};
+ghost use Rattle.std.specs.List.{All};
+ghost use Rattle.morsel_meaning.specs.declared.value.Field.{Field};
+ghost use Rattle.morsel_meaning.specs.declared.fault.Fault.TheVariants.{OutOfMemory};
+ghost use Rattle.morsel_join.specs.BuildSides.{IsBuild, kept_side, rows_of_tables};
+ghost use Rattle.morsel_join.specs.Builds.{AreKeyed};
+ghost use Rattle.morsel_join.specs.Chains.{left_mark, right_mark};
+ghost use Rattle.morsel_join.specs.Items.{JoinItem};
+ghost use Rattle.morsel_join.specs.Probings.{AreNumbersOf};
+ghost use Rattle.morsel_join.specs.Rows.{keeps_left};
+ghost use Rattle.morsel_join.specs.Sides.{FitSides, asked_keys, kept_keys, side_row, wants_asked, wants_kept};
+
+use crate::build::{KeyedRows, keyed_rows};
+use crate::frames::{wants_left, wants_right};
+use crate::gather::gather_rows;
+use crate::join_rows::found_numbers;
+use crate::rules::JoinRules;
+use morsel_frame::{Frame, Schema};
+use morsel_meaning::Fault;
+use std::alloc::Global;
+
+/// The rows of one side of a join, by their keys.
+#[derive(Drop)]
+pub struct Build {
+    /// The rules of the join.
+    pub rules: JoinRules,
+    /// Whether the left rows are kept.
+    pub is_left: bool,
+    /// The columns of the rows that are looked up.
+    pub asked: Schema,
+    /// The kept rows.
+    pub(crate) kept: Frame,
+    /// The same by their keys.
+    pub(crate) keyed: KeyedRows,
+}
+
+impl Build {
+    /// The rows of these frames, one frame after the other, of the side that the rules say, which has these columns; the rows that are looked up
+    /// have the other ones. More than 4,294,967,295 rows, which no scan has, are out of memory.
+    pub fn new(
+        alloc: Global,
+        rules: JoinRules,
+        columns: Schema,
+        frames: Vec<Frame>,
+        asked: Schema,
+    ) -> Result<Build, Fault>
+        requires fit { FitSides (keeps_left rules.how rules.maintain_order) columns asked rules }
+        requires columns { All (λ frame. frame.schema ≡ columns) frames.items }
+        ensures built { IfOk result IsBuild }
+        ensures rules { IfOk result (λ build. build.rules ≡ rules) }
+        ensures asked { IfOk result (λ build. build.asked ≡ asked) }
+        ensures rows { IfOk result (λ build. (kept_side build).rows ≡ rows_of_tables frames.items) }
+        ensures out_of_memory { IsOkUnless result OutOfMemory }
+    {
+        let kept = stacked(alloc, columns, frames)?;
+        let is_left = rules.keeps_left();
+        let keyed = keyed_side(alloc, &rules, is_left, &kept)?;
+        Ok(Build {
+            rules,
+            is_left,
+            asked,
+            kept,
+            keyed,
+        })
+    }
+
+    /// How many keys the kept rows have.
+    pub fn keys(&self) -> usize
+        ensures { result ≡ length self.now.keyed.keys.keys }
+    {
+        self.keyed.keys.len()
+    }
+
+    /// The numbers of rows' keys among those of the kept rows, and `u32::MAX` where there is no such key.
+    pub fn numbers(&self, alloc: Global, asked: &Frame) -> Result<Vec<u32>, Fault>
+        requires built { IsBuild self.now }
+        requires columns { asked.now.schema ≡ self.now.asked }
+        ensures ok { IfOk result (λ numbers. AreNumbersOf self.now asked.now.rows numbers.items) }
+        ensures out_of_memory { IsOkUnless result OutOfMemory }
+    {
+        if self.is_left {
+            return Ok(found_numbers(alloc, &self.keyed.keys, asked, &self.rules.right_keys)?);
+        }
+        Ok(found_numbers(alloc, &self.keyed.keys, asked, &self.rules.left_keys)?)
+    }
+
+    /// Whether the kind has the rows that find nothing.
+    pub fn wants_asked(&self) -> bool
+        ensures { result ≡ wants_asked (kept_side self.now) }
+    {
+        if self.is_left {
+            return wants_right(self.rules.how);
+        }
+        wants_left(self.rules.how)
+    }
+
+    /// Whether the kind has the kept rows that no row finds.
+    pub fn wants_kept(&self) -> bool
+        ensures { result ≡ wants_kept (kept_side self.now) }
+    {
+        if self.is_left {
+            return wants_left(self.rules.how);
+        }
+        wants_right(self.rules.how)
+    }
+
+    /// The rows of items, whose rows and kept rows have these numbers; `u32::MAX` where there is none.
+    pub fn gather(
+        &self,
+        alloc: Global,
+        asked: &Frame,
+        asked_rows: &[u32],
+        kept_rows: &[u32],
+    ) -> Result<Frame, Fault>
+        requires built { IsBuild self.now }
+        requires columns { asked.now.schema ≡ self.now.asked }
+        requires short { length asked.now.rows < 2 ^ 32 }
+        requires len { length kept_rows.now ≡ length asked_rows.now }
+        ensures ok { IfOk result (λ out. (items : List JoinItem) → asked_rows.now ≡ map left_mark items → kept_rows.now ≡ map right_mark items → out ≡ record { schema = self.now.rules.output; rows = map (side_row (kept_side self.now) asked.now.rows) items }) }
+        ensures schema { IfOk result (λ out. out.schema ≡ self.now.rules.output) }
+        ensures out_of_memory { IsOkUnless result OutOfMemory }
+    {
+        if self.is_left {
+            return Ok(gather_rows(alloc, &self.kept, asked, &self.rules, kept_rows, asked_rows)?);
+        }
+        Ok(gather_rows(alloc, asked, &self.kept, &self.rules, asked_rows, kept_rows)?)
+    }
+}
+
+/// The rows of the side that is kept, by their keys.
+fn keyed_side(
+    alloc: Global,
+    rules: &JoinRules,
+    is_left: bool,
+    kept: &Frame,
+) -> Result<KeyedRows, Fault>
+    requires fit { (asked : List Field) × FitSides is_left kept.now.schema asked rules.now }
+    requires short { length kept.now.rows < 2 ^ 32 }
+    ensures ok { IfOk result (λ keyed. AreKeyed rules.now.join_nulls (kept_keys (record { rules = rules.now; is_left = is_left; rows = kept.now.rows })) rules.now.kinds.items kept.now.rows keyed) }
+    ensures out_of_memory { IsOkUnless result OutOfMemory }
+{
+    if is_left {
+        return Ok(keyed_rows(
+            alloc,
+            kept,
+            &rules.left_keys,
+            &rules.kinds,
+            rules.join_nulls,
+        )?);
+    }
+    Ok(keyed_rows(
+        alloc,
+        kept,
+        &rules.right_keys,
+        &rules.kinds,
+        rules.join_nulls,
+    )?)
+}
+
+/// The rows of frames of these columns, one frame after the other.
+fn stacked(alloc: Global, columns: Schema, frames: Vec<Frame>) -> Result<Frame, Fault>
+    requires columns { All (λ frame. frame.schema ≡ columns) frames.items }
+    ensures ok { IfOk result (λ all. all ≡ record { schema = columns; rows = rows_of_tables frames.items }) }
+    ensures short { IfOk result (λ all. length all.rows < 2 ^ 32) }
+    ensures out_of_memory { IsOkUnless result OutOfMemory }
+{
+    let mut all = Frame::empty(alloc, columns);
+    for frame in frames {
+        stack(&mut all, &frame)?;
+    }
+    Ok(all)
+}
+
+/// Puts the rows of a frame last.
+fn stack(all: &mut Frame, frame: &Frame) -> Result<(), Fault>
+    requires columns { frame.now.schema ≡ all.old.schema }
+    requires short { length all.old.rows < 2 ^ 32 }
+    ensures ok { OnOk result (all.new ≡ record all.old { rows = all.old.rows ++ frame.now.rows }) }
+    ensures short { OnOk result (length all.new.rows < 2 ^ 32) }
+    ensures out_of_memory { IsOkUnless result OutOfMemory }
+{
+    let most = u32::MAX as usize;
+    if frame.height() > most - all.height() {
+        return Err(Fault::OutOfMemory);
+    }
+    match all.vstack(frame) {
+        Ok(()) => Ok(()),
+        Err(_) => Err(Fault::OutOfMemory),
+    }
+}
