@@ -14,3 +14,7 @@ pub mod RowLemmas
 pub mod OrderLemmas
 pub mod GatherLemmas
 pub mod RuleLemmas
+pub mod CutLemmas
+pub mod SideLemmas
+pub mod SideJoins
+pub mod LoneLemmas

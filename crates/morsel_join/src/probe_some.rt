@@ -72,10 +72,11 @@ fn probe_row_some(
     if head != 0 {
         return Ok(follow_some(next, head, row, limit, lefts, rights)?);
     }
-    if wanted {
-        lefts.push(row)?;
-        rights.push(NO_ROW)?;
+    if !wanted {
+        return Ok(0);
     }
+    lefts.push(row)?;
+    rights.push(NO_ROW)?;
     Ok(0)
 }
 
