@@ -6,7 +6,7 @@ use Rattle.morsel_frame.specs.Tables.{cells_at}
 use Rattle.morsel_join.specs.declared.join_type.JoinType.{JoinType}
 use Rattle.morsel_join.specs.declared.join_type.MaintainOrderJoin.{MaintainOrderJoin}
 use Rattle.morsel_join.specs.declared.join_type.MaintainOrderJoin.TheVariants as orders
-use Rattle.morsel_join.specs.Items.{JoinItem, Both, LoneLeft, LoneRight, places, or_lone, left_items, right_items, join_items, wants_left, wants_right, IsPromised}
+use Rattle.morsel_join.specs.Items.{JoinItem, Both, LoneLeft, LoneRight, places, or_lone, left_items, right_items, join_items, wants_left, wants_right, IsPromised, JoinItems}
 use Rattle.morsel_join.specs.Laws.{mirrored}
 use Rattle.morsel_join.specs.Chains.{left_mark, right_mark}
 use Rattle.morsel_join.specs.Probes.{PutsItems}
@@ -31,13 +31,13 @@ right-test : {X Y : Type 0} (same other : X → Y → Bool) (wanted : Bool) (xs 
 right-test same other false xs ys h = refl
 right-test same other true xs ys h = ap (map LoneRight) (places-test (λ y. not (list_any (λ x. same x y) xs)) (λ y. not (list_any (λ x. other x y) xs)) 0 ys (λ y. ap not (any-test (λ x. same x y) (λ x. other x y) xs (λ x. h x y))))
 
-left-mirrored : (list : List JoinItem) → map left_mark (map mirrored list) ≡ map right_mark list
+pub left-mirrored : (list : List JoinItem) → map left_mark (map mirrored list) ≡ map right_mark list
 left-mirrored [] = refl
 left-mirrored (Both i j ∷ list) = ap (λ ns. j ∷ ns) (left-mirrored list)
 left-mirrored (LoneLeft i ∷ list) = ap (λ ns. right_mark (LoneLeft i) ∷ ns) (left-mirrored list)
 left-mirrored (LoneRight j ∷ list) = ap (λ ns. j ∷ ns) (left-mirrored list)
 
-right-mirrored : (list : List JoinItem) → map right_mark (map mirrored list) ≡ map left_mark list
+pub right-mirrored : (list : List JoinItem) → map right_mark (map mirrored list) ≡ map left_mark list
 right-mirrored [] = refl
 right-mirrored (Both i j ∷ list) = ap (λ ns. i ∷ ns) (right-mirrored list)
 right-mirrored (LoneLeft i ∷ list) = ap (λ ns. i ∷ ns) (right-mirrored list)
@@ -59,6 +59,13 @@ order-mirrored how orders.LeftRight list keeps held = absurd (cc)
 order-mirrored how orders.Right list keeps held = right-promised list held
 order-mirrored how orders.RightLeft list keeps held = held
 
+-- the items of left rows, and then the lone right rows, are those of a join in the promised order
+pub straight-promised : (rules : JoinRules) (lefts rights : List Row) → keeps_left rules.how rules.maintain_order ≡ false
+    → IsPromised rules.maintain_order (left_items (rows_match rules.join_nulls rules.left_keys.items rules.right_keys.items) (wants_left rules.how) 0 lefts rights ++ right_items (rows_match rules.join_nulls rules.left_keys.items rules.right_keys.items) (wants_right rules.how) lefts rights)
+straight-promised rules lefts rights keeps =
+    order-straight rules.how rules.maintain_order (join_items rules.how (rows_match rules.join_nulls rules.left_keys.items rules.right_keys.items) lefts rights) keeps
+    (items-promised rules.how (rows_match rules.join_nulls rules.left_keys.items rules.right_keys.items) lefts rights)
+
 -- left rows that were looked up give the items of a join
 pub items-straight : (rules : JoinRules) (lefts rights : List Row) (left_marks right_marks : List ℕ) → keeps_left rules.how rules.maintain_order ≡ false
     → PutsItems (left_items (rows_match rules.join_nulls rules.left_keys.items rules.right_keys.items) (wants_left rules.how) 0 lefts rights ++ right_items (rows_match rules.join_nulls rules.left_keys.items rules.right_keys.items) (wants_right rules.how) lefts rights) [] [] left_marks right_marks
@@ -66,28 +73,40 @@ pub items-straight : (rules : JoinRules) (lefts rights : List Row) (left_marks r
 items-straight rules lefts rights left_marks right_marks keeps put = record {
   items = join_items rules.how (rows_match rules.join_nulls rules.left_keys.items rules.right_keys.items) lefts rights;
   once = λ weight. refl;
-  promised = order-straight rules.how rules.maintain_order (join_items rules.how (rows_match rules.join_nulls rules.left_keys.items rules.right_keys.items) lefts rights) keeps
-      (items-promised rules.how (rows_match rules.join_nulls rules.left_keys.items rules.right_keys.items) lefts rights);
+  promised = straight-promised rules lefts rights keeps;
   left_side = put.left_side;
   right_side = put.right_side;
 }
+
+-- the items of right rows, and then the lone left rows, with the sides exchanged
+abbrev pub exchanged_items : JoinRules → List Row → List Row → List JoinItem
+exchanged_items rules lefts rights = left_items (rows_match rules.join_nulls rules.right_keys.items rules.left_keys.items) (wants_right rules.how) 0 rights lefts ++ right_items (rows_match rules.join_nulls rules.right_keys.items rules.left_keys.items) (wants_left rules.how) rights lefts
+
+-- they are the items of a join
+pub exchanged-once : (rules : JoinRules) (lefts rights : List Row) → JoinItems rules.how (rows_match rules.join_nulls rules.left_keys.items rules.right_keys.items) lefts rights (map mirrored (exchanged_items rules lefts rights))
+exchanged-once rules lefts rights =
+    let same : Row → Row → Bool = λ x y. rows_match rules.join_nulls rules.left_keys.items rules.right_keys.items x y in
+    let flipped : Row → Row → Bool = λ y x. rows_match rules.join_nulls rules.right_keys.items rules.left_keys.items y x in
+    let turned : (y x : Row) → flipped y x ≡ same x y = λ (y x : Row). keys-mirrored rules.join_nulls (cells_at rules.right_keys.items y) (cells_at rules.left_keys.items x) in
+    let alike : left_items (λ y x. same x y) (wants_right rules.how) 0 rights lefts ++ right_items (λ y x. same x y) (wants_left rules.how) rights lefts ≡ exchanged_items rules lefts rights =
+    ap (λ items. items ++ right_items (λ y x. same x y) (wants_left rules.how) rights lefts) (left-test (λ y x. same x y) flipped (wants_right rules.how) 0 rights lefts (λ (y x : Row). sym (turned y x)))
+    ∙ ap (λ items. left_items flipped (wants_right rules.how) 0 rights lefts ++ items) (right-test (λ y x. same x y) flipped (wants_left rules.how) rights lefts (λ (y x : Row). sym (turned y x))) in
+    λ weight. items-mirrored same (wants_left rules.how) (wants_right rules.how) lefts rights weight ∙ ap (λ items. sum_by weight (map mirrored items)) alike
+
+-- in the promised order
+pub exchanged-promised : (rules : JoinRules) (lefts rights : List Row) → keeps_left rules.how rules.maintain_order ≡ true → IsPromised rules.maintain_order (map mirrored (exchanged_items rules lefts rights))
+exchanged-promised rules lefts rights keeps =
+    order-mirrored rules.how rules.maintain_order (map mirrored (exchanged_items rules lefts rights)) keeps
+    (promised-mirrored (exchanged_items rules lefts rights) (halves-promised (wants_right rules.how) (wants_left rules.how) (rows_match rules.join_nulls rules.right_keys.items rules.left_keys.items) rights lefts))
 
 -- and so do right rows, with the sides exchanged
 pub items-exchanged : (rules : JoinRules) (lefts rights : List Row) (left_marks right_marks : List ℕ) → keeps_left rules.how rules.maintain_order ≡ true
     → PutsItems (left_items (rows_match rules.join_nulls rules.right_keys.items rules.left_keys.items) (wants_right rules.how) 0 rights lefts ++ right_items (rows_match rules.join_nulls rules.right_keys.items rules.left_keys.items) (wants_left rules.how) rights lefts) [] [] right_marks left_marks
     → HasItems rules lefts rights left_marks right_marks
-items-exchanged rules lefts rights left_marks right_marks keeps put =
-    let same : Row → Row → Bool = λ x y. rows_match rules.join_nulls rules.left_keys.items rules.right_keys.items x y in
-    let flipped : Row → Row → Bool = λ y x. rows_match rules.join_nulls rules.right_keys.items rules.left_keys.items y x in
-    let turned : (y x : Row) → flipped y x ≡ same x y = λ (y x : Row). keys-mirrored rules.join_nulls (cells_at rules.right_keys.items y) (cells_at rules.left_keys.items x) in
-    let list : List JoinItem = left_items flipped (wants_right rules.how) 0 rights lefts ++ right_items flipped (wants_left rules.how) rights lefts in
-    let alike : left_items (λ y x. same x y) (wants_right rules.how) 0 rights lefts ++ right_items (λ y x. same x y) (wants_left rules.how) rights lefts ≡ list =
-    ap (λ items. items ++ right_items (λ y x. same x y) (wants_left rules.how) rights lefts) (left-test (λ y x. same x y) flipped (wants_right rules.how) 0 rights lefts (λ (y x : Row). sym (turned y x)))
-    ∙ ap (λ items. left_items flipped (wants_right rules.how) 0 rights lefts ++ items) (right-test (λ y x. same x y) flipped (wants_left rules.how) rights lefts (λ (y x : Row). sym (turned y x))) in
-    record {
-      items = map mirrored list;
-      once = λ weight. items-mirrored same (wants_left rules.how) (wants_right rules.how) lefts rights weight ∙ ap (λ items. sum_by weight (map mirrored items)) alike;
-      promised = order-mirrored rules.how rules.maintain_order (map mirrored list) keeps (promised-mirrored list (halves-promised (wants_right rules.how) (wants_left rules.how) flipped rights lefts));
-      left_side = put.right_side ∙ sym (left-mirrored list);
-      right_side = put.left_side ∙ sym (right-mirrored list);
-    }
+items-exchanged rules lefts rights left_marks right_marks keeps put = record {
+  items = map mirrored (exchanged_items rules lefts rights);
+  once = exchanged-once rules lefts rights;
+  promised = exchanged-promised rules lefts rights keeps;
+  left_side = put.right_side ∙ sym (left-mirrored (exchanged_items rules lefts rights));
+  right_side = put.left_side ∙ sym (right-mirrored (exchanged_items rules lefts rights));
+}

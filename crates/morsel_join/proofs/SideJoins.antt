@@ -4,13 +4,11 @@ use Rattle.std.specs.List.{list_any, sum_by}
 use Rattle.morsel_meaning.specs.Often.{AsOften}
 use Rattle.morsel_meaning.specs.Values.{Row, Table}
 use Rattle.morsel_join.specs.declared.rules.JoinRules.{JoinRules}
-use Rattle.morsel_join.specs.Items.{JoinItem, Both, LoneLeft, LoneRight, left_items, right_items, wants_left, wants_right, JoinItems, IsPromised}
-use Rattle.morsel_join.specs.Chains.{left_mark, right_mark}
+use Rattle.morsel_join.specs.Items.{JoinItem, Both, LoneLeft, LoneRight, left_items, right_items, wants_left, wants_right, JoinItems}
 use Rattle.morsel_join.specs.Laws.{mirrored}
-use Rattle.morsel_join.specs.Probes.{PutsItems}
-use Rattle.morsel_join.specs.Rows.{HasItems, IsJoin, item_row, keeps_left, left_row, right_row, column_value, rows_match}
+use Rattle.morsel_join.specs.Rows.{IsJoin, item_row, keeps_left, left_row, right_row, column_value, rows_match}
 use Rattle.morsel_join.specs.Sides.{KeptSide, IsRightSide, is_asked_for, row_finds, rows_alone, rows_found, rows_on_left, rows_on_right, side_row, wants_asked, wants_kept}
-use Rattle.morsel_join.proofs.OrderLemmas.{items-straight, items-exchanged}
+use Rattle.morsel_join.proofs.OrderLemmas.{exchanged_items, exchanged-once, exchanged-promised, straight-promised}
 use Rattle.morsel_join.proofs.SideLemmas.{alone-alike, rows-of-join}
 use Rattle.morsel_join.proofs.Weights.{weigh, weighed}
 
@@ -42,27 +40,26 @@ by-side : (rules : JoinRules) (kept asked : List Row) (is_left : Bool) (out : Ta
     → out.rows ≡ map (side_row (record { rules = rules; is_left = is_left; rows = kept }) asked) (left_items (row_finds (record { rules = rules; is_left = is_left; rows = kept })) (wants_asked (record { rules = rules; is_left = is_left; rows = kept })) 0 asked kept ++ right_items (row_finds (record { rules = rules; is_left = is_left; rows = kept })) (wants_kept (record { rules = rules; is_left = is_left; rows = kept })) asked kept)
     → (left right : Table) → left.rows ≡ (if is_left then kept else asked) → right.rows ≡ (if is_left then asked else kept) → IsJoin rules left right out
 by-side rules kept asked true out keeps schema rows left right on_left on_right =
-    let flipped : Row → Row → Bool = λ y x. rows_match rules.join_nulls rules.right_keys.items rules.left_keys.items y x in
-    let list : List JoinItem = left_items flipped (wants_right rules.how) 0 asked kept ++ right_items flipped (wants_left rules.how) asked kept in
-    let h = items-exchanged rules kept asked (map right_mark list) (map left_mark list) (sym keeps) (record { left_side = refl; right_side = refl }) in
+    let same : Row → Row → Bool = rows_match rules.join_nulls rules.left_keys.items rules.right_keys.items in
+    let list : List JoinItem = exchanged_items rules kept asked in
     record {
       schema = schema;
       items = map mirrored list;
-      once = subst (λ (xs : List Row). JoinItems rules.how (rows_match rules.join_nulls rules.left_keys.items rules.right_keys.items) xs right.rows (map mirrored list)) (sym on_left)
-          (subst (λ (ys : List Row). JoinItems rules.how (rows_match rules.join_nulls rules.left_keys.items rules.right_keys.items) kept ys (map mirrored list)) (sym on_right) h.once);
-      promised = h.promised;
+      once = subst (λ (xs : List Row). JoinItems rules.how same xs right.rows (map mirrored list)) (sym on_left)
+          (subst (λ (ys : List Row). JoinItems rules.how same kept ys (map mirrored list)) (sym on_right) (exchanged-once rules kept asked));
+      promised = exchanged-promised rules kept asked (sym keeps);
       rows = rows ∙ sym (mirrored-rows rules kept asked list) ∙ ap (λ (xs : List Row). map (item_row rules.columns.items xs asked) (map mirrored list)) (sym on_left)
           ∙ ap (λ (ys : List Row). map (item_row rules.columns.items left.rows ys) (map mirrored list)) (sym on_right);
     }
 by-side rules kept asked false out keeps schema rows left right on_left on_right =
     let same : Row → Row → Bool = rows_match rules.join_nulls rules.left_keys.items rules.right_keys.items in
     let list : List JoinItem = left_items same (wants_left rules.how) 0 asked kept ++ right_items same (wants_right rules.how) asked kept in
-    let h = items-straight rules asked kept (map left_mark list) (map right_mark list) (sym keeps) (record { left_side = refl; right_side = refl }) in
+    let once : JoinItems rules.how same asked kept list = λ weight. refl in
     record {
       schema = schema;
       items = list;
-      once = subst (λ (xs : List Row). JoinItems rules.how same xs right.rows list) (sym on_left) (subst (λ (ys : List Row). JoinItems rules.how same asked ys list) (sym on_right) h.once);
-      promised = h.promised;
+      once = subst (λ (xs : List Row). JoinItems rules.how same xs right.rows list) (sym on_left) (subst (λ (ys : List Row). JoinItems rules.how same asked ys list) (sym on_right) once);
+      promised = straight-promised rules asked kept (sym keeps);
       rows = rows ∙ sym (straight-rows rules kept asked list) ∙ ap (λ (xs : List Row). map (item_row rules.columns.items xs kept) list) (sym on_left)
           ∙ ap (λ (ys : List Row). map (item_row rules.columns.items left.rows ys) list) (sym on_right);
     }
