@@ -49,7 +49,8 @@ places-test test other at [] h = refl
 places-test test other at (x ∷ xs) h =
     ap (λ t. if t then at ∷ places test (suc at) xs else places test (suc at) xs) (h x) ∙ ap (λ js. if other x then at ∷ js else js) (places-test test other (suc at) xs h)
 
-none-marked : (keys m : ℕ) → get_or (replicate keys false) m false ≡ false
+-- nothing is marked at first
+pub none-marked : (keys m : ℕ) → get_or (replicate keys false) m false ≡ false
 none-marked zero m = refl
 none-marked (suc keys) zero = refl
 none-marked (suc keys) (suc m) = none-marked keys m

@@ -213,3 +213,20 @@ none-left first next numbers kept wanted from cursor items chains past left none
         let head : Chain next (get_or first (get_or numbers cursor.at 0) 0) [] = subst (λ (js : List ℕ). Chain next (get_or first (get_or numbers cursor.at 0) 0) js) lone.1 (number-chain kept first next (get_or numbers cursor.at 0) chains) in
         absurd (omega (arith, head, (past lone.0).something less))
     by false q e = grind (arith, q)
+
+-- the first items from one cursor on are put, up to another one
+abbrev pub PutsUpTo : List ℕ → ℕ → List ℕ → List ℕ → Bool → Cursor → List JoinItem → List ℕ → List ℕ → List ℕ → List ℕ → Cursor → Type 0
+PutsUpTo kept keys next numbers wanted from items lefts rights new_lefts new_rights cursor = AreItemsFrom kept keys next numbers wanted from items → PutsFrom kept keys next numbers wanted items lefts rights new_lefts new_rights cursor
+
+-- a cursor that no item follows is at the end
+abbrev pub EndsThere : List ℕ → ℕ → List ℕ → List ℕ → Bool → Cursor → List JoinItem → Type 0
+EndsThere kept keys next numbers wanted cursor items = AreItemsFrom kept keys next numbers wanted cursor items → items ≡ [] → (cursor.link ≡ 0) × (length numbers ≤ cursor.at)
+
+pub past-after : (first numbers : List ℕ) (wanted : Bool) (from to : ℕ) → (wanted ≡ true → to ≡ from) → (wanted ≡ false → FindNothing first numbers from to) → from ≤ to
+past-after first numbers true from to same past = let e = same refl in omega (arith, e)
+past-after first numbers false from to same past = (past refl).after
+
+-- what is full stays full past the rows that find nothing
+pub full-past : (stopped cursor : Cursor) (many len limit : ℕ) → cursor.link ≡ stopped.link → stopped.at ≤ cursor.at → ((stopped.link ≡ 0) × (len ≤ stopped.at)) ⊎ (many ≡ limit) → ((cursor.link ≡ 0) × (len ≤ cursor.at)) ⊎ (many ≡ limit)
+full-past stopped cursor many len limit link after (inl (none, past)) = inl (link ∙ none, omega (arith, after, past))
+full-past stopped cursor many len limit link after (inr full) = inr full

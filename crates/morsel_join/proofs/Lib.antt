@@ -18,3 +18,5 @@ pub mod CutLemmas
 pub mod SideLemmas
 pub mod SideJoins
 pub mod LoneLemmas
+pub mod FindLemmas
+pub mod AloneLemmas

@@ -1,5 +1,5 @@
 -- Kept rows that no row finds, so many at a time.
-use Rattle.std.proofs.Common.{◌≡◌, ◌<◌, ◌≤◌, ◌++◌, [], ◌∷◌, List, ℕ, ◌+◌, ◌-◌, suc, zero, length, drop, get_or, arith, refl, ap, ◌∙◌, sym, subst, Bool, true, false, not, if◌then◌else◌, map, nat_lt}
+use Rattle.std.proofs.Common.{◌≡◌, ◌<◌, ◌≤◌, ◌++◌, ◌⊎◌, inl, inr, [], ◌∷◌, List, ℕ, ◌+◌, ◌-◌, suc, zero, length, drop, get_or, arith, refl, ap, ◌∙◌, sym, subst, Bool, true, false, not, if◌then◌else◌, map, nat_lt}
 use Rattle.std.proofs.lemmas.List.{append-nil, map-append, length-map, length-append, drop_all, drop_more}
 use Rattle.morsel_join.specs.Items.{JoinItem, LoneRight, places}
 use Rattle.morsel_join.specs.Chains.{left_mark, right_mark}
@@ -81,3 +81,11 @@ unmarked-none marks numbers from at past none = by (nat_lt at (length numbers)) 
         sym (items-of-row marks numbers at (get_or numbers at 0) less refl ∙ ap (λ t. map LoneRight (if t then at ∷ [] else []) ++ unmarked_items marks numbers (at + 1)) (ap not (past.unmarked less))) ∙ none in
         absurd (cc)
     by false q = grind (arith, q)
+
+-- the same past rows that are marked
+pub unmarked-past : (marks : List Bool) (numbers : List ℕ) (from at : ℕ) → AreMarkedUp marks numbers from at → unmarked_items marks numbers from ≡ unmarked_items marks numbers at
+unmarked-past marks numbers from at past = marked-past marks numbers from (at - from) at (omega (arith, past.after)) past.marked
+
+pub lone-full : (from at many len limit : ℕ) → from ≤ at → (len ≤ from) ⊎ (many ≡ limit) → (len ≤ at) ⊎ (many ≡ limit)
+lone-full from at many len limit after (inl past) = inl (omega (arith, after, past))
+lone-full from at many len limit after (inr full) = inr full

@@ -27,8 +27,8 @@ pub mirrored-rows : (rules : JoinRules) (kept asked : List Row) (items : List Jo
 mirrored-rows rules kept asked [] = refl
 mirrored-rows rules kept asked (item ∷ items) =
     ap (λ (row : Row). row ∷ map (item_row rules.columns.items kept asked) (map mirrored items))
-        (ap (λ (l : Row). map (column_value l (right_row asked (mirrored item))) rules.columns.items) (left-of-mirrored kept item)
-        ∙ ap (λ (r : Row). map (column_value (right_row kept item) r) rules.columns.items) (right-of-mirrored asked item))
+    (ap (λ (l : Row). map (column_value l (right_row asked (mirrored item))) rules.columns.items) (left-of-mirrored kept item)
+    ∙ ap (λ (r : Row). map (column_value (right_row kept item) r) rules.columns.items) (right-of-mirrored asked item))
     ∙ ap (λ (rows : List Row). side_row (record { rules = rules; is_left = true; rows = kept }) asked item ∷ rows) (mirrored-rows rules kept asked items)
 
 -- the rows of items, with the right rows kept

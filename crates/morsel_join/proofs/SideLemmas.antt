@@ -13,7 +13,7 @@ found-append side (row ∷ asked) more =
     ap (λ (rows : List Row). found_by_row side row ++ rows) (found-append side asked more) ∙ sym (append_assoc (found_by_row side row) (rows_found side asked) (rows_found side more))
 
 -- the first of what is left of a list
-drop-first : {X : Type 0} (at : ℕ) (all : List X) (x d : X) (xs : List X) → x ∷ xs ≡ drop at all → (get_or all at d ≡ x) × (xs ≡ drop (suc at) all)
+pub drop-first : {X : Type 0} (at : ℕ) (all : List X) (x d : X) (xs : List X) → x ∷ xs ≡ drop at all → (get_or all at d ≡ x) × (xs ≡ drop (suc at) all)
 drop-first zero [] x d xs e = absurd (cc)
 drop-first zero (y ∷ all) x d xs e = (cc, cc)
 drop-first (suc at) [] x d xs e = absurd (cc)
@@ -53,8 +53,8 @@ rows-of-items side asked at (row ∷ rows) e =
     let h = drop-first at asked row [] rows e in
     map-append (side_row side asked) (or_lone (wants_asked side) at (places (row_finds side row) 0 side.rows)) (left_items (row_finds side) (wants_asked side) (suc at) rows side.rows)
     ∙ ap (λ (rs : List Row). rs ++ map (side_row side asked) (left_items (row_finds side) (wants_asked side) (suc at) rows side.rows))
-        (row-of-items side asked (wants_asked side) at row (places (row_finds side row) 0 side.rows) h.0
-        ∙ ap (λ (rs : List Row). with_each (wants_asked side) (joined_row side row) rs) (places-rows (row_finds side row) side.rows 0 side.rows refl))
+    (row-of-items side asked (wants_asked side) at row (places (row_finds side row) 0 side.rows) h.0
+    ∙ ap (λ (rs : List Row). with_each (wants_asked side) (joined_row side row) rs) (places-rows (row_finds side row) side.rows 0 side.rows refl))
     ∙ ap (λ (rs : List Row). found_by_row side row ++ rs) (rows-of-items side asked (suc at) rows h.1)
 
 -- the rows of lone items

@@ -9,7 +9,9 @@ use Rattle.morsel_join.specs.declared.probe_some.Cursor.{Cursor}
 use Rattle.morsel_join.specs.declared.probing.Probing.{Probing}
 use Rattle.morsel_join.specs.BuildSides.{IsBuild, kept_side}
 use Rattle.morsel_join.specs.Chains.{Chain}
-use Rattle.morsel_join.specs.Sides.{asked_keys, joined_row, rows_found}
+use Rattle.morsel_join.specs.Cuts.{AreItemsFrom, PutsFrom}
+use Rattle.morsel_join.specs.Items.{JoinItem}
+use Rattle.morsel_join.specs.Sides.{asked_keys, joined_row, rows_found, wants_asked}
 
 -- the numbers of rows' keys among those of the kept rows
 abbrev pub AreNumbersOf : Build → List Row → List ℕ → Type 0
@@ -24,6 +26,14 @@ pub record AreFoundFrom (build : Build) (asked : List Row) (cursor : Cursor) (re
   pub chain : List ℕ
   pub linked : Chain build.keyed.next.items cursor.link chain
   pub all : rest ≡ rows_with build (get_or asked cursor.row []) chain ++ rows_found (kept_side build) (drop cursor.at asked)
+
+-- the items from a cursor on of rows with these numbers
+abbrev pub AreItemsIn : Build → List ℕ → Cursor → List JoinItem → Type 0
+AreItemsIn build numbers cursor items = AreItemsFrom build.keyed.numbers.items (length build.keyed.keys.keys) build.keyed.next.items numbers (wants_asked (kept_side build)) cursor items
+
+-- the first of these items were put, and the others are those from a cursor on
+abbrev pub FindsItems : Build → List ℕ → List JoinItem → List ℕ → List ℕ → List ℕ → List ℕ → Cursor → Type 0
+FindsItems build numbers items lefts rights new_lefts new_rights cursor = PutsFrom build.keyed.numbers.items (length build.keyed.keys.keys) build.keyed.next.items numbers (wants_asked (kept_side build)) items lefts rights new_lefts new_rights cursor
 
 -- rows are looked up in a kept side
 pub record IsProbing (probing : Probing) : Type 0 where

@@ -11,7 +11,6 @@ ghost use Rattle.morsel_join.specs.Sides.{rows_alone};
 
 use crate::build_side::Build;
 use crate::hits::Hits;
-use crate::probe_some::{next_unmarked, put_lone_some};
 use crate::some_rows::SomeRows;
 use morsel_frame::Frame;
 use morsel_meaning::Fault;
@@ -41,11 +40,7 @@ impl LoneRows {
         ensures out_of_memory { IsOkUnless result OutOfMemory }
     {
         let columns = build.asked.again()?;
-        let at = if build.wants_kept() {
-            0
-        } else {
-            build.kept.height()
-        };
+        let at = build.first_alone();
         Ok(LoneRows {
             build,
             hits,
@@ -97,16 +92,8 @@ fn alone_from(
 {
     let mut lefts = Vec::new(alloc);
     let mut rights = Vec::new(alloc);
-    let stopped = put_lone_some(
-        seen,
-        &build.keyed.numbers,
-        from,
-        limit,
-        &mut lefts,
-        &mut rights,
-    )?;
+    let at = build.find_alone(seen, from, limit, &mut lefts, &mut rights)?;
     let frame = build.gather(alloc, none, &lefts, &rights)?;
-    let at = next_unmarked(seen, &build.keyed.numbers, stopped);
-    let last = at >= build.kept.height();
+    let last = at >= build.height();
     Ok((SomeRows { frame, last }, at))
 }

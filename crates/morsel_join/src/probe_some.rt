@@ -1,7 +1,7 @@
 //! What rows find in chains, and the rows that are in none, so many at a time.
-ghost use Rattle.std.specs.Prelude.{◌≡◌, ◌<◌, ◌≤◌, ◌+◌, ◌⊎◌, ◌^◌, ℕ, List, true, false, length, map, IfOk, IsOkUnless, get_or};
+ghost use Rattle.std.specs.Prelude.{◌≡◌, ◌<◌, ◌≤◌, ◌+◌, ◌⊎◌, ◌^◌, ℕ, List, [], true, false, length, map, IfOk, IsOkUnless, get_or};
 ghost use Rattle.morsel_join.specs.Chains.{AreRowChains, Chain, LinksRise};
-ghost use Rattle.morsel_join.specs.Cuts.{AreItemsFrom, AreMarkedUp, FindNothing, PutsFollowed, PutsFrom, PutsUnmarked};
+ghost use Rattle.morsel_join.specs.Cuts.{AreItemsFrom, AreMarkedUp, FindNothing, PutsFirst, PutsFollowed, PutsFrom, PutsUnmarked, unmarked_items};
 ghost use Rattle.morsel_join.specs.Items.{Both, JoinItem, or_lone};
 
 use crate::probe::{NO_ROW, head_of, is_seen, put_lone_row};
@@ -16,6 +16,16 @@ pub struct Cursor {
     pub row: u32,
     /// The link to the next of the kept rows that it finds, and 0 where there is none.
     pub link: u32,
+}
+
+impl Cursor {
+    /// Whether nothing is left of so many rows.
+    pub fn is_end(self, rows: usize) -> bool
+        ensures yes { result ≡ true → (self.link ≡ 0) × (rows ≤ self.at) }
+        ensures no { self.link ≡ 0 → rows ≤ self.at → result ≡ true }
+    {
+        self.link == 0 && self.at >= rows
+    }
 }
 
 /// Puts a row last with each row of a chain, until there are so many. The answer is the link to the first row that is left, or 0.
@@ -81,7 +91,7 @@ fn probe_row_some(
 }
 
 /// Puts what rows find last, from a cursor on, until there are so many. The answer is the cursor to what is left.
-pub fn probe_some(
+fn probe_some(
     first: &[u32],
     next: &[u32],
     numbers: &[u32],
@@ -116,8 +126,38 @@ pub fn probe_some(
     Ok(Cursor { at, row, link })
 }
 
+/// The same; the cursor that is answered is past the rows that find nothing.
+pub fn find_some(
+    first: &[u32],
+    next: &[u32],
+    numbers: &[u32],
+    wanted: bool,
+    from: Cursor,
+    limit: usize,
+    lefts: &mut Vec<u32>,
+    rights: &mut Vec<u32>,
+) -> Result<Cursor, Fault>
+    requires heads { (k : ℕ) → get_or first.now k 0 ≤ length next.now }
+    requires rises { LinksRise next.now }
+    requires short { length numbers.now < 2 ^ 32 }
+    requires within { from.link ≤ length next.now }
+    requires room { length lefts.old.items ≤ limit }
+    requires len { length rights.old.items ≡ length lefts.old.items }
+    ensures ok { IfOk result (λ cursor. (kept : List ℕ) (items : List JoinItem) → AreRowChains kept first.now next.now 0 → AreItemsFrom kept (length first.now) next.now numbers.now wanted from items → PutsFrom kept (length first.now) next.now numbers.now wanted items lefts.old.items rights.old.items lefts.new.items rights.new.items cursor) }
+    ensures within { IfOk result (λ cursor. cursor.link ≤ length next.now) }
+    ensures full { IfOk result (λ cursor. ((cursor.link ≡ 0) × (length numbers.now ≤ cursor.at)) ⊎ (length lefts.new.items ≡ limit)) }
+    ensures settled { IfOk result (λ cursor. (kept : List ℕ) (items : List JoinItem) → AreRowChains kept first.now next.now 0 → AreItemsFrom kept (length first.now) next.now numbers.now wanted cursor items → items ≡ [] → (cursor.link ≡ 0) × (length numbers.now ≤ cursor.at)) }
+    ensures room { IfOk result (λ cursor. length lefts.new.items ≤ limit) }
+    ensures len { IfOk result (λ cursor. length rights.new.items ≡ length lefts.new.items) }
+    ensures out_of_memory { IsOkUnless result Fault.OutOfMemory }
+{
+    let stopped = probe_some(first, next, numbers, wanted, from, limit, lefts, rights)?;
+    let cursor = past_barren(first, numbers, wanted, stopped);
+    Ok(cursor)
+}
+
 /// The cursor past the rows that find nothing. Where such rows are wanted there are none.
-pub fn past_barren(first: &[u32], numbers: &[u32], wanted: bool, from: Cursor) -> Cursor
+fn past_barren(first: &[u32], numbers: &[u32], wanted: bool, from: Cursor) -> Cursor
     ensures same { (result.row ≡ from.row) × (result.link ≡ from.link) }
     ensures wanted { wanted ≡ true → result.at ≡ from.at }
     ensures past { wanted ≡ false → FindNothing first.now numbers.now from.at result.at }
@@ -147,7 +187,7 @@ fn next_found(first: &[u32], numbers: &[u32], from: usize) -> usize
 }
 
 /// Puts those rows from one on last alone whose keys are not marked, until there are so many. The answer is the row behind those that were looked at.
-pub fn put_lone_some(
+fn put_lone_some(
     seen: &[bool],
     numbers: &[u32],
     from: usize,
@@ -172,8 +212,32 @@ pub fn put_lone_some(
     Ok(at)
 }
 
+/// The same; the row that is answered is one whose key is not marked, if there is one.
+pub fn find_lone(
+    seen: &[bool],
+    numbers: &[u32],
+    from: usize,
+    limit: usize,
+    lefts: &mut Vec<u32>,
+    rights: &mut Vec<u32>,
+) -> Result<usize, Fault>
+    requires short { length numbers.now < 2 ^ 32 }
+    requires room { length lefts.old.items ≤ limit }
+    requires len { length rights.old.items ≡ length lefts.old.items }
+    ensures ok { IfOk result (λ at. PutsFirst (unmarked_items seen.now numbers.now from) (unmarked_items seen.now numbers.now at) lefts.old.items rights.old.items lefts.new.items rights.new.items) }
+    ensures full { IfOk result (λ at. (length numbers.now ≤ at) ⊎ (length lefts.new.items ≡ limit)) }
+    ensures settled { IfOk result (λ at. unmarked_items seen.now numbers.now at ≡ [] → length numbers.now ≤ at) }
+    ensures room { IfOk result (λ at. length lefts.new.items ≤ limit) }
+    ensures len { IfOk result (λ at. length rights.new.items ≡ length lefts.new.items) }
+    ensures out_of_memory { IsOkUnless result Fault.OutOfMemory }
+{
+    let stopped = put_lone_some(seen, numbers, from, limit, lefts, rights)?;
+    let at = next_unmarked(seen, numbers, stopped);
+    Ok(at)
+}
+
 /// The first row from one on whose key is not marked.
-pub fn next_unmarked(seen: &[bool], numbers: &[u32], from: usize) -> usize
+fn next_unmarked(seen: &[bool], numbers: &[u32], from: usize) -> usize
     ensures { AreMarkedUp seen.now numbers.now from result }
 {
     let mut at = from;

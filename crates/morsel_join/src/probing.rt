@@ -12,7 +12,7 @@ ghost use Rattle.morsel_join.specs.Sides.{rows_found};
 use crate::build_side::Build;
 use crate::hits::Hits;
 use crate::probe::mark_seen;
-use crate::probe_some::{Cursor, past_barren, probe_some};
+use crate::probe_some::Cursor;
 use crate::some_rows::SomeRows;
 use morsel_frame::Frame;
 use morsel_meaning::Fault;
@@ -114,19 +114,8 @@ fn found_from(
 {
     let mut lefts = Vec::new(alloc);
     let mut rights = Vec::new(alloc);
-    let wanted = build.wants_asked();
-    let stopped = probe_some(
-        &build.keyed.first,
-        &build.keyed.next,
-        numbers,
-        wanted,
-        from,
-        limit,
-        &mut lefts,
-        &mut rights,
-    )?;
+    let cursor = build.find(numbers, from, limit, &mut lefts, &mut rights)?;
     let frame = build.gather(alloc, asked, &lefts, &rights)?;
-    let cursor = past_barren(&build.keyed.first, numbers, wanted, stopped);
-    let last = cursor.link == 0 && cursor.at >= numbers.len();
+    let last = cursor.is_end(numbers.len());
     Ok((SomeRows { frame, last }, cursor))
 }

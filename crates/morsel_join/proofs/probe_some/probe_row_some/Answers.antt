@@ -15,4 +15,4 @@ pub returns-clause-ok : goal.returns-clause-ok
 returns-clause-ok c =
     let wanted : c.args.wanted ≡ true = search rules in
     λ chain linked.
-        rw (wanted, c.in_ok-push.ensures.items, c.in_ok-push-2.ensures.items) (row-alone c.args.next.now c.args.head c.args.row c.args.lefts.now.items c.args.rights.now.items chain c.if-head-ne0.false linked)
+    rw (wanted, c.in_ok-push.ensures.items, c.in_ok-push-2.ensures.items) (row-alone c.args.next.now c.args.head c.args.row c.args.lefts.now.items c.args.rights.now.items chain c.if-head-ne0.false linked)
