@@ -68,21 +68,21 @@ impl Build {
     }
 
     /// How many keys the kept rows have.
-    pub fn keys(&self) -> usize
+    pub(crate) fn keys(&self) -> usize
         ensures { result ≡ length self.now.keyed.keys.keys }
     {
         self.keyed.keys.len()
     }
 
     /// How many kept rows there are.
-    pub fn height(&self) -> usize
+    pub(crate) fn height(&self) -> usize
         ensures { result ≡ length self.now.kept.rows }
     {
         self.kept.height()
     }
 
     /// The numbers of rows' keys among those of the kept rows, and `u32::MAX` where there is no such key.
-    pub fn numbers(&self, alloc: Global, asked: &Frame) -> Result<Vec<u32>, Fault>
+    pub(crate) fn numbers(&self, alloc: Global, asked: &Frame) -> Result<Vec<u32>, Fault>
         requires built { IsBuild self.now }
         requires columns { asked.now.schema ≡ self.now.asked }
         ensures ok { IfOk result (λ numbers. AreNumbersOf self.now asked.now.rows numbers.items) }
@@ -95,7 +95,7 @@ impl Build {
     }
 
     /// Whether the kind has the rows that find nothing.
-    pub fn wants_asked(&self) -> bool
+    pub(crate) fn wants_asked(&self) -> bool
         ensures { result ≡ wants_asked (kept_side self.now) }
     {
         if self.is_left {
@@ -105,7 +105,7 @@ impl Build {
     }
 
     /// Whether the kind has the kept rows that no row finds.
-    pub fn wants_kept(&self) -> bool
+    pub(crate) fn wants_kept(&self) -> bool
         ensures { result ≡ wants_kept (kept_side self.now) }
     {
         if self.is_left {
@@ -115,7 +115,7 @@ impl Build {
     }
 
     /// The kept row from which on those are given that no row finds: the first one, or none where the kind has them not.
-    pub fn first_alone(&self) -> usize
+    pub(crate) fn first_alone(&self) -> usize
         ensures wanted { wants_kept (kept_side self.now) ≡ true → result ≡ 0 }
         ensures unwanted { wants_kept (kept_side self.now) ≡ false → result ≡ length self.now.kept.rows }
     {
@@ -126,7 +126,7 @@ impl Build {
     }
 
     /// The rows of items, whose rows and kept rows have these numbers; `u32::MAX` where there is none.
-    pub fn gather(
+    pub(crate) fn gather(
         &self,
         alloc: Global,
         asked: &Frame,
@@ -155,7 +155,7 @@ impl Build {
     }
 
     /// Puts what rows with these numbers find last, from a cursor on, until there are so many. The answer is the cursor to the next that is left.
-    pub fn find(
+    pub(crate) fn find(
         &self,
         numbers: &[u32],
         from: Cursor,
@@ -191,7 +191,7 @@ impl Build {
     }
 
     /// Puts those kept rows from one on last alone whose keys are not marked, until there are so many. The answer is the next such row.
-    pub fn find_alone(
+    pub(crate) fn find_alone(
         &self,
         seen: &[bool],
         from: usize,

@@ -20,7 +20,7 @@ pub struct Cursor {
 
 impl Cursor {
     /// Whether nothing is left of so many rows.
-    pub fn is_end(self, rows: usize) -> bool
+    pub(crate) fn is_end(self, rows: usize) -> bool
         ensures yes { result ≡ true → (self.link ≡ 0) × (rows ≤ self.at) }
         ensures no { self.link ≡ 0 → rows ≤ self.at → result ≡ true }
     {
