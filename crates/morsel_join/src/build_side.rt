@@ -295,7 +295,9 @@ fn stacked(alloc: Global, columns: Schema, frames: Vec<Frame>) -> Result<Frame, 
 {
     let mut all = Frame::empty(alloc, columns);
     for frame in frames {
-        stack(&mut all, &frame)?;
+        let Ok(()) = stack(&mut all, &frame) else {
+            return Err(Fault::OutOfMemory);
+        };
     }
     Ok(all)
 }

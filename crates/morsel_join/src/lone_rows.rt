@@ -1,5 +1,5 @@
 //! The kept rows that no row finds, some at a time.
-ghost use Rattle.std.specs.Prelude.{◌≡◌, ◌<◌, List, [], IfOk, OnErr, IsOkUnless};
+ghost use Rattle.std.specs.Prelude.{◌≡◌, ◌<◌, ◌≤◌, true, List, [], IfOk, OnErr, IsOkUnless};
 ghost use Rattle.std.specs.Arc.{arc_value};
 ghost use Rattle.morsel_meaning.specs.declared.fault.Fault.TheVariants.{OutOfMemory};
 ghost use Rattle.morsel_meaning.specs.Values.{Row};
@@ -94,6 +94,14 @@ fn alone_from(
     let mut rights = Vec::new(alloc);
     let at = build.find_alone(seen, from, limit, &mut lefts, &mut rights)?;
     let frame = build.gather(alloc, none, &lefts, &rights)?;
-    let last = at >= build.height();
+    let last = is_past(at, build.height());
     Ok((SomeRows { frame, last }, at))
+}
+
+/// Whether a place is past so many rows.
+fn is_past(at: usize, height: usize) -> bool
+    ensures past { result ≡ true → height ≤ at }
+    ensures all { height ≤ at → result ≡ true }
+{
+    at >= height
 }

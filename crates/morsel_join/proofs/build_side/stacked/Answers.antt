@@ -23,7 +23,7 @@ stack-requires-clause-short c = c.loop-frame.invariant.short
 pub loop-frame-preserved : goal.loop-frame-preserved
 loop-frame-preserved c = record {
   every = append_assoc c.loop-frame.yielded (c.in-Some.frame ∷ []) (into_iter_items c.next.new.self) ∙ ap (λ (ts : List Table). c.loop-frame.yielded ++ ts) (sym c.in-Some.ensures.steps.0) ∙ c.loop-frame.invariant.every;
-  rows = c.in_ok-stack.ensures.ok ∙ ap (λ (t : Table). record { schema = t.schema; rows = t.rows ++ c.in-Some.frame.rows }) c.loop-frame.invariant.rows
+  rows = c.in-Ok.ensures.ok ∙ ap (λ (t : Table). record { schema = t.schema; rows = t.rows ++ c.in-Some.frame.rows }) c.loop-frame.invariant.rows
       ∙ ap (λ (rows : List Row). record { schema = c.args.columns; rows = rows }) (flat_map_more (λ (t : Table). t.rows) [] c.loop-frame.yielded c.in-Some.frame);
-  short = c.in_ok-stack.ensures.short;
+  short = c.in-Ok.ensures.short;
 }

@@ -8,15 +8,15 @@ use Rattle.morsel_join.proofs.build_side.Build.gather.Goals as goal
 pub gather_exchanged-requires-clause-fit : goal.gather_exchanged-requires-clause-fit
 gather_exchanged-requires-clause-fit c =
     let b = c.args.self.now in
-    subst (λ (fs : List Field). FitRules b.kept.schema fs b.rules) (sym c.requires.columns) (subst (λ (t : Bool). FitSides t b.kept.schema b.asked b.rules) c.if-is_left.true c.requires.built.fit)
+    subst (λ (fs : List Field). FitRules b.kept.schema fs b.rules) (sym c.requires.columns) (subst (λ (t : Bool). FitSides t b.kept.schema b.asked b.rules) c.if-self.true c.requires.built.fit)
 
 pub gather_straight-requires-clause-fit : goal.gather_straight-requires-clause-fit
 gather_straight-requires-clause-fit c =
     let b = c.args.self.now in
-    subst (λ (fs : List Field). FitRules fs b.kept.schema b.rules) (sym c.requires.columns) (subst (λ (t : Bool). FitSides t b.kept.schema b.asked b.rules) c.if-is_left.false c.requires.built.fit)
+    subst (λ (fs : List Field). FitRules fs b.kept.schema b.rules) (sym c.requires.columns) (subst (λ (t : Bool). FitSides t b.kept.schema b.asked b.rules) c.if-self.false c.requires.built.fit)
 
-pub returns-then-is_left-clause-ok : goal.returns-then-is_left-clause-ok
-returns-then-is_left-clause-ok c = λ items left right. rw c.if-is_left.true (c.in_ok-gather_exchanged.ensures.ok items left right)
+pub returns-then-self-clause-ok : goal.returns-then-self-clause-ok
+returns-then-self-clause-ok c = λ items left right. rw c.if-self.true (c.in_ok-gather_exchanged.ensures.ok items left right)
 
 pub returns-clause-ok : goal.returns-clause-ok
-returns-clause-ok c = λ items left right. rw c.if-is_left.false (c.in_ok-gather_straight.ensures.ok items left right)
+returns-clause-ok c = λ items left right. rw c.if-self.false (c.in_ok-gather_straight.ensures.ok items left right)

@@ -11,11 +11,11 @@ pub returns-clause-lone : goal.returns-clause-lone
 returns-clause-lone c = record {
   built = c.requires.built;
   marks = c.requires.marks;
-  blank = c.empty.ensures ∙ ap (λ (fs : List Field). record { schema = fs; rows = [] }) (c.in_ok-columns.ensures.same ∙ ap (λ (b : Build). b.asked) c.deref.ensures.value);
+  blank = c.empty.ensures ∙ ap (λ (fs : List Field). record { schema = fs; rows = [] }) (c.in_ok-columns.ensures.same ∙ ap (λ (b : Build). b.asked) c.deref.ensures);
 }
 
 pub returns-clause-all : goal.returns-clause-all
 returns-clause-all c = λ asked hit.
     alone-unmarked (arc_value c.args.build) c.args.hits.seen.items asked c.first_alone-at.result c.requires.built hit
-    (subst (λ (b : Build). wants_kept (kept_side b) ≡ true → c.first_alone-at.result ≡ 0) c.deref-2.ensures.value c.first_alone-at.ensures.wanted)
-    (subst (λ (b : Build). wants_kept (kept_side b) ≡ false → c.first_alone-at.result ≡ length b.kept.rows) c.deref-2.ensures.value c.first_alone-at.ensures.unwanted)
+    (subst (λ (b : Build). wants_kept (kept_side b) ≡ true → c.first_alone-at.result ≡ 0) c.deref-2.ensures c.first_alone-at.ensures.wanted)
+    (subst (λ (b : Build). wants_kept (kept_side b) ≡ false → c.first_alone-at.result ≡ length b.kept.rows) c.deref-2.ensures c.first_alone-at.ensures.unwanted)

@@ -8,10 +8,10 @@ use Rattle.morsel_join.specs.LoneRows.{rows_alone_from}
 use Rattle.morsel_join.proofs.lone_rows.LoneRows.next.Goals as goal
 
 pub alone_from-requires-clause-built : goal.alone_from-requires-clause-built
-alone_from-requires-clause-built c = subst IsBuild (sym c.deref.ensures.value) c.requires.lone.built
+alone_from-requires-clause-built c = subst IsBuild (sym c.deref.ensures) c.requires.lone.built
 
 pub alone_from-requires-clause-blank : goal.alone_from-requires-clause-blank
-alone_from-requires-clause-blank c = subst (λ (b : Build). c.args.self.now.none ≡ record { schema = b.asked; rows = [] }) (sym c.deref.ensures.value) c.requires.lone.blank
+alone_from-requires-clause-blank c = subst (λ (b : Build). c.args.self.now.none ≡ record { schema = b.asked; rows = [] }) (sym c.deref.ensures) c.requires.lone.blank
 
 pub returns-clause-lone : goal.returns-clause-lone
 returns-clause-lone c = record { built = c.requires.lone.built; marks = c.requires.lone.marks; blank = c.requires.lone.blank }
@@ -23,8 +23,8 @@ returns-clause-rows c = λ rest left.
     let from = c.args.self.now.at in
     let at = c.in_ok-some.at in
     subst (λ (rs : List Row). GivesSome (λ later. later ≡ rows_alone_from build seen at) c.args.rows rs c.in_ok-some.some) (sym left)
-    (subst (λ (b : Build). GivesSome (λ later. later ≡ rows_alone_from b seen at) c.args.rows (rows_alone_from b seen from) c.in_ok-some.some) c.deref.ensures.value
+    (subst (λ (b : Build). GivesSome (λ later. later ≡ rows_alone_from b seen at) c.args.rows (rows_alone_from b seen from) c.in_ok-some.some) c.deref.ensures
     (subst (λ (marks : List Bool). GivesSome (λ later. later ≡ rows_alone_from c.deref.result.now marks at) c.args.rows (rows_alone_from c.deref.result.now marks from) c.in_ok-some.some) c.deref-2.ensures.value c.in_ok-some.ensures.rows))
 
 pub returns-clause-columns : goal.returns-clause-columns
-returns-clause-columns c = subst (λ (b : Build). c.in_ok-some.some.frame.schema ≡ b.rules.output) c.deref.ensures.value c.in_ok-some.ensures.columns
+returns-clause-columns c = subst (λ (b : Build). c.in_ok-some.some.frame.schema ≡ b.rules.output) c.deref.ensures c.in_ok-some.ensures.columns
