@@ -38,7 +38,7 @@ marks-set build asked rows numbers old new built looked len marked a =
           marked m ∙ ap (λ t. t || list_any (λ n. same_number (length old) n m) numbers) (a.each j kept is)
           ∙ ap (λ (k : ℕ). is_asked_for side asked kept || list_any (λ n. same_number k n m) numbers) a.len
           ∙ ap (λ t. is_asked_for side asked kept || t) (sym (any-agree (λ row. row_finds side row kept) (λ n. same_number (length build.keyed.keys.keys) n m) rows numbers (looked.len ∙ length-map rows (cells_at (asked_keys side)))
-            (λ i row e. keyed-agree build.rules.join_nulls rows build.kept.rows (asked_keys side) (kept_keys side) numbers build.keyed.numbers.items build.keyed.keys.keys built.keyed.once built.keyed.few looked built.keyed.each i j row kept e is)))
+          (λ i row e. keyed-agree build.rules.join_nulls rows build.kept.rows (asked_keys side) (kept_keys side) numbers build.keyed.numbers.items build.keyed.keys.keys built.keyed.once built.keyed.few looked built.keyed.each i j row kept e is)))
           ∙ sym (asked-append side asked rows kept);
     }
 

@@ -18,9 +18,9 @@ returns-clause-rows c =
     let rights = c.find_alone.new.rights.items in
     gives-alone build seen c.args.from at c.args.limit lefts rights (record { frame = c.in_ok-frame.frame; last = c.is_past-last.result }) c.requires.built
     (subst (λ (ls : List ℕ). PutsFirst (unmarked_items seen numbers c.args.from) (unmarked_items seen numbers at) ls [] lefts rights) c.new-lefts.ensures.items
-        (subst (λ (rs : List ℕ). PutsFirst (unmarked_items seen numbers c.args.from) (unmarked_items seen numbers at) c.new-lefts.result.items rs lefts rights) c.new-rights.ensures.items c.in_ok-at.ensures.ok))
+    (subst (λ (rs : List ℕ). PutsFirst (unmarked_items seen numbers c.args.from) (unmarked_items seen numbers at) c.new-lefts.result.items rs lefts rights) c.new-rights.ensures.items c.in_ok-at.ensures.ok))
     c.in_ok-at.ensures.room c.in_ok-at.ensures.full c.in_ok-at.ensures.settled
     (λ (done : List JoinItem) left right.
-        ap (λ (t : Table). t.rows) (c.in_ok-frame.ensures.ok done (c.deref.ensures.value ∙ left) (c.deref-2.ensures.value ∙ right))
-        ∙ ap (λ (rows : List Row). map (side_row (kept_side build) rows) done) (ap (λ (t : Table). t.rows) c.requires.blank))
+    ap (λ (t : Table). t.rows) (c.in_ok-frame.ensures.ok done (c.deref.ensures.value ∙ left) (c.deref-2.ensures.value ∙ right))
+    ∙ ap (λ (rows : List Row). map (side_row (kept_side build) rows) done) (ap (λ (t : Table). t.rows) c.requires.blank))
     (λ is. subst (λ (n : ℕ). n ≤ at) c.height.ensures (c.is_past-last.ensures.past is)) (λ past. c.is_past-last.ensures.all (subst (λ (n : ℕ). n ≤ at) (sym c.height.ensures) past))

@@ -21,8 +21,8 @@ returns-clause-rows c = λ rest found.
     let rights = c.find.new.rights.items in
     gives-found build c.args.asked.now.rows numbers c.args.from cursor c.args.limit rest lefts rights (record { frame = c.in_ok-frame.frame; last = c.is_end-last.result }) c.requires.built c.requires.numbers
     (λ items left.
-        subst (λ (ls : List ℕ). FindsItems build numbers items ls [] lefts rights cursor) c.new-lefts.ensures.items
-        (subst (λ (rs : List ℕ). FindsItems build numbers items c.new-lefts.result.items rs lefts rights cursor) c.new-rights.ensures.items (c.in_ok-cursor.ensures.ok items left)))
+    subst (λ (ls : List ℕ). FindsItems build numbers items ls [] lefts rights cursor) c.new-lefts.ensures.items
+    (subst (λ (rs : List ℕ). FindsItems build numbers items c.new-lefts.result.items rs lefts rights cursor) c.new-rights.ensures.items (c.in_ok-cursor.ensures.ok items left)))
     c.in_ok-cursor.ensures.room c.in_ok-cursor.ensures.full c.in_ok-cursor.ensures.settled
     (λ done left right. ap (λ (t : Table). t.rows) (c.in_ok-frame.ensures.ok done (c.deref.ensures.value ∙ left) (c.deref-2.ensures.value ∙ right)))
     c.is_end-last.ensures.yes c.is_end-last.ensures.no found

@@ -22,4 +22,4 @@ returns-clause-hit c = λ build asked more a b.
     let same : length new ≡ length old.items = search rules in
     subst (λ (xs : List Bool). HaveHit build xs (asked ++ more)) (sym (written_back old.len new old.items len same))
     (marks-joined build asked more old.items other new a b same
-        (λ m. c.join_marks.ensures.marked m ∙ ap (λ (xs : List Bool). get_or xs m false || get_or c.deref.result.now m false) c.deref_mut.ensures.value ∙ ap (λ (xs : List Bool). get_or old.items m false || get_or xs m false) c.deref.ensures.value))
+    (λ m. c.join_marks.ensures.marked m ∙ ap (λ (xs : List Bool). get_or xs m false || get_or c.deref.result.now m false) c.deref_mut.ensures.value ∙ ap (λ (xs : List Bool). get_or old.items m false || get_or xs m false) c.deref.ensures.value))

@@ -18,7 +18,7 @@ returns-clause-hit c = λ asked hit.
     subst (λ (xs : List Bool). HaveHit build xs (asked ++ c.args.self.now.frame.rows)) (sym (written_back old.len new old.items len same))
     (marks-set build asked c.args.self.now.frame.rows c.args.self.now.numbers.items old.items new probing.built probing.numbers same
     (λ m.
-        c.mark_seen.ensures.marked m
-        ∙ ap (λ (xs : List Bool). get_or xs m false || list_any (λ n. same_number (length xs) n m) c.deref.result.now) c.deref_mut.ensures.value
-        ∙ ap (λ (ns : List ℕ). get_or old.items m false || list_any (λ n. same_number (length old.items) n m) ns) c.deref.ensures.value)
+    c.mark_seen.ensures.marked m
+    ∙ ap (λ (xs : List Bool). get_or xs m false || list_any (λ n. same_number (length xs) n m) c.deref.result.now) c.deref_mut.ensures.value
+    ∙ ap (λ (ns : List ℕ). get_or old.items m false || list_any (λ n. same_number (length old.items) n m) ns) c.deref.ensures.value)
     hit)
