@@ -1,0 +1,3 @@
+-- Cuts of rows, and rows in order.
+pub mod CutLemmas
+pub mod OrderLemmas

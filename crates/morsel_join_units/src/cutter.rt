@@ -1,0 +1,51 @@
+//! Rows of one stretch as several loads.
+ghost use Rattle.std.specs.Prelude.{◌≡◌, ◌+◌, None, length, IfOk, OnOk, IsOkUnless};
+ghost use Rattle.morsel_meaning.specs.declared.fault.Fault.TheVariants.{OutOfMemory};
+ghost use Rattle.morsel_join_units.specs.Cutters.{cut_at};
+
+use morsel_join::SomeRows;
+use morsel_load::{Morsel, SourceToken, Stretch};
+use morsel_meaning::Fault;
+use morsel_pipe::MorselSeq;
+
+/// Makes loads of the rows of one stretch, which have one number and the tokens of one source.
+#[derive(Drop)]
+pub struct Cutter {
+    pub(crate) seq: MorselSeq,
+    pub(crate) source: SourceToken,
+    /// Where the stretch begins.
+    pub(crate) from: u64,
+    /// Where it ends.
+    pub(crate) to: u64,
+    /// How many of its rows were given.
+    pub(crate) given: u64,
+}
+
+impl Cutter {
+    /// The next rows of the stretch, as a load.
+    pub(crate) fn cut<K, J>(&mut self, some: SomeRows) -> Result<Morsel<K, J>, Fault>
+        ensures same { (self.new.seq ≡ self.old.seq) × (self.new.source ≡ self.old.source) × (self.new.from ≡ self.old.from) × (self.new.to ≡ self.old.to) }
+        ensures given { OnOk result (self.new.given ≡ self.old.given + length some.frame.rows) }
+        ensures frame { IfOk result (λ morsel. morsel.frame ≡ some.frame) }
+        ensures number { IfOk result (λ morsel. morsel.seq ≡ self.old.seq) }
+        ensures source { IfOk result (λ morsel. (morsel.source_token.source ≡ self.old.source.source) × (morsel.source_token.stops ≡ self.old.source.stops)) }
+        ensures free { IfOk result (λ morsel. morsel.consume_token ≡ None) }
+        ensures stretch { IfOk result (λ morsel. morsel.stretch ≡ cut_at self.old some.last) }
+        ensures out_of_memory { IsOkUnless result OutOfMemory }
+    {
+        let SomeRows { frame, last } = some;
+        let skip = self.given;
+        let Some(given) = skip.checked_add(frame.height() as u64) else {
+            return Err(Fault::OutOfMemory);
+        };
+        let mut morsel = Morsel::new(frame, self.seq, self.source.again()?);
+        morsel.set_stretch(Stretch {
+            from: self.from,
+            to: self.to,
+            skip,
+            last,
+        });
+        self.given = given;
+        Ok(morsel)
+    }
+}

@@ -1,0 +1,2 @@
+-- What lanes of rows are for.
+pub mod RowsJobs
