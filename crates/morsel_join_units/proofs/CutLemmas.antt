@@ -21,8 +21,7 @@ before (x ∷ front) rest = ap (λ xs. x ∷ xs) (before front rest)
 cut-of : (all front rest rows later : List Row) (given : ℕ) → all ≡ front ++ rest → length front ≡ given → rest ≡ rows ++ later
     → (rows ≡ take (length rows) (drop given all)) × (length all ≡ given + length rows + length later)
 cut-of all front rest rows later given whole len cut =
-    let same : all ≡ front ++ (rows ++ later) = whole ∙ ap (λ (xs : List Row). front ++ xs) cut in
-    (
+    let same : all ≡ front ++ (rows ++ later) = whole ∙ ap (λ (xs : List Row). front ++ xs) cut in (
       sym (ap (λ (xs : List Row). take (length rows) (drop given xs)) same ∙ ap (λ (n : ℕ). take (length rows) (drop n (front ++ (rows ++ later)))) (sym len) ∙ ap (take (length rows)) (behind front (rows ++ later)) ∙ before rows later),
       ap (λ (xs : List Row). length xs) same ∙ length-append front (rows ++ later) ∙ ap (λ (n : ℕ). length front + n) (length-append rows later) ∙ omega (arith, len),
     )
@@ -60,3 +59,7 @@ given-next Left Then limit given now all some gives more has =
 -- the next rows were given of those that were left
 pub rest-next : (Then : List Row → Type 0) (limit : ℕ) (rest : List Row) (some : SomeRows) (rows : List Row) (last : Bool) → rows ≡ some.frame.rows → last ≡ some.last → GivesSome Then limit rest some → GivesRest Then rest rows last
 rest-next Then limit rest some rows last same is gives = record { later = gives.later; same = gives.all ∙ ap (λ (xs : List Row). xs ++ gives.later) (sym same); left = gives.left; none = λ ends. gives.last (sym is ∙ ends) }
+
+-- a cut of one stretch is one of another with the same places
+pub cut-along : (all rows : List Row) (stretch other cut : Stretch) → stretch.from ≡ other.from → stretch.to ≡ other.to → IsCutOf all stretch rows cut → IsCutOf all other rows cut
+cut-along all rows stretch other cut from to is = record { from = is.from ∙ from; to = is.to ∙ to; within = is.within; are = is.are; ends = is.ends }

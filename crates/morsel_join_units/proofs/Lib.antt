@@ -1,3 +1,5 @@
--- Cuts of rows, and rows in order.
+-- Cuts of rows, what was made of them, and rows in order.
 pub mod CutLemmas
+pub mod LoneLemmas
 pub mod OrderLemmas
+pub mod ProbeLemmas

@@ -40,12 +40,12 @@ place_left false = (0, 1) ∷ []
 pub record DidGiveAlone (giver : LoneGiver) (made : List LoadSeen) : Type 0 where
   pub rest : List Row
   pub left : LeavesAlone giver.lone rest
-  pub all : (asked : List Row) → HaveHit (arc_value giver.lone.build) giver.lone.hits.seen.items asked → rows_of_loads made ++ rest ≡ rows_alone (kept_side (arc_value giver.lone.build)) asked
+  pub all : (asked : List Row) → HaveHit (arc_value giver.lone.build) giver.hits.value.seen.items asked → rows_of_loads made ++ rest ≡ rows_alone (kept_side (arc_value giver.lone.build)) asked
   pub none : giver.ended ≡ true → rest ≡ []
   pub numbers : All (λ load. seen_seq load ≡ giver.cutter.seq) made
 
 -- the kept side, its marks and the number of the loads are the same
 pub record IsLaterGiver (giver later : LoneGiver) : Type 0 where
   pub build : arc_value later.lone.build ≡ arc_value giver.lone.build
-  pub hits : later.lone.hits ≡ giver.lone.hits
+  pub hits : later.hits.value ≡ giver.hits.value
   pub number : later.cutter.seq ≡ giver.cutter.seq

@@ -19,6 +19,7 @@ use morsel_meaning::Fault;
 use morsel_pipe::MorselSeq;
 use morsel_rows_job::RowsJob;
 use std::alloc::Global;
+use std::snapshot::Snapshot;
 use std::sync::Arc;
 
 /// Gives the kept rows of a join that no row found, as loads of one place with one number, each of so many rows at most. There is
@@ -27,6 +28,8 @@ use std::sync::Arc;
 pub struct LoneGiver {
     alloc: Global,
     lone: LoneRows,
+    // The marks of all rows that were looked up.
+    hits: Snapshot<Hits>,
     // How many rows a load has at most.
     rows: usize,
     cutter: Cutter,
@@ -48,16 +51,19 @@ impl LoneGiver {
         requires marks { AreMarks (arc_value build) hits.seen.items }
         requires some { 0 < rows }
         ensures build { IfOk result (λ giver. arc_value giver.lone.build ≡ arc_value build) }
+        ensures hits { IfOk result (λ giver. giver.hits.value ≡ hits) }
         ensures giver { IfOk result IsLoneGiver }
         ensures number { IfOk result (λ giver. giver.cutter.seq ≡ seq) }
         ensures left { IfOk result (λ giver. (asked : List Row) → HaveHit (arc_value build) hits.seen.items asked → HasLeft (rows_alone (kept_side (arc_value build)) asked) giver) }
         ensures none { IfOk result (λ giver. (giver.ended ≡ false) × DidGiveAlone giver []) }
         ensures out_of_memory { IsOkUnless result OutOfMemory }
     {
+        let marks = Snapshot::of(&hits);
         let lone = LoneRows::new(alloc, build, hits)?;
         Ok(LoneGiver {
             alloc,
             lone,
+            hits: marks,
             rows,
             cutter: Cutter {
                 seq,
@@ -74,7 +80,7 @@ impl LoneGiver {
     fn give<K, J>(&mut self) -> Result<Morsel<K, J>, Fault>
         requires giver { IsLoneGiver self.old }
         ensures giver { IsLoneGiver self.new }
-        ensures same { (self.new.lone.build ≡ self.old.lone.build) × (self.new.lone.hits ≡ self.old.lone.hits) × (self.new.cutter.seq ≡ self.old.cutter.seq) × (self.new.ended ≡ self.old.ended) }
+        ensures same { (self.new.lone.build ≡ self.old.lone.build) × (self.new.hits ≡ self.old.hits) × (self.new.cutter.seq ≡ self.old.cutter.seq) × (self.new.ended ≡ self.old.ended) }
         ensures cut { (all : List Row) → HasLeft all self.old → IfOk result (λ morsel. IsCutOf all alone_stretch morsel.frame.rows morsel.stretch) }
         ensures left { (all : List Row) → HasLeft all self.old → OnOk result (HasLeft all self.new) }
         ensures rows { (rest : List Row) → LeavesAlone self.old.lone rest → IfOk result (λ morsel. GivesRest (LeavesAlone self.new.lone) rest morsel.frame.rows morsel.stretch.last) }

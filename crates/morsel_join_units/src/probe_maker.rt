@@ -1,5 +1,5 @@
 //! What rows find on the kept side of a join, as loads.
-ghost use Rattle.std.specs.Prelude.{◌≡◌, ◌<◌, ◌++◌, [], List, None, IfOk, OnOk, IsOkUnless};
+ghost use Rattle.std.specs.Prelude.{◌≡◌, ◌<◌, ◌++◌, if◌then◌else◌, [], List, None, Some, IfOk, OnOk, IsOkUnless};
 ghost use Rattle.std.specs.Arc.{arc_value};
 ghost use Rattle.morsel_meaning.specs.declared.fault.Fault.TheVariants.{OutOfMemory};
 ghost use Rattle.morsel_meaning.specs.Values.{Row};
@@ -41,11 +41,7 @@ pub struct ProbeMaker {
 
 impl ProbeMaker {
     /// One that has looked nothing up.
-    pub fn new(
-        alloc: Global,
-        build: Arc<Build, Global>,
-        rows: usize,
-    ) -> Result<ProbeMaker, Fault>
+    pub fn new(alloc: Global, build: Arc<Build, Global>, rows: usize) -> Result<ProbeMaker, Fault>
         requires built { IsBuild (arc_value build) }
         requires some { 0 < rows }
         ensures build { IfOk result (λ maker. arc_value maker.build ≡ arc_value build) }
@@ -97,12 +93,23 @@ impl Probed {
         ensures free { IfOk result (λ morsel. morsel.consume_token ≡ None) }
         ensures number { IfOk result (λ morsel. morsel.seq ≡ self.old.cutter.seq) }
         ensures source { IfOk result (λ morsel. morsel.source_token.source ≡ self.old.cutter.source.source) }
+        ensures place { IfOk result (λ morsel. (morsel.stretch.from ≡ self.old.cutter.from) × (morsel.stretch.to ≡ self.old.cutter.to)) }
         ensures columns { IfOk result (λ morsel. morsel.frame.schema ≡ (arc_value self.old.probing.build).rules.output) }
         ensures out_of_memory { IsOkUnless result OutOfMemory }
     {
         let some = self.probing.next(alloc, rows)?;
         let morsel = self.cutter.cut(some)?;
         Ok(morsel)
+    }
+
+    /// What is still to be given; nothing where the last rows were.
+    fn unless_last(self, last: bool) -> Option<Probed>
+        ensures { result ≡ (if last then None else Some self) }
+    {
+        if last {
+            return None;
+        }
+        Some(self)
     }
 }
 
@@ -174,13 +181,12 @@ impl<K: Drop, J: RowsJob<K>> LoadsMaker<K, J> for ProbeMaker {
         ensures later { arc_value self.new.build ≡ arc_value self.old.build }
         ensures failed { IsOkUnless result OutOfMemory }
     {
-        let Some(probed) = &mut self.probed else {
+        let Some(mut probed) = self.probed.take() else {
             return Ok(None);
         };
         let morsel = probed.next(self.alloc, self.rows)?;
-        if morsel.stretch().last {
-            self.probed = None;
-        }
+        let last = morsel.stretch().last;
+        self.probed = probed.unless_last(last);
         Ok(Some(Load::Morsel(morsel)))
     }
 

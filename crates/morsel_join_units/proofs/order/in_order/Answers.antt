@@ -12,7 +12,7 @@ returns-clause-gives g c =
     λ job columns are all.
     subst (λ (ts : List Table). g.J.RowsJob.gives job 0 c.args.given (rows_of_tables ts)) (sym c.in_ok-frames.ensures.frames)
     (gives-all g.J.LoadJob.suits g.J.RowsJob.gives job (λ frame seq source stretch suits. g.met.J.RowsJob.rows_are job columns frame seq source stretch are suits) (λ from mid to before after first next. g.J.RowsJob.gives_next job columns from mid to before after are first next)
-        c.in_ok-rows.rows.items [] 0 c.args.given (All-permutation (AreRowsOf g.J.LoadJob.suits job) c.args.kept.items c.in_ok-rows.rows.items c.in_ok-rows.ensures.same all) c.in_ok-frames.ensures.follow (g.J.RowsJob.gives_none job columns are))
+    c.in_ok-rows.rows.items [] 0 c.args.given (All-permutation (AreRowsOf g.J.LoadJob.suits job) c.args.kept.items c.in_ok-rows.rows.items c.in_ok-rows.ensures.same all) c.in_ok-frames.ensures.follow (g.J.RowsJob.gives_none job columns are))
 
 pub returns-clause-columns : goal.returns-clause-columns
 returns-clause-columns g c =

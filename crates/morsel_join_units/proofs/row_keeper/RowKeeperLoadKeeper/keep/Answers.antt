@@ -11,9 +11,9 @@ returns-clause-keeps g c =
     let rows : KeptRows = record { seq = c.in-Morsel.morsel.seq; stretch = c.in-Morsel.morsel.stretch; frame = c.in-Morsel.morsel.frame } in
     let more : c.push.new.self.items ≡ c.args.self.now.kept.items ++ rows ∷ [] = search rules in
     λ from keeps suits.
-        record {
-          columns = keeps.columns;
-          rows = keeps.rows;
-          all = subst (λ (xs : List KeptRows). All (AreRowsOf g.J.LoadJob.suits from) xs) (sym more)
-              (All-push (AreRowsOf g.J.LoadJob.suits from) c.args.self.now.kept.items rows keeps.all (c.in-Morsel.morsel.source_token, subst (λ load. g.J.LoadJob.suits from (load_seen load)) c.in-Morsel.is suits));
-        }
+    record {
+      columns = keeps.columns;
+      rows = keeps.rows;
+      all = subst (λ (xs : List KeptRows). All (AreRowsOf g.J.LoadJob.suits from) xs) (sym more)
+          (All-push (AreRowsOf g.J.LoadJob.suits from) c.args.self.now.kept.items rows keeps.all (c.in-Morsel.morsel.source_token, subst (λ load. g.J.LoadJob.suits from (load_seen load)) c.in-Morsel.is suits));
+    }

@@ -1,0 +1,18 @@
+use Rattle.std.proofs.Common.{rules, ap}
+use Rattle.std.specs.Arc.{arc_value}
+use Rattle.morsel_join.specs.BuildSides.{kept_side}
+use Rattle.morsel_join_units.proofs.LoneLemmas.{did-alone}
+use Rattle.morsel_join_units.proofs.lone_giver.LoneGiverLoadsGiver.next.Goals as goal
+
+pub returns-clause-suits : goal.returns-clause-suits
+returns-clause-suits g c =
+    λ to for_job.
+    let m = c.in_ok-morsel.morsel in
+    g.met.J.RowsJob.alone_suit (kept_side (arc_value c.args.self.now.lone.build)) for_job.from to for_job.asked m.frame m.seq m.source_token m.stretch for_job.alone for_job.all c.in_ok-morsel.ensures.columns (c.in_ok-morsel.ensures.cut _ for_job.left)
+
+pub returns-clause-did : goal.returns-clause-did
+returns-clause-did g c =
+    λ before did.
+    let m = c.in_ok-morsel.morsel in
+    let same = c.in_ok-morsel.ensures.same in
+    did-alone c.args.self.now _ before m.frame m.seq m.source_token m.stretch (record { build = ap arc_value same.0; hits = ap (λ hits. hits.value) same.1; number = same.2 }) c.in_ok-morsel.ensures.rows c.in_ok-morsel.ensures.number (search rules) did
