@@ -6,8 +6,8 @@ use Rattle.morsel_load.specs.declared.morsels.Stretch.{Stretch}
 use Rattle.morsel_join.specs.declared.some_rows.SomeRows.{SomeRows}
 use Rattle.morsel_join.specs.Cuts.{GivesSome}
 use Rattle.morsel_rows_job.specs.RowsJobs.{IsCutOf}
-use Rattle.morsel_join_units.specs.Cutters.{GivesRest, HasCut, cut_at, stretch_of}
-use Rattle.morsel_join_units.specs.declared.cutter.Cutter.{Cutter}
+use Rattle.morsel_join_units.specs.RowCutters.{GivesRest, HasCut, next_cut, stretch_of}
+use Rattle.morsel_join_units.specs.declared.row_cutter.RowCutter.{RowCutter}
 
 behind : {X : Type 0} (front rest : List X) → drop (length front) (front ++ rest) ≡ rest
 behind [] rest = refl
@@ -27,8 +27,8 @@ cut-of all front rest rows later given whole len cut =
     )
 
 -- the next rows of a stretch are a cut of it
-pub cut-next : (Left Then : List Row → Type 0) (limit : ℕ) (all : List Row) (some : SomeRows) (cutter : Cutter) (rows : List Row) (cut : Stretch)
-    → ((rest : List Row) → Left rest → GivesSome Then limit rest some) → rows ≡ some.frame.rows → cut ≡ cut_at cutter some.last → HasCut Left all cutter.given → IsCutOf all (stretch_of cutter) rows cut
+pub cut-next : (Left Then : List Row → Type 0) (limit : ℕ) (all : List Row) (some : SomeRows) (cutter : RowCutter) (rows : List Row) (cut : Stretch)
+    → ((rest : List Row) → Left rest → GivesSome Then limit rest some) → rows ≡ some.frame.rows → cut ≡ next_cut cutter some.last → HasCut Left all cutter.given → IsCutOf all (stretch_of cutter) rows cut
 cut-next Left Then limit all some cutter rows cut gives same is has =
     let h = gives has.rest has.left in
     let these : has.rest ≡ rows ++ h.later = h.all ∙ ap (λ (xs : List Row). xs ++ h.later) (sym same) in

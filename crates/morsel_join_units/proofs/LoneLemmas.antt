@@ -14,7 +14,7 @@ use Rattle.morsel_join.specs.BuildSides.{kept_side}
 use Rattle.morsel_join.specs.Hits.{HaveHit}
 use Rattle.morsel_join.specs.LoneRows.{LeavesAlone}
 use Rattle.morsel_join.specs.Sides.{rows_alone}
-use Rattle.morsel_join_units.specs.Cutters.{GivesRest, rows_of_load, rows_of_loads}
+use Rattle.morsel_join_units.specs.RowCutters.{GivesRest, rows_of_load, rows_of_loads}
 use Rattle.morsel_join_units.specs.LoneGivers.{DidGiveAlone, IsLaterGiver}
 use Rattle.morsel_join_units.specs.declared.lone_giver.LoneGiver.{LoneGiver}
 

@@ -3,16 +3,19 @@ use Rattle.std.proofs.Common.{◌≡◌, ◌++◌, [], ◌∷◌, List, ℕ, Boo
 use Rattle.std.specs.Arc.{arc_value}
 use Rattle.std.proofs.lemmas.List.{append-nil, flat_map_more}
 use Rattle.morsel_meaning.specs.Values.{Row, Table}
+use Rattle.morsel_meaning.specs.declared.value.Field.{Field}
 use Rattle.morsel_load.specs.Loads.{LoadSeen, SeenMorsel}
 use Rattle.morsel_load.specs.Sources.{SourceSeen}
 use Rattle.morsel_load.specs.declared.morsels.Stretch.{Stretch}
+use Rattle.morsel_lane_pipe.specs.Stretches.{ends_of}
+use Rattle.morsel_rows_job.specs.RowsJobs.{AreWholeRows}
 use Rattle.morsel_join.specs.declared.build_side.Build.{Build}
 use Rattle.morsel_join.specs.BuildSides.{kept_side}
 use Rattle.morsel_join.specs.Hits.{HaveHit}
 use Rattle.morsel_join.specs.Probings.{IsProbing, LooksUp}
 use Rattle.morsel_join.specs.Sides.{KeptSide, found_by_row, rows_found}
-use Rattle.morsel_join_units.specs.Cutters.{GivesRest, rows_of_load, rows_of_loads, stretch_of}
-use Rattle.morsel_join_units.specs.ProbeMakers.{AreToGive, DidProbe, Finds, FindsOf, HasGiven, IsLookedUp, stretch_left}
+use Rattle.morsel_join_units.specs.RowCutters.{GivesRest, rows_of_load, rows_of_loads, stretch_of}
+use Rattle.morsel_join_units.specs.ProbeMakers.{AreToGive, DidProbe, FindsFor, FindsOf, HasGiven, IsLookedUp, stretch_left}
 use Rattle.morsel_join_units.specs.declared.probe_maker.ProbeMaker.{ProbeMaker}
 use Rattle.morsel_join_units.specs.declared.probe_maker.Probed.{Probed}
 
@@ -71,10 +74,10 @@ did-begun maker later probed taken made seen frame given seq source stretch seen
 
 -- more loads are to be made for the same job, unless the last one was
 pub finds-more : {J : Type 0} (suits : J → LoadSeen → Type 0) (finds : KeptSide → J → J → Type 0) (side : KeptSide) (to : J) (probed now : Probed) (last : Bool) (left : Option Probed) → left ≡ (if last then None else Some now) → now.cutter.seq ≡ probed.cutter.seq → stretch_of now.cutter ≡ stretch_of probed.cutter
-    → now.probing.build ≡ probed.probing.build → IsProbing now.probing → ((all : List Row) → HasGiven all probed → HasGiven all now) → FindsOf suits finds side to probed → Finds suits finds side to left
-finds-more suits finds side to probed now last left is number stretch build probing given f = subst (λ (p : Option Probed). Finds suits finds side to p) (sym is) (by last)
+    → now.probing.build ≡ probed.probing.build → IsProbing now.probing → ((all : List Row) → HasGiven all probed → HasGiven all now) → FindsOf suits finds side to probed → FindsFor suits finds side to left
+finds-more suits finds side to probed now last left is number stretch build probing given f = subst (λ (p : Option Probed). FindsFor suits finds side to p) (sym is) (by last)
   where
-    by : (b : Bool) → Finds suits finds side to (if b then None else Some now)
+    by : (b : Bool) → FindsFor suits finds side to (if b then None else Some now)
     by true = tt
     by false = record {
       from = f.from;
@@ -121,3 +124,9 @@ did-more maker later probed now taken made frame seq source stretch old_is left_
     by : (rest : List Row) (b : Bool) → (b ≡ true → rest ≡ []) → arc_value now.probing.build ≡ arc_value maker.build → LooksUp now.probing rest → AreToGive (arc_value maker.build) (if b then None else Some now) rest
     by rest true none is left = none refl
     by rest false none is left = (is, probing, left)
+
+-- a load in whole stretches ends its own
+pub ends-begun : (columns : List Field) (seen : LoadSeen) (frame : Table) (seq : ℕ) (source : SourceSeen) (stretch : Stretch) (from to : ℕ) → seen ≡ SeenMorsel frame seq source stretch → AreWholeRows columns seen → from ≡ stretch.from → to ≡ stretch.to → ◌≡◌ {A = List (ℕ × ℕ)} ((from, to) ∷ []) (ends_of seen)
+ends-begun columns seen frame seq source stretch from to seen_is whole from_is to_is =
+    let rows : AreWholeRows columns (SeenMorsel frame seq source stretch) = subst (λ (l : LoadSeen). AreWholeRows columns l) seen_is whole in
+    ap (λ (n : ℕ). (n, to) ∷ []) from_is ∙ ap (λ (n : ℕ). (stretch.from, n) ∷ []) to_is ∙ ap (λ (b : Bool). if b then (stretch.from, stretch.to) ∷ [] else []) (sym rows.2) ∙ ap ends_of (sym seen_is)

@@ -1,5 +1,5 @@
 -- What the units of a join make.
-pub mod Cutters
+pub mod RowCutters
 pub mod ProbeMakers
 pub mod LoneGivers
 pub mod RowKeepers

@@ -9,7 +9,7 @@ use Rattle.morsel_join.specs.BuildSides.{kept_side}
 use Rattle.morsel_join.specs.Hits.{HaveHit}
 use Rattle.morsel_join.specs.LoneRows.{AreLone, LeavesAlone}
 use Rattle.morsel_join.specs.Sides.{KeptSide, rows_alone}
-use Rattle.morsel_join_units.specs.Cutters.{HasCut, rows_of_loads, stretch_of}
+use Rattle.morsel_join_units.specs.RowCutters.{HasCut, rows_of_loads, stretch_of}
 use Rattle.morsel_join_units.specs.declared.lone_giver.LoneGiver.{LoneGiver}
 
 -- a giver has a kept side with marks, and its place

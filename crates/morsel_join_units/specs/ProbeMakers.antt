@@ -11,7 +11,7 @@ use Rattle.morsel_join.specs.BuildSides.{IsBuild, kept_side}
 use Rattle.morsel_join.specs.Hits.{AreMarks, HaveHit}
 use Rattle.morsel_join.specs.Probings.{IsProbing, LooksUp}
 use Rattle.morsel_join.specs.Sides.{KeptSide, rows_found}
-use Rattle.morsel_join_units.specs.Cutters.{HasCut, rows_of_loads}
+use Rattle.morsel_join_units.specs.RowCutters.{HasCut, rows_of_loads}
 use Rattle.morsel_join_units.specs.declared.probe_maker.ProbeMaker.{ProbeMaker}
 use Rattle.morsel_join_units.specs.declared.probe_maker.Probed.{Probed}
 
@@ -47,9 +47,9 @@ pub record FindsOf {J : Type 0} (suits : J → LoadSeen → Type 0) (finds : Kep
   pub probing : IsProbing probed.probing
   pub given : HasGiven (rows_found side frame.rows) probed
 
-abbrev pub Finds : {J : Type 0} → (J → LoadSeen → Type 0) → (KeptSide → J → J → Type 0) → KeptSide → J → Option Probed → Type 0
-Finds suits finds side to None = Unit {0}
-Finds suits finds side to (Some probed) = FindsOf suits finds side to probed
+abbrev pub FindsFor : {J : Type 0} → (J → LoadSeen → Type 0) → (KeptSide → J → J → Type 0) → KeptSide → J → Option Probed → Type 0
+FindsFor suits finds side to None = Unit {0}
+FindsFor suits finds side to (Some probed) = FindsOf suits finds side to probed
 
 -- the stretch that is still to be ended
 abbrev pub stretch_left : Option Probed → List (ℕ × ℕ)

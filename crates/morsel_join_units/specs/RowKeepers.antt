@@ -12,20 +12,20 @@ abbrev pub AreAllRows : LoadSeen → Type 0
 AreAllRows load = (columns : List Field) × AreWholeRows columns load
 
 -- what is kept of a load
-abbrev pub kept_of : LoadSeen → List KeptRows
-kept_of (SeenMorsel frame seq source stretch) = record { seq = seq; stretch = stretch; frame = frame } ∷ []
-kept_of (SeenPiece piece) = []
-kept_of (SeenPart seq part) = []
+abbrev pub rows_kept_of : LoadSeen → List KeptRows
+rows_kept_of (SeenMorsel frame seq source stretch) = record { seq = seq; stretch = stretch; frame = frame } ∷ []
+rows_kept_of (SeenPiece piece) = []
+rows_kept_of (SeenPart seq part) = []
 
 -- kept rows are those of a load that suits a job
-abbrev pub AreRowsOf : {J : Type 0} → (J → LoadSeen → Type 0) → J → KeptRows → Type 0
-AreRowsOf suits job rows = (source : SourceSeen) × suits job (SeenMorsel rows.frame rows.seq source rows.stretch)
+abbrev pub AreKeptOf : {J : Type 0} → (J → LoadSeen → Type 0) → J → KeptRows → Type 0
+AreKeptOf suits job rows = (source : SourceSeen) × suits job (SeenMorsel rows.frame rows.seq source rows.stretch)
 
 -- all kept rows are those of loads of a job, in whole stretches
 pub record KeepsRowsOf {J : Type 0} (suits : J → LoadSeen → Type 0) (gives_rows : J → List Field → Type 0) (kept : List KeptRows) (job : J) : Type 0 where
   pub columns : List Field
   pub rows : gives_rows job columns
-  pub all : All (AreRowsOf suits job) kept
+  pub all : All (AreKeptOf suits job) kept
 
 -- the stretches of kept rows follow one another, from one place up to another
 abbrev pub FollowUp : List KeptRows → ℕ → ℕ → Type 0

@@ -1,10 +1,10 @@
 //! What the units of a join make: kept rows of one side, rows that the other side's rows find among them, and kept rows that none finds.
 #![tactic(auto)]
 
-mod cutter;
 mod lone_giver;
 mod order;
 mod probe_maker;
+mod row_cutter;
 mod row_keeper;
 
 pub use lone_giver::LoneGiver;

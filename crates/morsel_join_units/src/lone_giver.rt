@@ -8,10 +8,10 @@ ghost use Rattle.morsel_join.specs.BuildSides.{IsBuild, kept_side};
 ghost use Rattle.morsel_join.specs.Hits.{AreMarks, HaveHit};
 ghost use Rattle.morsel_join.specs.LoneRows.{LeavesAlone};
 ghost use Rattle.morsel_join.specs.Sides.{rows_alone};
-ghost use Rattle.morsel_join_units.specs.Cutters.{GivesRest};
+ghost use Rattle.morsel_join_units.specs.RowCutters.{GivesRest};
 ghost use Rattle.morsel_join_units.specs.LoneGivers.{DidGiveAlone, HasLeft, IsLoneGiver};
 
-use crate::cutter::Cutter;
+use crate::row_cutter::RowCutter;
 use morsel_end_units::LoadsGiver;
 use morsel_join::{Build, Hits, LoneRows};
 use morsel_load::{Load, Morsel, SourceToken};
@@ -32,7 +32,7 @@ pub struct LoneGiver {
     hits: Snapshot<Hits>,
     // How many rows a load has at most.
     rows: usize,
-    cutter: Cutter,
+    cutter: RowCutter,
     // Whether the last load was given.
     ended: bool,
 }
@@ -65,7 +65,7 @@ impl LoneGiver {
             lone,
             hits: marks,
             rows,
-            cutter: Cutter {
+            cutter: RowCutter {
                 seq,
                 source,
                 from: 0,

@@ -3,7 +3,7 @@ ghost use Rattle.std.specs.Prelude.{◌≡◌, All, IsPermutation, List, map, If
 ghost use Rattle.morsel_meaning.specs.declared.fault.Fault.TheVariants.{OutOfMemory};
 ghost use Rattle.morsel_meaning.specs.declared.value.Field.{Field};
 ghost use Rattle.morsel_join.specs.BuildSides.{rows_of_tables};
-ghost use Rattle.morsel_join_units.specs.RowKeepers.{AreRowsOf, FollowUp};
+ghost use Rattle.morsel_join_units.specs.RowKeepers.{AreKeptOf, FollowUp};
 
 use crate::row_keeper::KeptRows;
 use morsel_frame::Frame;
@@ -20,8 +20,8 @@ pub fn in_order<K, J: RowsJob<K>>(
     kept: Vec<KeptRows>,
     given: u64,
 ) -> Result<Vec<Frame>, Fault>
-    ensures gives { IfOk result (λ frames. (job : J) (columns : List Field) → J.gives_rows job columns → All (AreRowsOf J.suits job) kept.items → J.gives job 0 given (rows_of_tables frames.items)) }
-    ensures columns { IfOk result (λ frames. (job : J) (columns : List Field) → J.gives_rows job columns → All (AreRowsOf J.suits job) kept.items → All (λ frame. frame.schema ≡ columns) frames.items) }
+    ensures gives { IfOk result (λ frames. (job : J) (columns : List Field) → J.gives_rows job columns → All (AreKeptOf J.suits job) kept.items → J.gives job 0 given (rows_of_tables frames.items)) }
+    ensures columns { IfOk result (λ frames. (job : J) (columns : List Field) → J.gives_rows job columns → All (AreKeptOf J.suits job) kept.items → All (λ frame. frame.schema ≡ columns) frames.items) }
     ensures out_of_memory { IsOkUnless result OutOfMemory }
 {
     let rows = by_number(kept)?;

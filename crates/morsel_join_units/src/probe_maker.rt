@@ -7,10 +7,10 @@ ghost use Rattle.morsel_rows_job.specs.RowsJobs.{IsCutOf};
 ghost use Rattle.morsel_join.specs.BuildSides.{IsBuild};
 ghost use Rattle.morsel_join.specs.Hits.{HaveHit};
 ghost use Rattle.morsel_join.specs.Probings.{IsProbing, LooksUp};
-ghost use Rattle.morsel_join_units.specs.Cutters.{GivesRest, stretch_of};
+ghost use Rattle.morsel_join_units.specs.RowCutters.{GivesRest, stretch_of};
 ghost use Rattle.morsel_join_units.specs.ProbeMakers.{HasGiven, IsLookedUp, IsProbeMaker};
 
-use crate::cutter::Cutter;
+use crate::row_cutter::RowCutter;
 use morsel_flat_units::LoadsMaker;
 use morsel_frame::Frame;
 use morsel_join::{Build, Hits, Probing};
@@ -24,7 +24,7 @@ use std::sync::Arc;
 #[derive(Drop)]
 pub struct Probed {
     probing: Probing,
-    cutter: Cutter,
+    cutter: RowCutter,
 }
 
 /// Makes loads of what the rows of a load find on a kept side, each of so many rows at most.
@@ -123,13 +123,13 @@ impl<K: Drop, J: RowsJob<K>> LoadsMaker<K, J> for ProbeMaker {
     ghost use Rattle.morsel_flat_units.specs.FlatUnits.{made_ends, made_loads};
     ghost use Rattle.morsel_join.specs.BuildSides.{kept_side};
     ghost use Rattle.morsel_rows_job.specs.RowsJobs.{AreWholeRows};
-    ghost use Rattle.morsel_join_units.specs.ProbeMakers.{DidProbe, Finds, IsProbeMaker, stretch_left};
+    ghost use Rattle.morsel_join_units.specs.ProbeMakers.{DidProbe, FindsFor, IsProbeMaker, stretch_left};
 
     ghost joins = { λ maker from to. IsProbeMaker maker × J.gives_rows from (arc_value maker.build).asked × J.finds (kept_side (arc_value maker.build)) from to };
 
     ghost takes = { λ maker load. IsProbeMaker maker × AreWholeRows (arc_value maker.build).asked load };
 
-    ghost makes_for = { λ maker to. Finds J.suits J.finds (kept_side (arc_value maker.build)) to maker.probed };
+    ghost makes_for = { λ maker to. FindsFor J.suits J.finds (kept_side (arc_value maker.build)) to maker.probed };
 
     ghost left = { λ maker. stretch_left maker.probed };
 
@@ -144,7 +144,7 @@ impl<K: Drop, J: RowsJob<K>> LoadsMaker<K, J> for ProbeMaker {
         requires free { held_token load ≡ None }
         requires none_left { stretch_left self.old.probed ≡ [] }
         ensures joins { (from to : J) → IsProbeMaker self.old × J.gives_rows from (arc_value self.old.build).asked × J.finds (kept_side (arc_value self.old.build)) from to → IsProbeMaker self.new × J.gives_rows from (arc_value self.new.build).asked × J.finds (kept_side (arc_value self.new.build)) from to }
-        ensures makes_for { OnOk result ((from to : J) → IsProbeMaker self.old × J.gives_rows from (arc_value self.old.build).asked × J.finds (kept_side (arc_value self.old.build)) from to → J.suits from (load_seen load) → Finds J.suits J.finds (kept_side (arc_value self.new.build)) to self.new.probed) }
+        ensures makes_for { OnOk result ((from to : J) → IsProbeMaker self.old × J.gives_rows from (arc_value self.old.build).asked × J.finds (kept_side (arc_value self.old.build)) from to → J.suits from (load_seen load) → FindsFor J.suits J.finds (kept_side (arc_value self.new.build)) to self.new.probed) }
         ensures left { OnOk result (stretch_left self.new.probed ≡ ends_of (load_seen load)) }
         ensures did { OnOk result ((taken made : List LoadSeen) → DidProbe self.old taken made → DidProbe self.new (taken ++ load_seen load ∷ []) made) }
         ensures later { arc_value self.new.build ≡ arc_value self.old.build }
@@ -158,7 +158,7 @@ impl<K: Drop, J: RowsJob<K>> LoadsMaker<K, J> for ProbeMaker {
         let probing = self.look_up(frame)?;
         self.probed = Some(Probed {
             probing,
-            cutter: Cutter {
+            cutter: RowCutter {
                 seq,
                 source,
                 from,
@@ -170,11 +170,11 @@ impl<K: Drop, J: RowsJob<K>> LoadsMaker<K, J> for ProbeMaker {
     }
 
     fn next(&mut self) -> Result<Option<Load<K, J>>, Fault>
-        requires joined { (from : J) × (to : J) × (IsProbeMaker self.old × J.gives_rows from (arc_value self.old.build).asked × J.finds (kept_side (arc_value self.old.build)) from to) × Finds J.suits J.finds (kept_side (arc_value self.old.build)) to self.old.probed }
+        requires joined { (from : J) × (to : J) × (IsProbeMaker self.old × J.gives_rows from (arc_value self.old.build).asked × J.finds (kept_side (arc_value self.old.build)) from to) × FindsFor J.suits J.finds (kept_side (arc_value self.old.build)) to self.old.probed }
         ensures joins { (from to : J) → IsProbeMaker self.old × J.gives_rows from (arc_value self.old.build).asked × J.finds (kept_side (arc_value self.old.build)) from to → IsProbeMaker self.new × J.gives_rows from (arc_value self.new.build).asked × J.finds (kept_side (arc_value self.new.build)) from to }
-        ensures suits { IfOk result (λ made. IfSome made (λ load. (to : J) → Finds J.suits J.finds (kept_side (arc_value self.old.build)) to self.old.probed → J.suits to (load_seen load))) }
+        ensures suits { IfOk result (λ made. IfSome made (λ load. (to : J) → FindsFor J.suits J.finds (kept_side (arc_value self.old.build)) to self.old.probed → J.suits to (load_seen load))) }
         ensures free { IfOk result (λ made. IfSome made (λ load. held_token load ≡ None)) }
-        ensures makes_for { OnOk result ((to : J) → Finds J.suits J.finds (kept_side (arc_value self.old.build)) to self.old.probed → Finds J.suits J.finds (kept_side (arc_value self.new.build)) to self.new.probed) }
+        ensures makes_for { OnOk result ((to : J) → FindsFor J.suits J.finds (kept_side (arc_value self.old.build)) to self.old.probed → FindsFor J.suits J.finds (kept_side (arc_value self.new.build)) to self.new.probed) }
         ensures left { IfOk result (λ made. stretch_left self.old.probed ≡ made_ends made ++ stretch_left self.new.probed) }
         ensures none_left { IfOk result (λ made. made ≡ None → stretch_left self.new.probed ≡ []) }
         ensures did { IfOk result (λ made. (taken before : List LoadSeen) → DidProbe self.old taken before → DidProbe self.new taken (before ++ made_loads made)) }

@@ -43,13 +43,13 @@ impl<K: Drop, J: RowsJob<K>> LoadKeeper<K, J> for RowKeeper {
     ghost use Rattle.std.specs.List.{flat_map};
     ghost use Rattle.morsel_meaning.specs.declared.fault.Fault.TheVariants.{OutOfMemory};
     ghost use Rattle.morsel_load.specs.Loads.{LoadSeen, held_token, load_seen};
-    ghost use Rattle.morsel_join_units.specs.RowKeepers.{AreAllRows, KeepsRowsOf, kept_of};
+    ghost use Rattle.morsel_join_units.specs.RowKeepers.{AreAllRows, KeepsRowsOf, rows_kept_of};
 
     ghost keeps = { λ keeper job. KeepsRowsOf J.suits J.gives_rows keeper.kept.items job };
 
     ghost takes = { λ keeper load. AreAllRows load };
 
-    ghost took = { λ keeper loads. keeper.kept.items ≡ flat_map kept_of loads };
+    ghost took = { λ keeper loads. keeper.kept.items ≡ flat_map rows_kept_of loads };
 
     ghost is_later = { λ keeper later. ⊤ };
 
@@ -59,7 +59,7 @@ impl<K: Drop, J: RowsJob<K>> LoadKeeper<K, J> for RowKeeper {
         requires takes { AreAllRows (load_seen load) }
         requires free { held_token load ≡ None }
         ensures keeps { OnOk result ((from : J) → KeepsRowsOf J.suits J.gives_rows self.old.kept.items from → J.suits from (load_seen load) → KeepsRowsOf J.suits J.gives_rows self.new.kept.items from) }
-        ensures took { OnOk result ((before : List LoadSeen) → self.old.kept.items ≡ flat_map kept_of before → self.new.kept.items ≡ flat_map kept_of (before ++ load_seen load ∷ [])) }
+        ensures took { OnOk result ((before : List LoadSeen) → self.old.kept.items ≡ flat_map rows_kept_of before → self.new.kept.items ≡ flat_map rows_kept_of (before ++ load_seen load ∷ [])) }
         ensures later { ⊤ }
         ensures failed { IsOkUnless result OutOfMemory }
     {

@@ -3,8 +3,8 @@ use Rattle.std.specs.Arc.{arc_value}
 use Rattle.morsel_load.specs.Loads.{SeenMorsel}
 use Rattle.morsel_join.specs.BuildSides.{kept_side}
 use Rattle.morsel_join.specs.Sides.{KeptSide}
-use Rattle.morsel_join_units.specs.Cutters.{stretch_of}
-use Rattle.morsel_join_units.specs.ProbeMakers.{Finds, FindsOf}
+use Rattle.morsel_join_units.specs.RowCutters.{stretch_of}
+use Rattle.morsel_join_units.specs.ProbeMakers.{FindsFor, FindsOf}
 use Rattle.morsel_join_units.specs.declared.probe_maker.Probed.{Probed}
 use Rattle.morsel_join_units.proofs.CutLemmas.{cut-along}
 use Rattle.morsel_join_units.proofs.ProbeLemmas.{did-more, ends-left, finds-more}
@@ -16,7 +16,7 @@ returns-clause-suits g c =
     let m = c.in_ok-morsel.morsel in
     let side : KeptSide = kept_side (arc_value c.args.self.now.build) in
     λ to makes.
-    let f : FindsOf g.J.LoadJob.suits g.J.RowsJob.finds side to c.in-Some.probed = subst (λ (p : Option Probed). Finds g.J.LoadJob.suits g.J.RowsJob.finds side to p) old makes in
+    let f : FindsOf g.J.LoadJob.suits g.J.RowsJob.finds side to c.in-Some.probed = subst (λ (p : Option Probed). FindsFor g.J.LoadJob.suits g.J.RowsJob.finds side to p) old makes in
     subst (λ (n : ℕ). g.J.LoadJob.suits to (SeenMorsel m.frame n m.source_token m.stretch)) (sym (c.in_ok-morsel.ensures.number ∙ f.seq_is))
     (g.met.J.RowsJob.found_suit side f.from to f.frame m.frame f.seq f.source m.source_token f.stretch m.stretch f.found f.suited (c.in_ok-morsel.ensures.columns ∙ ap (λ (s : KeptSide). s.rules.output) f.side_is)
     (cut-along _ m.frame.rows (stretch_of c.in-Some.probed.cutter) f.stretch m.stretch f.from_is f.to_is (c.in_ok-morsel.ensures.cut _ f.given)))
@@ -27,7 +27,7 @@ returns-clause-makes_for g c =
     let side : KeptSide = kept_side (arc_value c.args.self.now.build) in
     let same = c.in_ok-morsel.ensures.same in
     λ to makes.
-    let f : FindsOf g.J.LoadJob.suits g.J.RowsJob.finds side to c.in-Some.probed = subst (λ (p : Option Probed). Finds g.J.LoadJob.suits g.J.RowsJob.finds side to p) old makes in
+    let f : FindsOf g.J.LoadJob.suits g.J.RowsJob.finds side to c.in-Some.probed = subst (λ (p : Option Probed). FindsFor g.J.LoadJob.suits g.J.RowsJob.finds side to p) old makes in
     finds-more g.J.LoadJob.suits g.J.RowsJob.finds side to c.in-Some.probed _ _ _ c.unless_last.ensures same.0 same.2 same.3 c.in_ok-morsel.ensures.probing (λ all given. c.in_ok-morsel.ensures.given all given) f
 
 pub returns-clause-left : goal.returns-clause-left

@@ -2,7 +2,7 @@ use Rattle.std.proofs.Common.{rules, ◌≡◌, [], ◌++◌, ◌∷◌, List, s
 use Rattle.std.specs.List.{All}
 use Rattle.std.proofs.lemmas.List.Elements.{All-push}
 use Rattle.morsel_load.specs.Loads.{load_seen}
-use Rattle.morsel_join_units.specs.RowKeepers.{AreRowsOf}
+use Rattle.morsel_join_units.specs.RowKeepers.{AreKeptOf}
 use Rattle.morsel_join_units.specs.declared.row_keeper.KeptRows.{KeptRows}
 use Rattle.morsel_join_units.proofs.row_keeper.RowKeeperLoadKeeper.keep.Goals as goal
 
@@ -14,6 +14,6 @@ returns-clause-keeps g c =
     record {
       columns = keeps.columns;
       rows = keeps.rows;
-      all = subst (λ (xs : List KeptRows). All (AreRowsOf g.J.LoadJob.suits from) xs) (sym more)
-          (All-push (AreRowsOf g.J.LoadJob.suits from) c.args.self.now.kept.items rows keeps.all (c.in-Morsel.morsel.source_token, subst (λ load. g.J.LoadJob.suits from (load_seen load)) c.in-Morsel.is suits));
+      all = subst (λ (xs : List KeptRows). All (AreKeptOf g.J.LoadJob.suits from) xs) (sym more)
+          (All-push (AreKeptOf g.J.LoadJob.suits from) c.args.self.now.kept.items rows keeps.all (c.in-Morsel.morsel.source_token, subst (λ load. g.J.LoadJob.suits from (load_seen load)) c.in-Morsel.is suits));
     }

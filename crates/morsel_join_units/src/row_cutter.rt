@@ -1,7 +1,7 @@
 //! Rows of one stretch as several loads.
 ghost use Rattle.std.specs.Prelude.{◌≡◌, ◌+◌, None, length, IfOk, OnOk, IsOkUnless};
 ghost use Rattle.morsel_meaning.specs.declared.fault.Fault.TheVariants.{OutOfMemory};
-ghost use Rattle.morsel_join_units.specs.Cutters.{cut_at};
+ghost use Rattle.morsel_join_units.specs.RowCutters.{next_cut};
 
 use morsel_join::SomeRows;
 use morsel_load::{Morsel, SourceToken, Stretch};
@@ -10,7 +10,7 @@ use morsel_pipe::MorselSeq;
 
 /// Makes loads of the rows of one stretch, which have one number and the tokens of one source.
 #[derive(Drop)]
-pub struct Cutter {
+pub struct RowCutter {
     pub(crate) seq: MorselSeq,
     pub(crate) source: SourceToken,
     /// Where the stretch begins.
@@ -21,7 +21,7 @@ pub struct Cutter {
     pub(crate) given: u64,
 }
 
-impl Cutter {
+impl RowCutter {
     /// The next rows of the stretch, as a load.
     pub(crate) fn cut<K, J>(&mut self, some: SomeRows) -> Result<Morsel<K, J>, Fault>
         ensures same { (self.new.seq ≡ self.old.seq) × (self.new.source ≡ self.old.source) × (self.new.from ≡ self.old.from) × (self.new.to ≡ self.old.to) }
@@ -30,7 +30,7 @@ impl Cutter {
         ensures number { IfOk result (λ morsel. morsel.seq ≡ self.old.seq) }
         ensures source { IfOk result (λ morsel. (morsel.source_token.source ≡ self.old.source.source) × (morsel.source_token.stops ≡ self.old.source.stops)) }
         ensures free { IfOk result (λ morsel. morsel.consume_token ≡ None) }
-        ensures stretch { IfOk result (λ morsel. morsel.stretch ≡ cut_at self.old some.last) }
+        ensures stretch { IfOk result (λ morsel. morsel.stretch ≡ next_cut self.old some.last) }
         ensures out_of_memory { IsOkUnless result OutOfMemory }
     {
         let SomeRows { frame, last } = some;

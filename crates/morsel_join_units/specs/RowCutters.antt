@@ -4,15 +4,15 @@ use Rattle.std.specs.List.{flat_map}
 use Rattle.morsel_meaning.specs.Values.{Row}
 use Rattle.morsel_load.specs.Loads.{LoadSeen, SeenMorsel, SeenPiece, SeenPart}
 use Rattle.morsel_load.specs.declared.morsels.Stretch.{Stretch}
-use Rattle.morsel_join_units.specs.declared.cutter.Cutter.{Cutter}
+use Rattle.morsel_join_units.specs.declared.row_cutter.RowCutter.{RowCutter}
 
 -- the whole stretch
-abbrev pub stretch_of : Cutter → Stretch
+abbrev pub stretch_of : RowCutter → Stretch
 stretch_of cutter = record { from = cutter.from; to = cutter.to; skip = 0; last = true }
 
 -- the rows of the stretch after those that were given
-abbrev pub cut_at : Cutter → Bool → Stretch
-cut_at cutter last = record { from = cutter.from; to = cutter.to; skip = cutter.given; last = last }
+abbrev pub next_cut : RowCutter → Bool → Stretch
+next_cut cutter last = record { from = cutter.from; to = cutter.to; skip = cutter.given; last = last }
 
 -- of all these rows so many were given, and the others are left
 pub record HasCut (Left : List Row → Type 0) (all : List Row) (given : ℕ) : Type 0 where
