@@ -34,7 +34,7 @@ pub returns-clause-left : goal.returns-clause-left
 returns-clause-left g c =
     let old : c.args.self.now.probed ≡ Some c.in-Some.probed = search rules in
     let m = c.in_ok-morsel.morsel in
-    let left : c.unless_last.result ≡ (if m.stretch.last then None else Some c.next-morsel.new.self) = search rules in
+    let left : c.unless_last.result ≡ (if m.stretch.last then None else Some c.next.new.self) = search rules in
     let place = c.in_ok-morsel.ensures.place in
     ends-left c.in-Some.probed _ c.args.self.now.probed _ m.stretch old left place.0 place.1 c.in_ok-morsel.ensures.same.2
 
@@ -42,6 +42,6 @@ pub returns-clause-did : goal.returns-clause-did
 returns-clause-did g c =
     let old : c.args.self.now.probed ≡ Some c.in-Some.probed = search rules in
     let m = c.in_ok-morsel.morsel in
-    let left : c.unless_last.result ≡ (if m.stretch.last then None else Some c.next-morsel.new.self) = search rules in
+    let left : c.unless_last.result ≡ (if m.stretch.last then None else Some c.next.new.self) = search rules in
     λ taken before did.
     did-more c.args.self.now _ c.in-Some.probed _ taken before m.frame m.seq m.source_token m.stretch old left refl refl c.in_ok-morsel.ensures.same.3 c.in_ok-morsel.ensures.probing (λ rest looks. c.in_ok-morsel.ensures.rows rest looks) did
