@@ -15,13 +15,15 @@ returns-clause-left c = λ asked hit. record { front = []; rest = rows_alone (ke
 
 pub returns-clause-none : goal.returns-clause-none
 returns-clause-none c =
-    let marks : c.of-marks.result.value ≡ c.args.hits = search rules in
-    (refl, record {
-      rest = rows_alone_from (arc_value c.in_ok-lone.lone.build) c.in_ok-lone.lone.hits.seen.items c.in_ok-lone.lone.at;
-      left = refl;
-      all = λ asked hit.
-          let of_all : HaveHit (arc_value c.in_ok-lone.lone.build) c.args.hits.seen.items asked = subst (λ (hits : Hits). HaveHit (arc_value c.in_ok-lone.lone.build) hits.seen.items asked) marks hit in
-          sym (c.in_ok-lone.ensures.all asked (subst (λ (build : Build). HaveHit build c.args.hits.seen.items asked) c.in_ok-lone.ensures.build of_all)) ∙ ap (λ (build : Build). rows_alone (kept_side build) asked) (sym c.in_ok-lone.ensures.build);
-      none = λ last. absurd (cc);
-      numbers = All-nil (λ (load : LoadSeen). seen_seq load ≡ c.args.seq);
-    })
+    let marks : c.of-marks.result.value ≡ c.args.hits = search rules in (
+      refl,
+      record {
+        rest = rows_alone_from (arc_value c.in_ok-lone.lone.build) c.in_ok-lone.lone.hits.seen.items c.in_ok-lone.lone.at;
+        left = refl;
+        all = λ asked hit.
+            let of_all : HaveHit (arc_value c.in_ok-lone.lone.build) c.args.hits.seen.items asked = subst (λ (hits : Hits). HaveHit (arc_value c.in_ok-lone.lone.build) hits.seen.items asked) marks hit in
+            sym (c.in_ok-lone.ensures.all asked (subst (λ (build : Build). HaveHit build c.args.hits.seen.items asked) c.in_ok-lone.ensures.build of_all)) ∙ ap (λ (build : Build). rows_alone (kept_side build) asked) (sym c.in_ok-lone.ensures.build);
+        none = λ last. absurd (cc);
+        numbers = All-nil (λ (load : LoadSeen). seen_seq load ≡ c.args.seq);
+      },
+    )

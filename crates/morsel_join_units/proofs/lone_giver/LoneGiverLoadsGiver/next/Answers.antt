@@ -24,12 +24,12 @@ pub returns-clause-gives_for : goal.returns-clause-gives_for
 returns-clause-gives_for g c =
     let same = c.in_ok-morsel.ensures.same in
     λ to for_job.
-        record {
-          from = for_job.from;
-          asked = for_job.asked;
-          alone = subst (λ build. g.J.RowsJob.is_alone (kept_side (arc_value build)) for_job.from to) (sym same.0) for_job.alone;
-          all = for_job.all;
-          giver_is = record { lone = c.in_ok-morsel.ensures.giver.lone; some = c.in_ok-morsel.ensures.giver.some; place = c.in_ok-morsel.ensures.giver.place };
-          left = let more = c.in_ok-morsel.ensures.left _ for_job.left in
-              subst (λ build. HasCut (LeavesAlone c.give.new.self.lone) (rows_alone (kept_side (arc_value build)) for_job.asked) c.give.new.self.cutter.given) (sym same.0) more;
-        }
+    record {
+      from = for_job.from;
+      asked = for_job.asked;
+      alone = subst (λ build. g.J.RowsJob.is_alone (kept_side (arc_value build)) for_job.from to) (sym same.0) for_job.alone;
+      all = for_job.all;
+      giver_is = record { lone = c.in_ok-morsel.ensures.giver.lone; some = c.in_ok-morsel.ensures.giver.some; place = c.in_ok-morsel.ensures.giver.place };
+      left = let more = c.in_ok-morsel.ensures.left _ for_job.left in
+          subst (λ build. HasCut (LeavesAlone c.give.new.self.lone) (rows_alone (kept_side (arc_value build)) for_job.asked) c.give.new.self.cutter.given) (sym same.0) more;
+    }

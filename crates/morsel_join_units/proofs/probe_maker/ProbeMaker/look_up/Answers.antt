@@ -10,6 +10,6 @@ returns-clause-hits c =
     let now = c.in_ok-probing.probing in
     let build : arc_value now.build ≡ arc_value c.args.self.now.build = search rules in
     λ asked hit.
-        subst (λ (b : Build). HaveHit b c.mark.new.hits.seen.items (asked ++ c.args.frame.rows)) build
-        (subst (λ (t : Table). HaveHit (arc_value now.build) c.mark.new.hits.seen.items (asked ++ t.rows)) c.in_ok-probing.ensures.frame
-        (c.mark.ensures.hit asked (subst (λ (b : Build). HaveHit b c.args.self.now.hits.seen.items asked) (sym build) hit)))
+    subst (λ (b : Build). HaveHit b c.mark.new.hits.seen.items (asked ++ c.args.frame.rows)) build
+    (subst (λ (t : Table). HaveHit (arc_value now.build) c.mark.new.hits.seen.items (asked ++ t.rows)) c.in_ok-probing.ensures.frame
+    (c.mark.ensures.hit asked (subst (λ (b : Build). HaveHit b c.args.self.now.hits.seen.items asked) (sym build) hit)))
