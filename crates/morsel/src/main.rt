@@ -16,7 +16,7 @@ use morsel_outside::OpenGate;
 use morsel_prog::{morsel_main, status_of};
 use morsel_real_io::RealIo;
 use morsel_reasons::reason;
-use progress::Progress;
+use progress::ProgressLine;
 use std::alloc::{AllocError, Global};
 use std::fs::File;
 use std::io::{ErrorKind, IsTerminal};
@@ -102,7 +102,7 @@ where
     R::File: FileExt,
 {
     let kept = KeptLine::new(rt.alloc(), RealIo::new(rt, rt.alloc()));
-    let mut io = Progress::new(rt, kept, is_terminal);
+    let mut io = ProgressLine::new(rt, kept, is_terminal);
     let status = morsel_main(rt, rt.alloc(), words, &mut io, &OpenGate);
     io.clear();
     if let Some(reason) = io.below().below().reason() {

@@ -18,7 +18,7 @@ const CLEAR: &str = "\r\x1b[K";
 
 /// An outside whose reads and writes are shown.
 #[derive(Drop)]
-pub struct Progress<'r, R: Clock + Eprint, H: Io + Drop> {
+pub struct ProgressLine<'r, R: Clock + Eprint, H: Io + Drop> {
     rt: &'r R,
     below: H,
     // none where nothing is to be shown
@@ -30,7 +30,7 @@ pub struct Progress<'r, R: Clock + Eprint, H: Io + Drop> {
     written: u64,
 }
 
-impl<'r, R: Clock + Eprint, H: Io + Drop> Progress<'r, R, H> {
+impl<'r, R: Clock + Eprint, H: Io + Drop> ProgressLine<'r, R, H> {
     /// The outside, shown on a terminal if there is one.
     pub fn new(rt: &'r R, below: H, is_terminal: bool) -> Self
         ensures { H.seen result.below ≡ H.seen below }
@@ -40,7 +40,7 @@ impl<'r, R: Clock + Eprint, H: Io + Drop> Progress<'r, R, H> {
         } else {
             None
         };
-        Progress {
+        ProgressLine {
             rt,
             below,
             start,
@@ -97,7 +97,7 @@ impl<'r, R: Clock + Eprint, H: Io + Drop> Progress<'r, R, H> {
     }
 }
 
-impl<'r, R: Clock + Eprint, H: Io + Drop> Io for Progress<'r, R, H> {
+impl<'r, R: Clock + Eprint, H: Io + Drop> Io for ProgressLine<'r, R, H> {
     ghost seen = { λ progress. H.seen progress.below };
 
     fn open_source(&mut self, name: &str) -> Result<FileNo, IoErr> {

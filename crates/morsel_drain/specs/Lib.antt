@@ -1,2 +1,3 @@
--- What the caller of a line that gives no text did, and what it answers.
+-- What the callers of lines that give no text, and of lines that are fed nothing, did, and what they answer.
 pub mod Draining
+pub mod Pouring

@@ -1,6 +1,9 @@
-//! The caller of a line that gives no text: it reads the pieces of a scan, feeds them, and lets the line go on until it is whole.
+//! The callers of two other kinds of line: of one that gives no text, into which the pieces of a scan are fed; and of one that is
+//! fed nothing, whose text is written.
 #![tactic(auto)]
 
 mod draining;
+mod pouring;
 
 pub use draining::drain;
+pub use pouring::pour;

@@ -1,3 +1,4 @@
 pub mod TransferLemmas
 pub mod KeepLemmas
 pub mod TurnLemmas
+pub mod SweepLemmas

@@ -1,11 +1,14 @@
 //! The caller's loop.
-ghost use Rattle.std.specs.Prelude.{◌≡◌, true, ℕ, ◌+◌, ◌*◌, ◌<◌, ◌≤◌, List, ◌++◌, OnOk, IfErr, IfOk};
+ghost use Rattle.std.specs.Prelude.{◌≡◌, true, ℕ, ◌+◌, ◌*◌, ◌^◌, ◌<◌, ◌≤◌, List, ◌++◌, length, OnOk, IfErr, IfOk};
 ghost use Rattle.morsel_outside.specs.Actions.{Action};
 ghost use Rattle.morsel_scan.specs.Ahead.{EndsEachRow};
 ghost use Rattle.morsel_drive.specs.Lines.{IsSoundAxis, ReadsFor};
+ghost use Rattle.morsel_scan.specs.StretchRows.{before_fault};
+ghost use Rattle.morsel_drive.specs.Sweeping.{SweepsFew};
 ghost use Rattle.morsel_drive.specs.Driving.{IsAfter, WritesPart, WritesOn, KeepsOrStops, KeepsText, HoldsFitting, HoldsPieceOf, HasEnded, FitsInput, GivesInput, ReadsInTime, EndsWith, DrivesAxis, Drives};
 
 use crate::line::{Line, LineJob, PieceSource, Taken};
+use crate::progress::{IDLE_SWEEPS, Progress, Reached, after_sweep, place_of};
 use crate::written::Written;
 use morsel_local::Steps;
 use morsel_meaning::Fault;
@@ -13,9 +16,6 @@ use morsel_outside::{Gate, Io};
 use morsel_pipe::{Encoded, RawPiece};
 use morsel_sink::SinkWriter;
 use std::sync::ledger::Ledger;
-
-/// How many sweeps in a row may bring a run no further: no byte more was given, and none more has all its rows written.
-pub const IDLE_SWEEPS: u64 = 512;
 
 /// What the caller holds of the input.
 #[derive(Debug, Drop)]
@@ -41,6 +41,8 @@ fn write_part<H: Io>(
     ensures writes { WritesPart (H.seen io.old) part written.old result (H.seen io.new) written.new }
     ensures rows { OnOk result (writer.new.rows ≡ written.new.rows) }
     ensures within { (size : ℕ) → given ≤ size → written.old.next ≤ size → written.new.next ≤ size }
+    ensures more { written.old.rows ≤ written.new.rows }
+    ensures small { written.old.rows < 2 ^ 64 → written.new.rows < 2 ^ 64 }
 {
     // The parts come in order, so these tests never fail. With them nothing has to be known of what goes on in the line.
     if part.from != written.next || part.skip != written.rows - written.begun || part.to > given {
@@ -96,6 +98,8 @@ pub fn write_on<H: Io, L: Line>(
     ensures rows { OnOk result (writer.new.rows ≡ written.new.rows) }
     ensures joined { L.is_joined line.old → L.is_joined line.new }
     ensures within { (size : ℕ) → given ≤ size → written.old.next ≤ size → written.new.next ≤ size }
+    ensures more { written.old.rows ≤ written.new.rows }
+    ensures small { written.old.rows < 2 ^ 64 → written.new.rows < 2 ^ 64 }
 {
     'parts: for _ in 0..u64::MAX {
         match line.take() {
@@ -191,45 +195,19 @@ fn end<H: Io>(
     }
 }
 
-/// How far a run has come, by the bytes that were given and those of which all rows are written, and how many sweeps ago.
-#[derive(Clone, Copy, Debug)]
-pub struct Reached {
-    /// The furthest place: how many bytes were given, and how many of those have all rows written, together.
-    pub furthest: u64,
-    /// How many sweeps in a row did not bring the run further.
-    pub idle: u64,
-}
-
-/// How far a run has come after a sweep more, which brought it to this place.
-pub fn after_sweep(place: u64, before: Reached) -> Reached
-    requires going_on { before.idle < 512 }
-    ensures counted { 512 * before.furthest + before.idle + 1 ≤ 512 * result.furthest + result.idle }
-    ensures idle { result.idle ≤ 512 }
-    ensures within { (size : ℕ) → place ≤ size → before.furthest ≤ size → result.furthest ≤ size }
-{
-    if place > before.furthest {
-        return Reached {
-            furthest: place,
-            idle: 0,
-        };
-    }
-    Reached {
-        furthest: before.furthest,
-        idle: before.idle + 1,
-    }
-}
-
 /// Reads the input of a line, feeds it, and writes what comes out; answers how many rows were written.
 ///
 /// The sink is made, what comes before its first row is written, and the writer has written no row. No read is made while `bound`
 /// bytes or more were given and are not written. It gives up where many sweeps in a row bring it no further, so it makes few sweeps
-/// for each byte and always returns. After a fault of the line it makes no further sweep.
+/// for each byte, and for each row where rows count as progress, and always returns. After a fault of the line it makes no further
+/// sweep.
 pub fn drive<H: Io, L: Line, S: PieceSource<H, <L as Line>::Job>, G: Gate, Y: Ledger>(
     io: &mut H,
     reader: &mut S,
     line: &mut L,
     mut writer: SinkWriter,
     bound: u64,
+    progress: Progress,
     gate: &G,
     steps: &mut Steps<Y>,
 ) -> Result<u64, Fault>
@@ -240,7 +218,8 @@ pub fn drive<H: Io, L: Line, S: PieceSource<H, <L as Line>::Job>, G: Gate, Y: Le
     requires asked { S.asked reader.old ≡ 0 }
     requires told { (job : L.Job) → L.told line.old job → S.reads reader.old job (H.seen io.old) × L.serves line.old job × IsSoundAxis (L.Job.axis job) }
     requires joined { L.is_joined line.old }
-    ensures sweeps { steps.new ≤ steps.old + 1024 * (S.size reader.old (H.seen io.old).sizes + 1) }
+    ensures sweeps { SweepsFew progress (S.size reader.old (H.seen io.old).sizes) steps.old steps.new (λ rows. (job : L.Job)
+        → S.reads reader.old job (H.seen io.old) → L.serves line.old job → IsSoundAxis (L.Job.axis job) → rows ≤ length (before_fault (L.Job.axis job).gives)) }
     ensures whole { OnOk result (L.is_whole line.new) }
     ensures drives { Drives (S.did reader.old reader.new (H.seen io.old).sizes) (S.failed reader.new) (L.broke line.new) (S.ended reader.new × S.suits reader.new (H.seen io.new)) (λ actions. (job : L.Job)
         → S.reads reader.old job (H.seen io.old) → L.serves line.old job → IsSoundAxis (L.Job.axis job)
@@ -278,7 +257,7 @@ pub fn drive<H: Io, L: Line, S: PieceSource<H, <L as Line>::Job>, G: Gate, Y: Le
         if whole {
             return end(io, writer, given, &input, &written);
         }
-        reached = after_sweep(given.saturating_add(written.next), reached);
+        reached = after_sweep(place_of(progress, given, &written), reached);
     }
     // No run makes so many turns.
     Err(Fault::OutOfMemory)

@@ -6,6 +6,7 @@ use Rattle.morsel_prims.specs.Polled.{BoardId}
 use Rattle.morsel_pipe.specs.Pieces.{Part}
 use Rattle.morsel_load.specs.Loads.{LoadSeen, SeenMorsel, SeenPiece, SeenPart}
 use Rattle.morsel_load.specs.declared.load.LoadKind.TheVariants.{Pieces, Parts}
+use Rattle.morsel_line.specs.RowStages.{ScannedRows}
 use Rattle.morsel_scan_units.specs.LaneJobs.{LaneFor, IsUnitFault}
 use Rattle.morsel_lane_line.specs.declared.lane_line.Feed.{Feed}
 use Rattle.morsel_lane_line.specs.declared.lane_line.Feed.TheVariants.{Open, Closed}
@@ -24,7 +25,7 @@ IfOpenFeed Closed P = Unit {0}
 -- the sending end is of this table, and for the pieces of which the lane `last` gives parts
 pub record FeedsLine (table home : TableId) (lane last : LaneFor) : Type 0 where
   pub at_home : home ≡ table
-  pub is_first : lane ≡ record last { kind = Pieces }
+  pub is_first : lane ≡ record last { kind = Pieces; stage = ScannedRows }
 
 -- as many tasks were spawned as there may be; both ends of the caller and the board are those with which they were made; the tasks whose outputs were not taken are owed, and tasks end with no faults but those that units may end with
 pub record IsLine {S : Type 0} (sender_home : S → TableId) (sender_lane : S → LaneFor) (spawned capacity : ℕ) (home board : BoardId) (parts_home : TableId) (feed : Feed S) (last : LaneFor) (is_owed : Type 0) (may_fail : Fault → Type 0) : Type 0 where

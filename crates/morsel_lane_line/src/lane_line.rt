@@ -3,6 +3,7 @@ ghost use Rattle.std.specs.Prelude.{◌≡◌, Err};
 ghost use Rattle.morsel_meaning.specs.declared.fault.Fault.{Fault};
 ghost use Rattle.morsel_load.specs.Loads.{load_kind, load_seen};
 ghost use Rattle.morsel_load.specs.declared.load.LoadKind.TheVariants.{Pieces, Parts};
+ghost use Rattle.morsel_line.specs.RowStages.{ScannedRows};
 ghost use Rattle.morsel_stage.specs.Joined.{outputs_left};
 ghost use Rattle.morsel_stage.specs.Unjoined.{unjoined};
 ghost use Rattle.morsel_scan_units.specs.LaneJobs.{IsUnitFault};
@@ -97,7 +98,7 @@ where
         requires board { L.Board.id local.cx.board ≡ local.home }
         requires homes { (L.Sender.home feed ≡ local.home.lane_table) × (L.Receiver.home parts ≡ local.home.lane_table) }
         requires kind { (L.Receiver.job parts).kind ≡ Parts }
-        requires first { L.Sender.job feed ≡ record (L.Receiver.job parts) { kind = Pieces } }
+        requires first { L.Sender.job feed ≡ record (L.Receiver.job parts) { kind = Pieces; stage = ScannedRows } }
         requires none_ended { outputs_left spawned local.tasks ≡ 0 }
         requires owed { S.owes stage (unjoined local.tasks) }
         requires fails { (fault : Fault) → S.fails stage fault → IsUnitFault (L.Receiver.job parts) fault }

@@ -1,6 +1,8 @@
 //! The line of lanes and tasks on one thread, between the caller's two ends.
 #![tactic(auto)]
 
+mod keep_line;
 mod lane_line;
 
-pub use lane_line::{LaneLine, abandon_line, made};
+pub use keep_line::KeepLine;
+pub use lane_line::{Feed, LaneLine, abandon_line, made};

@@ -15,16 +15,17 @@ use Rattle.morsel_scan.proofs.AxisRowLemmas.{ends_each_row}
 use Rattle.morsel_scan.proofs.AxisEndLemmas.{gives_pieces}
 use Rattle.morsel_drive.specs.Lines.{IsSoundAxis, IsDue}
 use Rattle.morsel_line.specs.Jobs.{Job}
-use Rattle.morsel_line.specs.ScanJobs.{scan_text, job_axis, IsJobPiece, IsJobFault}
+use Rattle.morsel_line.specs.RowStages.{staged_columns}
+use Rattle.morsel_line.specs.ScanJobs.{scan_text, scan_axis, job_axis, IsJobPiece, IsJobFault}
 
 pub sound : (job : Job) → IsDialect job.scan.options → IsSoundAxis (job_axis job)
 sound job fit = record {
   none = refl;
-  adds = λ first later. flat_map-append (json_line (names_of (output_fields job.scan.scan))) first later;
+  adds = λ first later. flat_map-append (json_line (names_of (staged_columns job.stage (output_fields job.scan.scan)))) first later;
   ends = ends_each_row job.scan job.first 0 job.names job.files job.opened (scan_text job.scan);
 }
 
-due_within : (job : Job) (from to : ℕ) (fault : Fault) → to ≤ length (job_axis job).gives → UnlessOutOfMemory fault (HasFaultWithin (job_axis job).gives from to fault) → IsDue (IsJobFault job) fault
+due_within : (job : Job) (from to : ℕ) (fault : Fault) → to ≤ length (scan_axis job).gives → UnlessOutOfMemory fault (HasFaultWithin (scan_axis job).gives from to fault) → IsDue (IsJobFault job) fault
 due_within job from to faults.OutOfMemory within is = tt
 due_within job from to (faults.ReadFault file) within is = tt
 due_within job from to faults.WriteFault within is = tt

@@ -28,26 +28,27 @@ use Rattle.morsel_drive.proofs.TransferLemmas.{stays}
 use Rattle.morsel_drive.specs.Lines.{IsSoundAxis}
 use Rattle.morsel_drive.specs.Driving.{is_reading, StopsFor, WritesRows, DrivesAxis, Drives}
 use Rattle.morsel_line.specs.Jobs.{Job}
-use Rattle.morsel_line.specs.ScanJobs.{scan_text, job_axis, IsJobFault, IsJobEnd, IsPieceKind}
+use Rattle.morsel_line.specs.RowStages.{ScannedRows}
+use Rattle.morsel_line.specs.ScanJobs.{scan_text, job_axis, scan_axis, IsJobFault, IsJobEnd, IsPieceKind}
 use Rattle.morsel_line.specs.ScanSources.{AskNextChunks, EndsInFailure, DidRead, ReadsJob}
 use Rattle.morsel_line.specs.ScanRuns.{MeansRows, AnswersRows, StopsScan, WritesScan, job_of}
 use Rattle.morsel_line.proofs.LineLemmas.{sound}
 
 -- where no place after them gives anything, all places give the rows
-all_give : (job : Job) (given : ℕ) (rows : List Row) → Gives (job_axis job).gives 0 given rows → Gives (job_axis job).gives given (length (job_axis job).gives) []
-    → Gives (job_axis job).gives 0 (length (job_axis job).gives) rows
-all_give job given rows gives nothing = let gives_all_of = (job_axis job).gives in
+all_give : (job : Job) (given : ℕ) (rows : List Row) → Gives (scan_axis job).gives 0 given rows → Gives (scan_axis job).gives given (length (scan_axis job).gives) []
+    → Gives (scan_axis job).gives 0 (length (scan_axis job).gives) rows
+all_give job given rows gives nothing = let gives_all_of = (scan_axis job).gives in
     subst (Gives gives_all_of 0 (length gives_all_of)) (append-nil rows) (gives_on gives_all_of 0 given (length gives_all_of) rows [] gives nothing)
 
 -- and the rows are what the scan means
-meant : (job : Job) (given : ℕ) (rows : List Row) → IsDialect job.scan.options → Gives (job_axis job).gives 0 given rows → Gives (job_axis job).gives given (length (job_axis job).gives) []
+meant : (job : Job) (given : ℕ) (rows : List Row) → IsDialect job.scan.options → Gives (scan_axis job).gives 0 given rows → Gives (scan_axis job).gives given (length (scan_axis job).gives) []
     → csv_scan_rows job.scan job.first job.names job.files ≡ Ok rows
 meant job given rows fit gives nothing = gives_scan_rows job.scan fit job.first 0 job.names job.files job.opened (scan_text job.scan) rows
-    ((gives_all (job_axis job).gives rows).0.0 (all_give job given rows gives nothing))
+    ((gives_all (scan_axis job).gives rows).0.0 (all_give job given rows gives nothing))
 
 -- the rows that the places before the end give are what the scan means
 means_rows : (job : Job) (given asked : ℕ) (rows : List Row) → IsDialect job.scan.options → CountsFromFirst job.scan.scan.asked.slice → length job.names ≡ length job.files
-    → Gives (job_axis job).gives 0 given rows → IsJobEnd job given asked → MeansRows job asked rows
+    → Gives (scan_axis job).gives 0 given rows → IsJobEnd job given asked → MeansRows job asked rows
 means_rows job given asked rows fit from one_each gives (inl (all, nothing, few)) = inl (all, all_give job given rows gives nothing, meant job given rows fit gives nothing, few)
 means_rows job given asked rows fit from one_each gives (inr end) = inr (
   given,
@@ -56,7 +57,7 @@ means_rows job given asked rows fit from one_each gives (inr end) = inr (
   λ none. meant job given rows fit gives
       (gives_nothing_past_slice job.scan fit job.first 0 given end.rows job.names job.files job.opened (scan_text job.scan) one_each (inl end.begins)
       (λ position low. keeps_no_more job.scan.scan.asked.slice end.slice (total_rows (csv_sources job.scan job.first job.names job.files)) end.rows position from end.is end.past low)
-      (no_fault_between (job_axis job).gives given asked (length (job_axis job).gives) (end.faultless job.first job.names one_each) none)),
+      (no_fault_between (scan_axis job).gives given asked (length (scan_axis job).gives) (end.faultless job.first job.names one_each) none)),
 )
 
 -- a reader that has come to its end has asked for all, but where a slice has an end
@@ -74,9 +75,9 @@ whole_asked after old new sizes same sized (inl end) opened = inl (by new.curren
 whole_asked after old new sizes same sized (inr past) opened = inr (let few = opened.few in let e : new.sources.stop ≡ old.sources.stop = ap (λ (x : FilesAsked). x.stop) same in omega (arith, past, few, e))
 
 answers_rows : (job : Job) (actions : List Action) (result : Result ℕ Fault) → IsDialect job.scan.options → CountsFromFirst job.scan.scan.asked.slice → length job.names ≡ length job.files
-    → WritesRows (job_axis job) (IsJobEnd job) actions result → AnswersRows job actions result
+    → WritesRows (scan_axis job) (IsJobEnd job) actions result → AnswersRows job actions result
 answers_rows job actions (Ok n) fit from one_each (given, rows, gives, ends, text, count) =
-    (rows, text, count, means_rows job given (asked_up_to (job_axis job) 0 (flat_map event_of actions)) rows fit from one_each gives ends)
+    (rows, text, count, means_rows job given (asked_up_to (scan_axis job) 0 (flat_map event_of actions)) rows fit from one_each gives ends)
 answers_rows job actions (Err fault) fit from one_each writes = tt
 
 -- why a run of a scan has a fault
@@ -96,7 +97,7 @@ AtEnd after new = (HasGivenAll new × (new.fault ≡ None)) × SuitsPieces after
 
 pub scan_written : (s : CsvScan) (old new : PiecesRead) (bound : ℕ) (before after : Outside) (result : Result ℕ Fault) → asked_to old ≡ 0 → old.fault ≡ None
     → Drives (DidRead old new before.sizes) (λ fault. (new.fault ≡ Some fault) × IsPiecesFaultOf new.sources fault) IsPieceKind (AtEnd after new)
-    (λ actions. (job : Job) → ReadsJob old job before → (job.scan ≡ s) × IsDialect job.scan.options → IsSoundAxis (job_axis job)
+    (λ actions. (job : Job) → ReadsJob old job before → (job.scan ≡ s) × (job.stage ≡ ScannedRows) × IsDialect job.scan.options → IsSoundAxis (job_axis job)
     → DrivesAxis (job_axis job) (IsJobFault job) (IsJobEnd job) (ReadsJob new job after) (bound + (job_axis job).longest) old.sources.chunk actions result) before result after
     → WritesScan s old bound before result after
 scan_written s old new bound before after result none start d =
@@ -113,7 +114,7 @@ scan_written s old new bound before after result none start d =
       told = λ files had.
           let job : Job = job_of s old files in
           let reads : ReadsJob old job before = record { given = had; names = refl; first = refl; opened = refl } in
-          let axis = d.told_them job reads (refl, had.fit) (sound job had.fit) in record {
+          let axis = d.told_them job reads (refl, refl, had.fit) (sound job had.fit) in record {
             answers = answers_rows job d.actions result had.fit had.from_first had.one_each axis.writes;
             due = axis.due;
             front = axis.front;

@@ -15,25 +15,26 @@ use Rattle.morsel_read.specs.PieceReads.{HaveRowsAtMost, IsSliceEnd}
 use Rattle.morsel_drive.specs.Lines.{Each, IsReading, IsDue}
 use Rattle.morsel_drive.specs.Driving.{is_reading, IsWriting, Stops, IsWriteStop}
 use Rattle.morsel_line.specs.Jobs.{Job}
-use Rattle.morsel_line.specs.ScanJobs.{scan_text, job_axis, IsJobFault, IsPieceKind}
+use Rattle.morsel_line.specs.RowStages.{ScannedRows}
+use Rattle.morsel_line.specs.ScanJobs.{scan_text, scan_axis, IsJobFault, IsPieceKind}
 use Rattle.morsel_line.specs.ScanSources.{opened_as, AskNextChunks, EndsInFailure}
 
--- the job of a reader whose files contain these bytes
+-- the job of a reader whose files contain these bytes, of all rows of a scan
 abbrev pub job_of : CsvScan → PiecesRead → List (List ℕ) → Job
-job_of s r files = record { scan = s; first = r.sources.first; names = r.sources.names; opened = opened_as r.sources.files; files = files }
+job_of s r files = record { scan = s; first = r.sources.first; names = r.sources.names; opened = opened_as r.sources.files; files = files; stage = ScannedRows }
 
 -- the places give the rows up to one of them
 abbrev pub JobGives : Job → ℕ → List Row → Type 0
-JobGives job to rows = Gives (job_axis job).gives 0 to rows
+JobGives job to rows = Gives (scan_axis job).gives 0 to rows
 
 -- no record that was not wholly asked has a fault
 abbrev pub IsFaultlessPast : Job → ℕ → Type 0
-IsFaultlessPast job asked = (fault : Fault) → HasFaultWithin (job_axis job).gives asked (length (job_axis job).gives) fault → ⊥
+IsFaultlessPast job asked = (fault : Fault) → HasFaultWithin (scan_axis job).gives asked (length (scan_axis job).gives) fault → ⊥
 
 -- the places give the rows, of which so many bytes were asked, and they are what the scan means: all places, where all was asked, and no more rows than are allowed were; or those before the slice's end, and then they are so where no record that was not wholly asked has a fault
 abbrev pub MeansRows : Job → ℕ → List Row → Type 0
 MeansRows job asked rows =
-    ((asked ≡ sum_by length job.files) × JobGives job (length (job_axis job).gives) rows × (csv_scan_rows job.scan job.first job.names job.files ≡ Ok rows)
+    ((asked ≡ sum_by length job.files) × JobGives job (length (scan_axis job).gives) rows × (csv_scan_rows job.scan job.first job.names job.files ≡ Ok rows)
     × HaveRowsAtMost job.scan job.files 4294967295)
     ⊎ ((given : ℕ) × JobGives job given rows × IsSliceEnd job.scan job.files given asked
     × (IsFaultlessPast job asked → csv_scan_rows job.scan job.first job.names job.files ≡ Ok rows))
@@ -41,14 +42,14 @@ MeansRows job asked rows =
 -- rows are answered where their text was written, and they are what the scan means
 abbrev pub AnswersRows : Job → List Action → Result ℕ Fault → Type 0
 AnswersRows job actions (Ok n) = (rows : List Row) × (flat_map text_by actions ≡ scan_text job.scan rows) × (n ≡ length rows)
-    × MeansRows job (asked_up_to (job_axis job) 0 (flat_map event_of actions)) rows
+    × MeansRows job (asked_up_to (scan_axis job) 0 (flat_map event_of actions)) rows
 AnswersRows job actions (Err fault) = Unit {0}
 
 -- what was written, given what the files contain: all rows, or the beginning of the text of those before the first fault; the fault that is answered is due; each read is in time
 pub record WritesJob (job : Job) (bound chunk : ℕ) (actions : List Action) (result : Result ℕ Fault) : Type 0 where
   pub answers : AnswersRows job actions result
   pub due : IfErr result (IsDue (IsJobFault job))
-  pub front : Stops (job_axis job) (bound + (job_axis job).longest) chunk actions
+  pub front : Stops (scan_axis job) (bound + (scan_axis job).longest) chunk actions
 
 -- why a run of a scan has a fault: memory is out or a write failed, as the writes say; the reader answered it, and a read fault only where the last read failed; or decoding a piece did
 abbrev pub StopsScan : FilesAsked → List Action → Fault → Type 0

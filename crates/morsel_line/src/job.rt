@@ -4,15 +4,16 @@ ghost use Rattle.morsel_drive.specs.Lines.{IsSoundAxis};
 ghost use Rattle.morsel_line.specs.Jobs.{Job};
 ghost use Rattle.morsel_line.specs.ScanJobs.{job_axis};
 
+use crate::row_stage::RowStage;
 use morsel_drive::LineJob;
 use morsel_meaning::Name;
 use morsel_scan::CsvSourceNode;
 use std::marker::Model;
 
-/// A scan, and what its files contain: what a line is for.
+/// A scan, what its files contain, and what becomes of its rows: what a line is for.
 ///
 /// Contracts alone see it, and speak of each; no value of it is ever made.
-#[derive(Debug, Drop)]
+#[derive(Drop)]
 pub struct ScanJob {
     /// The scan.
     pub node: CsvSourceNode,
@@ -24,6 +25,8 @@ pub struct ScanJob {
     pub opened: Vec<usize>,
     /// Their bytes.
     pub files: Vec<Vec<u8>>,
+    /// What the rows are that come out.
+    pub stage: RowStage,
 }
 
 impl Model for ScanJob {
@@ -43,6 +46,7 @@ impl Model for ScanJob {
       names = job.names.items;
       opened = job.opened.items;
       files = map (λ file. file.items) job.files.items;
+      stage = job.stage;
     } };
 }
 

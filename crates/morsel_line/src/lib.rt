@@ -3,8 +3,10 @@
 
 mod faults;
 mod job;
+mod row_stage;
 mod scan_source;
 
 pub use faults::piece_fault;
 pub use job::{ScanJob, a_scan_has_a_sound_axis};
+pub use row_stage::RowStage;
 pub use scan_source::ScanSource;

@@ -8,11 +8,12 @@ ghost use Rattle.morsel_lane_pipe.specs.Tasks.{HoldsTokensOf};
 ghost use Rattle.morsel_phase.specs.Lines.{IsLineNode};
 ghost use Rattle.morsel_phase.specs.Stages.{HasNoFault, HasOut};
 ghost use Rattle.morsel_read.specs.ScanReads.{pieces_at_start, sizes_in, SuitsPieces};
+ghost use Rattle.morsel_line.specs.RowStages.{ScannedRows};
 ghost use Rattle.morsel_line.specs.ScanRuns.{WritesScan};
 ghost use Rattle.morsel_scan_units.specs.LaneJobs.{IsUnitFault};
 ghost use Rattle.morsel_plan.specs.LineRuns.{AreLineEnds, AreLineJobs, WritesOrNot};
 
-use morsel_drive::drive;
+use morsel_drive::{Progress, drive};
 use morsel_lane_line::{LaneLine, abandon_line, made};
 use morsel_lane_pipe::PipeOut;
 use morsel_line::ScanSource;
@@ -60,13 +61,23 @@ where
     requires none_written { writer.rows ≡ 0 }
     requires reader { line.old.lane.reader ≡ reader }
     requires outside { line.old.lane.outside ≡ H.seen io.old }
+    requires scanned { line.old.lane.stage ≡ ScannedRows }
     requires joined { line.old.left ≡ 0 }
     ensures sweeps { steps.new ≤ steps.old + 1024 * (sum_by (λ n. n) (sizes_in (H.seen io.old).sizes reader.sources.files) + 1) }
     ensures whole { OnOk result (line.new.whole ≡ true) }
     ensures writes { WritesScan line.old.lane.scan reader bound (H.seen io.old) result (H.seen io.new) }
 {
     let mut source = ScanSource::new(reader);
-    drive(io, &mut source, line, writer, bound, gate, steps)
+    drive(
+        io,
+        &mut source,
+        line,
+        writer,
+        bound,
+        Progress::Bytes,
+        gate,
+        steps,
+    )
 }
 
 /// What a line is made of, but for the tasks of its pipes: a board, two nodes with their units out, and the caller's two ends.

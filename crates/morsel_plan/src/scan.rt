@@ -12,6 +12,7 @@ ghost use Rattle.morsel_plan.specs.LineRuns.{AreLineJobs, IsLaneOf, WritesOrNot}
 
 use crate::run::run_nodes;
 use morsel_frame::Schema;
+use morsel_line::RowStage;
 use morsel_load::{Load, LoadJob, LoadKind};
 use morsel_local::Steps;
 use morsel_meaning::Fault;
@@ -215,9 +216,10 @@ pub fn write_scan<H: Io, G: Gate, Y: Ledger>(
     let Ok(group) = PlainLanes::<PlainLoad<H>>::group(alloc, &mut board) else {
         return Err(Fault::OutOfMemory);
     };
-    let fed = LaneJob::new(LoadKind::Pieces, &node, &reader, io, &group);
-    let between = LaneJob::new(LoadKind::Morsels, &node, &reader, io, &group);
-    let given = LaneJob::new(LoadKind::Parts, &node, &reader, io, &group);
+    let scanned = RowStage::scanned();
+    let fed = LaneJob::new(LoadKind::Pieces, &node, &reader, io, &group, &scanned);
+    let between = LaneJob::new(LoadKind::Morsels, &node, &reader, io, &group, &scanned);
+    let given = LaneJob::new(LoadKind::Parts, &node, &reader, io, &group, &scanned);
     let (Ok(source), Ok(sink)) = (Arc::new(alloc, node), Arc::new(alloc, sink)) else {
         return Err(Fault::OutOfMemory);
     };

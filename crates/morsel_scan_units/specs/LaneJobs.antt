@@ -20,8 +20,9 @@ use Rattle.morsel_scan.specs.StretchRows.{Gives}
 use Rattle.morsel_read.specs.ScanReads.{PiecesRead}
 use Rattle.morsel_drive.specs.Lines.{SuitsPart, IsDue}
 use Rattle.morsel_line.specs.Jobs.{Job}
+use Rattle.morsel_line.specs.RowStages.{StageSeen, ScannedRows, FoundRows, AloneRows, staged_columns}
 use Rattle.morsel_line.specs.ScanSources.{ReadsJob}
-use Rattle.morsel_line.specs.ScanJobs.{scan_text, job_axis, IsJobPiece, IsJobFault, IsPieceKind}
+use Rattle.morsel_line.specs.ScanJobs.{staged_text, job_axis, IsJobPiece, IsJobFault, IsPieceKind}
 
 -- what a lane of a scan is for
 pub record LaneFor : Type 0 where
@@ -30,10 +31,11 @@ pub record LaneFor : Type 0 where
   pub reader : PiecesRead  -- the reader of its files, before it read anything
   pub outside : Outside  -- and the outside then
   pub tokens : TableId  -- the table of the tokens that rows hold
+  pub stage : StageSeen  -- what its rows are, or those whose texts it carries
 
--- the job is that of the lane's scan, over what its files are told to contain
+-- the job is that of the lane's scan and its rows, over what its files are told to contain
 abbrev pub TellsJob : LaneFor → Job → Type 0
-TellsJob lane job = (job.scan ≡ lane.scan) × ReadsJob lane.reader job lane.outside
+TellsJob lane job = (job.scan ≡ lane.scan) × ReadsJob lane.reader job lane.outside × (job.stage ≡ lane.stage)
 
 -- some of the rows that a stretch gives
 pub record SuitsRows (axis : Axis) (rows : List Row) (stretch : Stretch) : Type 0 where
@@ -43,11 +45,21 @@ pub record SuitsRows (axis : Axis) (rows : List Row) (stretch : Stretch) : Type 
   pub are : rows ≡ take (length rows) (drop stretch.skip all)
   pub ends : IsTrue stretch.last → stretch.skip + length rows ≡ length all
 
--- a load for a scan: a piece that can be decoded, rows of its columns, or the text of some rows
-abbrev pub SuitsScan : CsvScan → LoadSeen → Type 0
-SuitsScan scan (SeenPiece piece) = FitsScan piece
-SuitsScan scan (SeenMorsel frame seq source stretch) = frame.schema ≡ output_fields scan.scan
-SuitsScan scan (SeenPart seq part) = (rows : List Row) × (part.rows ≡ length rows) × (part.bytes ≡ scan_text scan rows)
+-- a load has all rows of its stretch, where they are those of the scan; what they find may be cut
+abbrev pub IsWholeIfScanned : StageSeen → Stretch → Type 0
+IsWholeIfScanned ScannedRows stretch = (stretch.skip ≡ 0) × (stretch.last ≡ true)
+IsWholeIfScanned (FoundRows side) stretch = Unit {0}
+IsWholeIfScanned (AloneRows side) stretch = Unit {0}
+
+-- the columns of the rows of a lane
+abbrev pub lane_fields : LaneFor → List Field
+lane_fields lane = staged_columns lane.stage (output_fields lane.scan.scan)
+
+-- a load for a scan: a piece that can be decoded, rows of the stage's columns, or the text of some rows
+abbrev pub SuitsScan : LaneFor → LoadSeen → Type 0
+SuitsScan lane (SeenPiece piece) = FitsScan piece
+SuitsScan lane (SeenMorsel frame seq source stretch) = (frame.schema ≡ lane_fields lane) × IsWholeIfScanned lane.stage stretch
+SuitsScan lane (SeenPart seq part) = (rows : List Row) × (part.rows ≡ length rows) × (part.bytes ≡ staged_text lane.stage lane.scan rows)
 
 -- a load for a scan whose files contain this: a piece of them, or some of the rows that its stretch gives, or their text
 abbrev pub SuitsTold : Job → LoadSeen → Type 0
@@ -58,7 +70,7 @@ SuitsTold job (SeenPart seq part) = SuitsPart (job_axis job) part
 -- a load of the lane's kind, for its scan, and for what the files contain
 pub record SuitsLane (lane : LaneFor) (load : LoadSeen) : Type 0 where
   pub kind : seen_kind load ≡ lane.kind
-  pub scan : SuitsScan lane.scan load
+  pub scan : SuitsScan lane load
   pub told : (job : Job) → TellsJob lane job → SuitsTold job load
 
 -- two lanes of this scan, of which loads of the first kind are made into loads of the second one
@@ -69,11 +81,11 @@ pub record JoinsKinds (first second : LoadKind) (scan : CsvScan) (from to : Lane
 
 -- of the pieces of one lane, rows of this scan can be made for another one
 abbrev pub DecodesBetween : CsvScan → LaneFor → LaneFor → Type 0
-DecodesBetween scan from to = JoinsKinds Pieces Morsels scan from to
+DecodesBetween scan from to = (from.stage ≡ ScannedRows) × JoinsKinds Pieces Morsels scan from to
 
 -- of the rows of one lane, which have these columns, texts can be made for another one
 abbrev pub EncodesBetween : List Field → LaneFor → LaneFor → Type 0
-EncodesBetween schema from to = (schema ≡ output_fields from.scan.scan) × JoinsKinds Morsels Parts from.scan from to
+EncodesBetween schema from to = (schema ≡ lane_fields from) × JoinsKinds Morsels Parts from.scan from to
 
 -- the load is a piece that can be decoded
 abbrev pub IsFittingPiece : LoadSeen → Type 0

@@ -2,6 +2,7 @@
 ghost use Rattle.std.specs.Prelude.{◌≡◌};
 
 use crate::at_home::AtHome;
+use morsel_line::RowStage;
 use morsel_load::{LoadJob, LoadKind};
 use morsel_outside::Io;
 use morsel_read::ScanReader;
@@ -9,10 +10,11 @@ use morsel_scan::CsvSourceNode;
 use std::marker::Model;
 use std::snapshot::Snapshot;
 
-/// What a lane of a scan is for: loads of one kind, for the rows of this scan. It takes no bytes but those of the kind.
+/// What a lane of a scan is for: loads of one kind, for the rows of this scan, or for what becomes of them. It takes no bytes but
+/// those of the kind.
 ///
 /// Contracts alone see the rest: the reader of the scan's files and the outside, both before anything was read, which tell what the
-/// files contain; and a group, of whose board the tokens are that rows may hold.
+/// files contain; a group, of whose board the tokens are that rows may hold; and what the rows are.
 #[derive(Drop)]
 pub struct LaneJob<G: AtHome, H: Io> {
     kind: LoadKind,
@@ -20,6 +22,7 @@ pub struct LaneJob<G: AtHome, H: Io> {
     reader: Snapshot<ScanReader>,
     outside: Snapshot<H>,
     group: Snapshot<G>,
+    stage: Snapshot<RowStage>,
 }
 
 impl<G: AtHome, H: Io> Model for LaneJob<G, H> {
@@ -38,11 +41,12 @@ impl<G: AtHome, H: Io> Model for LaneJob<G, H> {
       reader = job.reader.value;
       outside = H.seen job.outside.value;
       tokens = G.home job.group.value;
+      stage = job.stage.value;
     } };
 }
 
 impl<G: AtHome, H: Io> LaneJob<G, H> {
-    /// For loads of this kind, for the rows of the node's scan, whose files this reader is to read from this outside, with tokens of
+    /// For loads of this kind, for these rows of the node's scan, whose files this reader is to read from this outside, with tokens of
     /// the group's board.
     pub fn new(
         kind: LoadKind,
@@ -50,8 +54,9 @@ impl<G: AtHome, H: Io> LaneJob<G, H> {
         reader: &ScanReader,
         io: &H,
         group: &G,
+        stage: &RowStage,
     ) -> LaneJob<G, H>
-        ensures { result ≡ record { kind = kind; scan = node.now; reader = reader.now; outside = H.seen io.now; tokens = G.home group.now } }
+        ensures { result ≡ record { kind = kind; scan = node.now; reader = reader.now; outside = H.seen io.now; tokens = G.home group.now; stage = stage.now } }
     {
         LaneJob {
             kind,
@@ -59,6 +64,7 @@ impl<G: AtHome, H: Io> LaneJob<G, H> {
             reader: Snapshot::of(reader),
             outside: Snapshot::of(io),
             group: Snapshot::of(group),
+            stage: Snapshot::of(stage),
         }
     }
 }

@@ -96,5 +96,5 @@ impl<K: AtHome + Drop, G: AtHome, H: Io> LoadMaker<K, LaneJob<G, H>> for PieceDe
         }
     }
 
-    ghost takes_suiting = { λ decoder. takes_piece (arc_value decoder.node) };
+    ghost takes_suiting = { λ decoder from to seen joins suits. takes_piece (arc_value decoder.node) from to seen joins.1 suits };
 }

@@ -1,6 +1,8 @@
-use Rattle.std.proofs.Common.{ℕ, ◌*◌, ◌≤◌, ◌∙◌, refl, subst, arith}
+use Rattle.std.proofs.Common.{ℕ, ◌+◌, ◌*◌, ◌≤◌, ◌∙◌, refl, subst, arith}
 use Rattle.std.specs.Prelude.{List}
 use Rattle.morsel_drive.proofs.TransferLemmas.{either_reading, either_writing, stays}
+use Rattle.morsel_drive.specs.Sweeping.{counted_rows}
+use Rattle.morsel_drive.proofs.SweepLemmas.{far_more}
 use Rattle.morsel_drive.proofs.TurnLemmas.{stands_begun, stands_read, read_failed, stands_served, step_failed, stands_written, write_failed, run_ended}
 use Rattle.morsel_drive.proofs.caller.drive.Goals as goal
 
@@ -17,6 +19,7 @@ turns-init g c = record {
   few = omega arith;
   idle = omega arith;
   far = omega arith;
+  small = omega arith;
   chunk = refl;
   same = refl;
   fits = tt;
@@ -91,7 +94,9 @@ turns-preserved g c =
       next = next;
       few = let few = c.turns.invariant.few in let one = c.in_default.ensures.counted in let more = c.after_sweep-reached.ensures.counted in omega (arith, few, one, more);
       idle = c.after_sweep-reached.ensures.idle;
-      far = c.after_sweep-reached.ensures.within (2 * g.S.PieceSource.size c.args.reader.now (g.H.Io.seen c.args.io.now).sizes) (let place = c.saturating_add.ensures in omega (arith, size, within, given, next, place)) c.turns.invariant.far;
+      far = c.after_sweep-reached.ensures.within (2 * g.S.PieceSource.size c.args.reader.now (g.H.Io.seen c.args.io.now).sizes + counted_rows c.args.progress c.write_on.new.written.rows)
+          (let place = c.place_of.ensures.at_most in omega (arith, size, within, given, next, place)) (far_more c.args.progress _ _ _ _ c.in-Ok-write_on.ensures.more c.turns.invariant.far);
+      small = c.in-Ok-write_on.ensures.small c.turns.invariant.small;
       chunk = c.in-Ok.ensures.chunk ∙ c.turns.invariant.chunk;
       same = same.sizes ∙ (stays _ _ c.in-Ok.ensures.reads.reads (either_reading c.in-Ok.ensures.reads.reads c.in-Ok.ensures.reads.are) c.in-Ok.ensures.reads.does).sizes ∙ c.turns.invariant.same;
       ended = λ end. c.in-Ok.ensures.ended (c.feed_on-input.ensures.ended end);
@@ -104,3 +109,21 @@ returns-clause-drives g c = run_ended _ _ _ _ _ _ _ _ _ _ _ _ _ _ _ _ _ _ _ _ _ 
 
 pub returns-then-reached-ge-IDLE_SWEEPS-clause-drives : goal.returns-then-reached-ge-IDLE_SWEEPS-clause-drives
 returns-then-reached-ge-IDLE_SWEEPS-clause-drives g c = run_ended _ _ _ _ _ _ _ _ _ _ _ _ _ _ _ _ _ _ _ _ _ c.turns.invariant.stands tt (λ end. (c.turns.invariant.ended end, c.turns.invariant.suits))
+
+pub returns-in-Err-clause-sweeps : goal.returns-in-Err-clause-sweeps
+returns-in-Err-clause-sweeps g c = record { rows = c.turns.written.rows; few = (let few = c.turns.invariant.few in let idle = c.turns.invariant.idle in let far = c.turns.invariant.far in omega (arith, few, idle, far)); small = c.turns.invariant.small; within = λ job reading serving sound. (c.turns.invariant.stands.told_them job reading serving sound).keeps.within }
+
+pub returns-in-Err-step-clause-sweeps : goal.returns-in-Err-step-clause-sweeps
+returns-in-Err-step-clause-sweeps g c = record { rows = c.turns.written.rows; few = (let few = c.turns.invariant.few in let idle = c.turns.invariant.idle in let far = c.turns.invariant.far in let one = c.step.ensures.counted in omega (arith, few, idle, far, one)); small = c.turns.invariant.small; within = λ job reading serving sound. (c.turns.invariant.stands.told_them job reading serving sound).keeps.within }
+
+pub returns-in-Err-write_on-clause-sweeps : goal.returns-in-Err-write_on-clause-sweeps
+returns-in-Err-write_on-clause-sweeps g c = record { rows = c.turns.written.rows; few = (let few = c.turns.invariant.few in let idle = c.turns.invariant.idle in let far = c.turns.invariant.far in let one = c.in_default.ensures.counted in omega (arith, few, idle, far, one)); small = c.turns.invariant.small; within = λ job reading serving sound. (c.turns.invariant.stands.told_them job reading serving sound).keeps.within }
+
+pub returns-then-whole-clause-sweeps : goal.returns-then-whole-clause-sweeps
+returns-then-whole-clause-sweeps g c = record { rows = c.turns.written.rows; few = (let few = c.turns.invariant.few in let idle = c.turns.invariant.idle in let far = c.turns.invariant.far in let one = c.in_default.ensures.counted in omega (arith, few, idle, far, one)); small = c.turns.invariant.small; within = λ job reading serving sound. (c.turns.invariant.stands.told_them job reading serving sound).keeps.within }
+
+pub returns-clause-sweeps : goal.returns-clause-sweeps
+returns-clause-sweeps g c = record { rows = c.turns.written.rows; few = (let few = c.turns.invariant.few in let idle = c.turns.invariant.idle in let far = c.turns.invariant.far in omega (arith, few, idle, far)); small = c.turns.invariant.small; within = λ job reading serving sound. (c.turns.invariant.stands.told_them job reading serving sound).keeps.within }
+
+pub returns-then-reached-ge-IDLE_SWEEPS-clause-sweeps : goal.returns-then-reached-ge-IDLE_SWEEPS-clause-sweeps
+returns-then-reached-ge-IDLE_SWEEPS-clause-sweeps g c = record { rows = c.turns.written.rows; few = (let few = c.turns.invariant.few in let idle = c.turns.invariant.idle in let far = c.turns.invariant.far in omega (arith, few, idle, far)); small = c.turns.invariant.small; within = λ job reading serving sound. (c.turns.invariant.stands.told_them job reading serving sound).keeps.within }

@@ -1,5 +1,6 @@
-use Rattle.std.proofs.Common.{◌≡◌, ◌+◌, ◌*◌, ◌<◌, ◌≤◌}
+use Rattle.std.proofs.Common.{◌≡◌, ◌+◌, ◌*◌, ◌^◌, ◌<◌, ◌≤◌}
 use Rattle.morsel_drive.specs.Driving.{HoldsFitting, HasEnded}
+use Rattle.morsel_drive.specs.Sweeping.{counted_rows}
 use Rattle.morsel_drive.proofs.TurnLemmas.{Stands, ToldMidst}
 use Rattle.morsel_drive.proofs.caller.drive.Given as goal
 
@@ -16,7 +17,8 @@ invariant-turns g l = record {
   next : l.written.next ≤ g.S.PieceSource.size l.fn.reader (g.H.Io.seen l.fn.io).sizes;
   few : l.steps ≤ l.fn.steps + 512 * l.reached.furthest + l.reached.idle;
   idle : l.reached.idle ≤ 512;
-  far : l.reached.furthest ≤ 2 * g.S.PieceSource.size l.fn.reader (g.H.Io.seen l.fn.io).sizes;
+  far : l.reached.furthest ≤ 2 * g.S.PieceSource.size l.fn.reader (g.H.Io.seen l.fn.io).sizes + counted_rows l.progress l.written.rows;
+  small : l.written.rows < 2 ^ 64;
   chunk : g.S.PieceSource.chunk l.reader ≡ g.S.PieceSource.chunk l.fn.reader;
   same : (g.H.Io.seen l.io).sizes ≡ (g.H.Io.seen l.fn.io).sizes;
   fits : HoldsFitting l.input;

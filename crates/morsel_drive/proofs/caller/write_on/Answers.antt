@@ -5,7 +5,7 @@ use Rattle.morsel_drive.proofs.TurnLemmas.{wrote_nothing, wrote_more, wrote_all,
 use Rattle.morsel_drive.proofs.caller.write_on.Goals as goal
 
 pub parts-init : goal.parts-init
-parts-init g c = record { made = c.requires.made; told = λ job is. is; rows = c.requires.rows; joined = λ is. is; within = λ size given next. next; stands = wrote_nothing _ _ _ _ }
+parts-init g c = record { made = c.requires.made; told = λ job is. is; rows = c.requires.rows; joined = λ is. is; within = λ size given next. next; more = omega arith; small = λ few. few; stands = wrote_nothing _ _ _ _ }
 
 pub parts-preserved : goal.parts-preserved
 parts-preserved g c =
@@ -16,6 +16,8 @@ parts-preserved g c =
       rows = c.in_default.ensures.rows;
       joined = λ is. c.in-Part.ensures.joined (c.parts.invariant.joined is);
       within = λ size given next. c.in_default.ensures.within size given (c.parts.invariant.within size given next);
+      more = let one = c.parts.invariant.more in let two = c.in_default.ensures.more in omega (arith, one, two);
+      small = λ few. c.in_default.ensures.small (c.parts.invariant.small few);
       stands = wrote_more _ _ _ _ _ _ _ _ _ _ c.in-Part.part c.parts.invariant.stands (λ job serving. c.in-Part.ensures.serves job serving)
           (λ job serving. c.in-Part.ensures.suits job serving) w;
     }

@@ -1,5 +1,5 @@
 -- The caller's loop over the reader of a scan and its line.
-use Rattle.std.proofs.Common.{◌+◌, ◌*◌, ◌≤◌, ap, subst, sym, ◌∙◌}
+use Rattle.std.proofs.Common.{◌+◌, ◌*◌, ◌≤◌, arith, ap, subst, sym, ◌∙◌}
 use Rattle.std.specs.List.{sum_by}
 use Rattle.morsel_outside.specs.Outside.{Outside}
 use Rattle.morsel_read.specs.ScanReads.{PiecesRead, asked_to, sizes_in}
@@ -19,7 +19,7 @@ drive-requires-clause-told g c job tells = (
 
 pub returns-clause-sweeps : goal.returns-clause-sweeps
 returns-clause-sweeps g c =
-    subst (λ (r : PiecesRead). c.drive.new.steps ≤ c.args.steps.now + 1024 * (sum_by (λ n. n) (sizes_in (g.H.Io.seen c.args.io.now).sizes r.sources.files) + 1)) c.new-source.ensures c.drive.ensures.sweeps
+    subst (λ (r : PiecesRead). c.drive.new.steps ≤ c.args.steps.now + 1024 * (sum_by (λ n. n) (sizes_in (g.H.Io.seen c.args.io.now).sizes r.sources.files) + 1)) c.new-source.ensures (let few = c.drive.ensures.sweeps.few in omega (arith, few))
 
 pub returns-clause-writes : goal.returns-clause-writes
 returns-clause-writes g c =
@@ -37,5 +37,6 @@ returns-clause-writes g c =
         serves.0,
         subst (λ (r : PiecesRead). ReadsJob r job c.args.line.now.lane.outside) (c.new-source.ensures ∙ sym c.requires.reader)
             (subst (λ (o : Outside). ReadsJob c.new-source.result job o) (sym c.requires.outside) reads),
+        serves.1 ∙ sym c.requires.scanned,
       ) sound;
     }))

@@ -10,9 +10,12 @@ run_nodes-requires-clause-first_fits g c =
       c.args.jobs.between.now,
       refl,
       refl,
-      record {
-        takes = c.requires.jobs.pieces;
-        makes = c.requires.jobs.rows;
-        of_scan = c.requires.lane.scan_is ∙ sym made;
-      },
+      (
+        c.requires.jobs.scanned,
+        record {
+          takes = c.requires.jobs.pieces;
+          makes = c.requires.jobs.rows;
+          of_scan = c.requires.lane.scan_is ∙ sym made;
+        },
+      ),
     )
