@@ -8,7 +8,7 @@ ghost use Rattle.morsel_drive.specs.Sweeping.{SweepsFew};
 ghost use Rattle.morsel_drive.specs.Driving.{IsAfter, WritesPart, WritesOn, KeepsOrStops, KeepsText, HoldsFitting, HoldsPieceOf, HasEnded, FitsInput, GivesInput, ReadsInTime, EndsWith, DrivesAxis, Drives};
 
 use crate::line::{Line, LineJob, PieceSource, Taken};
-use crate::progress::{IDLE_SWEEPS, Progress, Reached, after_sweep, place_of};
+use crate::progress::{IDLE_SWEEPS, Progress, Reached, after_sweep, place_reached};
 use crate::written::Written;
 use morsel_local::Steps;
 use morsel_meaning::Fault;
@@ -257,7 +257,7 @@ pub fn drive<H: Io, L: Line, S: PieceSource<H, <L as Line>::Job>, G: Gate, Y: Le
         if whole {
             return end(io, writer, given, &input, &written);
         }
-        reached = after_sweep(place_of(progress, given, &written), reached);
+        reached = after_sweep(place_reached(progress, given, &written), reached);
     }
     // No run makes so many turns.
     Err(Fault::OutOfMemory)

@@ -11,5 +11,5 @@ mod written;
 
 pub use caller::{Input, drive, feed_on, read_on, write_on};
 pub use line::{Line, LineJob, PieceSource, Taken};
-pub use progress::{IDLE_SWEEPS, Progress, Reached, after_sweep, place_of};
+pub use progress::{IDLE_SWEEPS, Progress, Reached, after_sweep, place_reached};
 pub use written::Written;

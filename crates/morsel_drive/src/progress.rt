@@ -27,7 +27,7 @@ pub struct Reached {
 }
 
 /// How far a run has come that was given so many bytes.
-pub fn place_of(progress: Progress, given: u64, written: &Written) -> u64
+pub fn place_reached(progress: Progress, given: u64, written: &Written) -> u64
     ensures at_most { result ≤ given + written.now.next + counted_rows progress written.now.rows }
 {
     let bytes = given.saturating_add(written.next);

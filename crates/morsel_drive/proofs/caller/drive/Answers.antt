@@ -95,7 +95,7 @@ turns-preserved g c =
       few = let few = c.turns.invariant.few in let one = c.in_default.ensures.counted in let more = c.after_sweep-reached.ensures.counted in omega (arith, few, one, more);
       idle = c.after_sweep-reached.ensures.idle;
       far = c.after_sweep-reached.ensures.within (2 * g.S.PieceSource.size c.args.reader.now (g.H.Io.seen c.args.io.now).sizes + counted_rows c.args.progress c.write_on.new.written.rows)
-          (let place = c.place_of.ensures.at_most in omega (arith, size, within, given, next, place)) (far_more c.args.progress _ _ _ _ c.in-Ok-write_on.ensures.more c.turns.invariant.far);
+          (let place = c.place_reached.ensures.at_most in omega (arith, size, within, given, next, place)) (far_more c.args.progress _ _ _ _ c.in-Ok-write_on.ensures.more c.turns.invariant.far);
       small = c.in-Ok-write_on.ensures.small c.turns.invariant.small;
       chunk = c.in-Ok.ensures.chunk ∙ c.turns.invariant.chunk;
       same = same.sizes ∙ (stays _ _ c.in-Ok.ensures.reads.reads (either_reading c.in-Ok.ensures.reads.reads c.in-Ok.ensures.reads.are) c.in-Ok.ensures.reads.does).sizes ∙ c.turns.invariant.same;
