@@ -114,6 +114,19 @@ where
         let KeepLine { stage, .. } = self;
         stage
     }
+
+    /// Ends what has not ended: the caller's end is cut, and all tasks are abandoned.
+    pub fn abandon(self) {
+        let KeepLine {
+            mut local,
+            feed,
+            ..
+        } = self;
+        if let Feed::Open(to) = feed {
+            to.cut(local.cx());
+        }
+        local.abandon();
+    }
 }
 
 impl<L, K, H, S> Line for KeepLine<L, K, H, S>

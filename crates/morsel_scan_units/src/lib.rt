@@ -5,6 +5,7 @@
 mod at_home;
 mod frame_encoder;
 mod lane_job;
+mod lane_rows;
 mod piece_decoder;
 
 pub use at_home::AtHome;
