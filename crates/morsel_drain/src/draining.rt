@@ -34,6 +34,7 @@ pub fn drain<H: Io, L: Line, S: PieceSource<H, <L as Line>::Job>, G: Gate, Y: Le
     ensures sweeps { steps.new ≤ steps.old + 512 * (S.size reader.old (H.seen io.old).sizes + 1) }
     ensures whole { OnOk result (L.is_whole line.new) }
     ensures joined { OnOk result (L.is_joined line.new) }
+    ensures stays { (begun : L) → L.stays begun line.old → L.stays begun line.new }
     ensures given { IfOk result (λ n. n ≡ S.given reader.new) }
     ensures drains { Drains (S.did reader.old reader.new (H.seen io.old).sizes) (S.failed reader.new) (L.broke line.new) (S.ended reader.new × S.suits reader.new (H.seen io.new)) (λ events. (job : L.Job)
         → S.reads reader.old job (H.seen io.old) → L.serves line.old job

@@ -32,6 +32,7 @@ pub fn pour<H: Io, L: Line, G: Gate, Y: Ledger>(
     requires joined { L.is_joined line.old }
     ensures sweeps { SweepsFew Rows 1 steps.old steps.new (λ rows. (job : L.Job) → L.serves line.old job → IsSoundAxis (L.Job.axis job) → rows ≤ length (before_fault (L.Job.axis job).gives)) }
     ensures whole { OnOk result (L.is_whole line.new) }
+    ensures stays { (begun : L) → L.stays begun line.old → L.stays begun line.new }
     ensures pours { Pours (L.broke line.new) (λ actions. (job : L.Job) → L.serves line.old job → IsSoundAxis (L.Job.axis job)
         → PoursAxis (L.Job.axis job) (L.Job.is_due job) actions result) (H.seen io.old) result (H.seen io.new) }
 {

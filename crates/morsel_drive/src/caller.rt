@@ -97,6 +97,7 @@ pub fn write_on<H: Io, L: Line>(
     ensures whole { IfOk result (λ whole. whole ≡ true → L.is_whole line.new) }
     ensures rows { OnOk result (writer.new.rows ≡ written.new.rows) }
     ensures joined { L.is_joined line.old → L.is_joined line.new }
+    ensures stays { (begun : L) → L.stays begun line.old → L.stays begun line.new }
     ensures within { (size : ℕ) → given ≤ size → written.old.next ≤ size → written.new.next ≤ size }
     ensures more { written.old.rows ≤ written.new.rows }
     ensures small { written.old.rows < 2 ^ 64 → written.new.rows < 2 ^ 64 }
@@ -158,6 +159,7 @@ pub fn feed_on<L: Line>(line: &mut L, input: Input) -> Input
     requires told { (job : L.Job) → L.told line.old job → HoldsPieceOf (L.Job.is_piece job) input }
     ensures told { (job : L.Job) → L.told line.new job → L.told line.old job }
     ensures joined { L.is_joined line.old → L.is_joined line.new }
+    ensures stays { (begun : L) → L.stays begun line.old → L.stays begun line.new }
     ensures fits { HoldsFitting result }
     ensures ended { HasEnded result → HasEnded input }
     ensures input { (job : L.Job) → L.serves line.old job → (given asked : ℕ) → FitsInput (L.Job.is_piece job) (L.Job.is_end job) given asked input
@@ -221,6 +223,7 @@ pub fn drive<H: Io, L: Line, S: PieceSource<H, <L as Line>::Job>, G: Gate, Y: Le
     ensures sweeps { SweepsFew progress (S.size reader.old (H.seen io.old).sizes) steps.old steps.new (λ rows. (job : L.Job)
         → S.reads reader.old job (H.seen io.old) → L.serves line.old job → IsSoundAxis (L.Job.axis job) → rows ≤ length (before_fault (L.Job.axis job).gives)) }
     ensures whole { OnOk result (L.is_whole line.new) }
+    ensures stays { (begun : L) → L.stays begun line.old → L.stays begun line.new }
     ensures drives { Drives (S.did reader.old reader.new (H.seen io.old).sizes) (S.failed reader.new) (L.broke line.new) (S.ended reader.new × S.suits reader.new (H.seen io.new)) (λ actions. (job : L.Job)
         → S.reads reader.old job (H.seen io.old) → L.serves line.old job → IsSoundAxis (L.Job.axis job)
         → DrivesAxis (L.Job.axis job) (L.Job.is_due job) (L.Job.is_end job) (S.reads reader.new job (H.seen io.new)) (bound + (L.Job.axis job).longest) (S.chunk reader.old) actions result)

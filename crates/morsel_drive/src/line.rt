@@ -66,6 +66,9 @@ pub trait Line {
     /// Nothing that a task of it has ended with is left to be looked at.
     ghost is_joined: { Self → Type 0 };
 
+    /// What it keeps of what it was: as it was, and as it is.
+    ghost stays: { Self → Self → Type 0 };
+
     /// Feeds a piece, or hands it back where there is no room.
     fn feed(&mut self, piece: RawPiece) -> Result<(), RawPiece>
         requires fits { FitsScan piece }
@@ -73,13 +76,15 @@ pub trait Line {
         ensures serves { (job : Self.Job) → serves self.old job → Self.Job.is_piece job piece → serves self.new job }
         ensures told { (job : Self.Job) → told self.new job → told self.old job }
         ensures joined { is_joined self.old → is_joined self.new }
+        ensures stays { (begun : Self) → stays begun self.old → stays begun self.new }
         ensures back { IfErr result (λ back. back ≡ piece) };
 
     /// Says that no piece follows.
     fn close(&mut self)
         ensures serves { (job : Self.Job) → serves self.old job → serves self.new job }
         ensures told { (job : Self.Job) → told self.new job → told self.old job }
-        ensures joined { is_joined self.old → is_joined self.new };
+        ensures joined { is_joined self.old → is_joined self.new }
+        ensures stays { (begun : Self) → stays begun self.old → stays begun self.new };
 
     /// Lets each task that can run do so, between the gate's `enter` and `left`: a sweep. Once a task has ended with a fault, or
     /// with a cut, no sweep follows.
@@ -89,6 +94,7 @@ pub trait Line {
         ensures counted { steps.new ≡ steps.old + 1 }
         ensures serves { (job : Self.Job) → serves self.old job → OnOk result (serves self.new job) }
         ensures told { (job : Self.Job) → told self.new job → told self.old job }
+        ensures stays { (begun : Self) → stays begun self.old → stays begun self.new }
         ensures broke { IfErr result (broke self.new) }
         ensures due { (job : Self.Job) → serves self.old job → IfErr result (IsDue (Self.Job.is_due job)) };
 
@@ -97,6 +103,7 @@ pub trait Line {
         ensures serves { (job : Self.Job) → serves self.old job → serves self.new job }
         ensures told { (job : Self.Job) → told self.new job → told self.old job }
         ensures joined { is_joined self.old → is_joined self.new }
+        ensures stays { (begun : Self) → stays begun self.old → stays begun self.new }
         ensures suits { (job : Self.Job) → serves self.old job → IfPart result (SuitsPart (Self.Job.axis job)) }
         ensures whole { OnWhole result (is_whole self.new) };
 }

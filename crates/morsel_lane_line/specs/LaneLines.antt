@@ -11,11 +11,12 @@ use Rattle.morsel_scan_units.specs.LaneJobs.{LaneFor, IsUnitFault}
 use Rattle.morsel_lane_line.specs.declared.lane_line.Feed.{Feed}
 use Rattle.morsel_lane_line.specs.declared.lane_line.Feed.TheVariants.{Open, Closed}
 
--- what is seen of a line: what the lane of its parts is for, whether all was taken that came through it, and how many outputs of its tasks were not taken
-pub record LineSeen : Type 0 where
+-- what is seen of a line: what the lane of its parts is for, whether all was taken that came through it, how many outputs of its tasks were not taken, and whose its tasks are
+pub record LineSeen (S : Type 0) : Type 0 where
   pub lane : LaneFor
   pub whole : Bool
   pub left : ℕ
+  pub stage : S
 
 -- so it is of the caller's sending end, while it is open
 abbrev pub IfOpenFeed : {S : Type 0} → Feed S → (S → Type 0) → Type 0

@@ -58,14 +58,14 @@ where
     ghost use Rattle.morsel_lane_line.specs.LaneLines.{LineSeen};
     ghost use Rattle.morsel_lane_line.specs.KeepLines.{IsKeepLine};
 
-    ghost Value = { LineSeen };
+    ghost Value = { LineSeen S };
 
     ghost use Rattle.morsel_expr.specs.contracts.node.PredNode as tree;
     ghost use Rattle.std.specs.Coded.{codes};
 
     ghost coded = { Prim.hlevel (codes, tree.the_row.coded) };
 
-    ghost view = { λ line. record { lane = line.lane.value; whole = nat_eq line.ended line.spawned; left = outputs_left line.spawned line.local.tasks } };
+    ghost view = { λ line. record { lane = line.lane.value; whole = nat_eq line.ended line.spawned; left = outputs_left line.spawned line.local.tasks; stage = line.stage } };
 
     ghost invariant = { λ line. IsKeepLine L.Sender.home L.Sender.job line.spawned line.local.capacity line.local.home (L.Board.id line.local.cx.board) line.feed line.lane.value (S.owes line.stage (unjoined line.local.tasks)) (S.fails line.stage) };
 }
@@ -97,6 +97,7 @@ where
         requires fails { (fault : Fault) → S.fails stage fault → IsUnitFault lane.now fault }
         ensures lane { result.lane ≡ lane.now }
         ensures joined { result.left ≡ 0 }
+        ensures stage { result.stage ≡ stage }
     {
         KeepLine {
             alloc,
@@ -110,7 +111,9 @@ where
     }
 
     /// Whose the tasks were.
-    pub fn into_stage(self) -> S {
+    pub fn into_stage(self) -> S
+        ensures { result ≡ self.stage }
+    {
         let KeepLine { stage, .. } = self;
         stage
     }
@@ -152,6 +155,8 @@ where
     ghost is_whole = { λ line. line.whole ≡ true };
 
     ghost is_joined = { λ line. line.left ≡ 0 };
+
+    ghost stays = { λ begun line. S.stays begun.stage line.stage };
 
     fn feed(&mut self, piece: RawPiece) -> Result<(), RawPiece> {
         let Feed::Open(to) = &mut self.feed else {

@@ -64,14 +64,14 @@ where
     ghost use Rattle.morsel_stage.specs.Unjoined.{unjoined};
     ghost use Rattle.morsel_lane_line.specs.LaneLines.{IsLine, LineSeen};
 
-    ghost Value = { LineSeen };
+    ghost Value = { LineSeen S };
 
     ghost use Rattle.morsel_expr.specs.contracts.node.PredNode as tree;
     ghost use Rattle.std.specs.Coded.{codes};
 
     ghost coded = { Prim.hlevel (codes, tree.the_row.coded) };
 
-    ghost view = { λ line. record { lane = L.Receiver.job line.parts; whole = L.Receiver.is_whole line.parts; left = outputs_left line.spawned line.local.tasks } };
+    ghost view = { λ line. record { lane = L.Receiver.job line.parts; whole = L.Receiver.is_whole line.parts; left = outputs_left line.spawned line.local.tasks; stage = line.stage } };
 
     ghost invariant = { λ line. IsLine L.Sender.home L.Sender.job line.spawned line.local.capacity line.local.home (L.Board.id line.local.cx.board) (L.Receiver.home line.parts) line.feed (L.Receiver.job line.parts) (S.owes line.stage (unjoined line.local.tasks)) (S.fails line.stage) };
 }
@@ -102,7 +102,7 @@ where
         requires none_ended { outputs_left spawned local.tasks ≡ 0 }
         requires owed { S.owes stage (unjoined local.tasks) }
         requires fails { (fault : Fault) → S.fails stage fault → IsUnitFault (L.Receiver.job parts) fault }
-        ensures { result ≡ record { lane = L.Receiver.job parts; whole = L.Receiver.is_whole parts; left = 0 } }
+        ensures { result ≡ record { lane = L.Receiver.job parts; whole = L.Receiver.is_whole parts; left = 0; stage = stage } }
     {
         LaneLine {
             alloc,
@@ -112,6 +112,42 @@ where
             feed: Feed::Open(feed),
             parts,
         }
+    }
+
+    /// The line of these tasks of a stage, of which so many were spawned, into which nothing is fed. The caller takes parts from
+    /// `parts`.
+    pub fn unfed(
+        alloc: Global,
+        local: Local<S::Task, L::Board>,
+        spawned: u32,
+        stage: S,
+        parts: L::Receiver,
+    ) -> LaneLine<L, K, H, S>
+        requires all { local.capacity ≡ spawned }
+        requires board { L.Board.id local.cx.board ≡ local.home }
+        requires home { L.Receiver.home parts ≡ local.home.lane_table }
+        requires kind { (L.Receiver.job parts).kind ≡ Parts }
+        requires none_ended { outputs_left spawned local.tasks ≡ 0 }
+        requires owed { S.owes stage (unjoined local.tasks) }
+        requires fails { (fault : Fault) → S.fails stage fault → IsUnitFault (L.Receiver.job parts) fault }
+        ensures { result ≡ record { lane = L.Receiver.job parts; whole = L.Receiver.is_whole parts; left = 0; stage = stage } }
+    {
+        LaneLine {
+            alloc,
+            local,
+            spawned,
+            stage,
+            feed: Feed::Closed,
+            parts,
+        }
+    }
+
+    /// Whose the tasks were.
+    pub fn into_stage(self) -> S
+        ensures { result ≡ self.stage }
+    {
+        let LaneLine { stage, .. } = self;
+        stage
     }
 }
 
@@ -185,6 +221,8 @@ where
     ghost is_whole = { λ line. line.whole ≡ true };
 
     ghost is_joined = { λ line. line.left ≡ 0 };
+
+    ghost stays = { λ begun line. S.stays begun.stage line.stage };
 
     fn feed(&mut self, piece: RawPiece) -> Result<(), RawPiece> {
         let Feed::Open(to) = &mut self.feed else {

@@ -34,6 +34,8 @@ where
 
     ghost fails = { λ stage fault. N.fails stage.begun.value stage.jobs.value.items fault };
 
+    ghost stays = { λ begun stage. N.stays begun.node stage.node };
+
     ghost tells = { λ out told. TellsUnit (N.end_of out) told };
 
     fn give_back(

@@ -49,6 +49,7 @@ where
     ensures between { IfOk result (λ opened. AreUnitsBetween N.unit_seen (unit_between L.Receiver.lane L.Sender.lane (L.Board.id board.old).lane_table ports.recv.items ports.send.items) ports.recv.items ports.send.items opened.1.items) }
     ensures out { IfOk result (λ opened. HasOut (N.seen opened.0.node).units (N.is_unit opened.0.node) N.unit_fails (N.fails opened.0.begun.value opened.0.jobs.value.items) opened.1.items) }
     ensures begun { IfOk result (λ opened. (opened.0.begun.value ≡ node) × (opened.0.jobs.value.items ≡ from.now.items)) }
+    ensures stays { IfOk result (λ opened. (begun : N) → N.stays begun node → N.stays begun opened.0.node) }
     ensures out_of_memory { IsOkUnless result OutOfMemory }
     ensures same_board { L.Board.id board.new ≡ L.Board.id board.old }
 {

@@ -36,6 +36,8 @@ where
 
     ghost fails = { λ stage fault. fault ≡ OutOfMemory };
 
+    ghost stays = { λ begun stage. Unit {0} };
+
     ghost tells = { λ out told. TellsPipe out told };
 
     fn give_back(&mut self, _alloc: Global, out: PipeOut<R>) -> Result<Ended, Fault> {

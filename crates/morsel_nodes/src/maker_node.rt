@@ -124,6 +124,8 @@ where
 
     ghost took = { λ node lists. Unit {0} };
 
+    ghost stays = { λ begun node. node.makers ≡ begun.makers };
+
     fn name(&self) -> &str {
         self.makers.name()
     }

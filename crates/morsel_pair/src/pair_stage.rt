@@ -24,6 +24,8 @@ impl<B: Board, S: Stage<B>, T: Stage<B>> Stage<B> for PairStage<S, T> {
 
     ghost fails = { λ pair fault. S.fails pair.first fault ⊎ T.fails pair.second fault };
 
+    ghost stays = { λ begun pair. S.stays begun.first pair.first × T.stays begun.second pair.second };
+
     ghost tells = { λ out told. ByEither out (λ out. S.tells out told) (λ out. T.tells out told) };
 
     fn give_back(

@@ -49,6 +49,8 @@ where
 
     ghost fails = { λ stage fault. (fault ≡ OutOfMemory) ⊎ A.fails stage.first.begun.value (stage.first.job.value ∷ []) fault ⊎ Z.fails stage.last.begun.value (stage.last.job.value ∷ []) fault };
 
+    ghost stays = { λ begun stage. A.stays begun.first.node stage.first.node × Z.stays begun.last.node stage.last.node };
+
     ghost tells = { λ out told. ByKind out (λ out. TellsUnit (A.end_of out) told) (λ out. TellsUnit (Z.end_of out) told) (λ out. TellsPipe out told) };
 
     fn give_back(

@@ -40,6 +40,7 @@ impl<N, J> NodeStage<N, J> {
         ensures told { TellsUnit (N.end_of out) result }
         ensures fault { IfErr result (N.fails self.old.begun.value (self.old.job.value ∷ [])) }
         ensures same_faults { (self.new.begun ≡ self.old.begun) × (self.new.job ≡ self.old.job) }
+        ensures stays { (begun : N) → N.stays begun self.old.node → N.stays begun self.new.node }
     {
         let receipts = self.node.give_back(alloc, out)?;
         if receipts.taken.is_empty() && receipts.sent.is_empty() {

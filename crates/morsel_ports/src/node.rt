@@ -98,6 +98,9 @@ pub trait ComputeNode<
     /// Its units that were given back took loads of these numbers, a list for each of them.
     ghost took: { Self → List (List ℕ) → Type 0 };
 
+    /// What it keeps of what it was, while its units work: as it was, and as it is.
+    ghost stays: { Self → Self → Type 0 };
+
     /// What it is called.
     fn name(&self) -> &str
         ensures { result.now ≡ (seen self.now).name };
@@ -112,7 +115,8 @@ pub trait ComputeNode<
         requires pipelines { (1 ≤ pipelines) × (pipelines ≤ 32768) }
         ensures ready { seen self.new ≡ record (seen self.old) { pipelines = Some pipelines } }
         ensures fits { (from to : List J) → fits self.old from to → fits self.new from to }
-        ensures took { took self.new [] };
+        ensures took { took self.new [] }
+        ensures stays { (begun : Self) → stays begun self.old → stays begun self.new };
 
     /// Moves the states of its ports on: of those where it takes loads, and of those where it gives them.
     fn update_state(&mut self, recv: &mut [PortState], send: &mut [PortState]) -> Result<(), Fault>
@@ -161,6 +165,7 @@ pub trait ComputeNode<
         ensures work { (taken sent : List (List LoadSeen)) → makes self.new taken sent → makes self.old taken sent }
         ensures faults { IfOk result (λ units. (from to : List J) → fits self.old from to → AreEndsFor (λ job end. L.Receiver.job end ≡ job) recv.old.items from → All (λ unit. (fault : Fault) → unit_fails unit fault → fails self.old from fault) units.items) }
         ensures took { (lists : List (List ℕ)) → took self.old lists → took self.new lists }
+        ensures stays { (begun : Self) → stays begun self.old → stays begun self.new }
         ensures out_of_memory { IsOkUnless result OutOfMemory }
         ensures same_waiting { SameWaiting (L.Board.waits_at board.old) (L.Board.waits_at board.new) }
         ensures same_board { L.Board.id board.new ≡ L.Board.id board.old };
@@ -181,5 +186,6 @@ pub trait ComputeNode<
         ensures out { record (seen self.new) { units = (seen self.new).units + 1 } ≡ seen self.old }
         ensures others { (unit : Self.Unit) → is_unit self.old unit → is_unit self.new unit }
         ensures work { (taken sent : List (List LoadSeen)) → makes self.new taken sent → makes self.old taken sent }
-        ensures took { (lists : List (List ℕ)) → took self.old lists → IfEndedWhole (end_of out) (λ taken sent. took self.new (lists ++ flat_map (λ receipt. map load_seq (L.Receiver.all_taken receipt)) taken ∷ [])) };
+        ensures took { (lists : List (List ℕ)) → took self.old lists → IfEndedWhole (end_of out) (λ taken sent. took self.new (lists ++ flat_map (λ receipt. map load_seq (L.Receiver.all_taken receipt)) taken ∷ [])) }
+        ensures stays { (begun : Self) → stays begun self.old → stays begun self.new };
 }

@@ -27,6 +27,7 @@ pub fn join_ended<B: Board + Drop, S: Stage<B>>(
     ensures owed { S.owes stage.new (unjoined local.new.tasks) }
     ensures fault { IfErr result (λ fault. (fault ≡ OutOfMemory) ⊎ S.fails stage.old fault) }
     ensures same_faults { (fault : Fault) → S.fails stage.new fault → S.fails stage.old fault }
+    ensures stays { (begun : S) → S.stays begun stage.old → S.stays begun stage.new }
     ensures same_cx { local.new.cx ≡ local.old.cx }
     ensures same_home { local.new.home ≡ local.old.home }
     ensures same_capacity { local.new.capacity ≡ local.old.capacity }

@@ -18,6 +18,9 @@ pub trait Stage<B: Board> {
     /// It, or a task of it, may end by this fault.
     ghost fails: { Self → Fault → Type 0 };
 
+    /// What it keeps of what it was, while tasks are given back: as it was, and as it is.
+    ghost stays: { Self → Self → Type 0 };
+
     /// An output tells this: how the lanes of its task ended, or its fault.
     ghost tells: { Self.Task.Out → Result Ended Fault → Type 0 };
 
@@ -31,5 +34,6 @@ pub trait Stage<B: Board> {
         ensures owed { (before after : List Self.Task) (task : Self.Task) → owes self.old (before ++ task ∷ after) → Self.Task.gives task out → owes self.new (before ++ after) }
         ensures told { tells out result }
         ensures fault { IfErr result (fails self.old) }
-        ensures same_faults { (fault : Fault) → fails self.new fault → fails self.old fault };
+        ensures same_faults { (fault : Fault) → fails self.new fault → fails self.old fault }
+        ensures stays { (begun : Self) → stays begun self.old → stays begun self.new };
 }

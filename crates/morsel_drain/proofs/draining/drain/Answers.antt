@@ -6,6 +6,7 @@ use Rattle.morsel_drain.proofs.draining.drain.Goals as goal
 pub turns-init : goal.turns-init
 turns-init g c = record {
   suits = c.requires.suits;
+  stays = λ begun was. was;
   told = λ job is. is;
   joined = c.requires.joined;
   size = refl;
@@ -75,6 +76,7 @@ turns-preserved g c =
     let given = c.given-given.ensures in
     record {
       suits = c.in-Ok.ensures.suits;
+      stays = λ begun was. c.in-Empty.ensures.stays begun (c.in_default.ensures.stays begun (c.feed_on-input.ensures.stays begun (c.turns.invariant.stays begun was)));
       told = λ job is. c.turns.invariant.told job (c.feed_on-input.ensures.told job (c.in_default.ensures.told job (c.in-Empty.ensures.told job is)));
       joined = c.in-Empty.ensures.joined c.in_default.ensures.joined;
       size = c.in-Ok.ensures.same_size (g.H.Io.seen c.args.io.now).sizes ∙ c.turns.invariant.size;

@@ -8,6 +8,7 @@ use Rattle.morsel_drain.proofs.draining.drain.Given as goal
 abbrev pub invariant-turns : goal.invariant-turns
 invariant-turns g l = record {
   suits : g.S.PieceSource.suits l.reader (g.H.Io.seen l.io);
+  stays : (begun : g.row.L.Denot) → g.L.Line.stays begun l.fn.line → g.L.Line.stays begun l.line;
   told : (job : g.row.L-Job.Denot) → g.L.Line.told l.line job → g.L.Line.told l.fn.line job;
   joined : g.L.Line.is_joined l.line;
   size : g.S.PieceSource.size l.reader (g.H.Io.seen l.fn.io).sizes ≡ g.S.PieceSource.size l.fn.reader (g.H.Io.seen l.fn.io).sizes;

@@ -6,6 +6,7 @@ use Rattle.morsel_drain.proofs.pouring.pour.Goals as goal
 pub turns-init : goal.turns-init
 turns-init g c = record {
   made = c.requires.made;
+  stays = λ begun was. c.close.ensures.stays begun was;
   rows = c.requires.none_written;
   joined = c.close.ensures.joined c.requires.joined;
   few = omega arith;
@@ -36,6 +37,7 @@ turns-preserved g c =
     let writes = c.in-Ok.ensures.writes in
     let same = stays _ _ writes.writes (either_writing writes.writes writes.are) writes.does in record {
       made = let some = c.turns.invariant.made in let sinks = same.sinks in omega (arith, some, sinks);
+      stays = λ begun was. c.in-Ok.ensures.stays begun (c.in_default.ensures.stays begun (c.turns.invariant.stays begun was));
       rows = c.in-Ok.ensures.rows;
       joined = c.in-Ok.ensures.joined (c.in_default.ensures.joined);
       few = let few = c.turns.invariant.few in let one = c.in_default.ensures.counted in let more = c.after_sweep-reached.ensures.counted in omega (arith, few, one, more);

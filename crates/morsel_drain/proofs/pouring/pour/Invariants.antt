@@ -7,6 +7,7 @@ use Rattle.morsel_drain.proofs.pouring.pour.Given as goal
 abbrev pub invariant-turns : goal.invariant-turns
 invariant-turns g l = record {
   made : 0 < (g.H.Io.seen l.io).sinks;
+  stays : (begun : g.row.L.Denot) → g.L.Line.stays begun l.fn.line → g.L.Line.stays begun l.line;
   rows : l.writer.rows ≡ l.written.rows;
   joined : g.L.Line.is_joined l.line;
   few : l.steps ≤ l.fn.steps + 512 * l.reached.furthest + l.reached.idle;

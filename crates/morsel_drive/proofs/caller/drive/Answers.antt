@@ -10,6 +10,7 @@ pub turns-init : goal.turns-init
 turns-init g c = record {
   suits = c.requires.suits;
   made = c.requires.made;
+  stays = λ begun was. was;
   told = λ job is. is;
   rows = c.requires.none_written;
   joined = c.requires.joined;
@@ -86,6 +87,7 @@ turns-preserved g c =
       suits = g.met.S.PieceSource.suits_on _ _ _ same.sizes c.in-Ok.ensures.suits;
       made = let some = c.turns.invariant.made in let one = (stays _ _ c.in-Ok.ensures.reads.reads (either_reading c.in-Ok.ensures.reads.reads c.in-Ok.ensures.reads.are) c.in-Ok.ensures.reads.does).sinks in
           let two = same.sinks in omega (arith, some, one, two);
+      stays = λ begun was. c.in-Ok-write_on.ensures.stays begun (c.in_default.ensures.stays begun (c.feed_on-input.ensures.stays begun (c.turns.invariant.stays begun was)));
       told = λ job is. c.turns.invariant.told job (c.feed_on-input.ensures.told job (c.in_default.ensures.told job (c.in-Ok-write_on.ensures.told job is)));
       rows = c.in-Ok-write_on.ensures.rows;
       joined = c.in-Ok-write_on.ensures.joined (c.in_default.ensures.joined);

@@ -9,6 +9,7 @@ abbrev pub invariant-turns : goal.invariant-turns
 invariant-turns g l = record {
   suits : g.S.PieceSource.suits l.reader (g.H.Io.seen l.io);
   made : 0 < (g.H.Io.seen l.io).sinks;
+  stays : (begun : g.row.L.Denot) → g.L.Line.stays begun l.fn.line → g.L.Line.stays begun l.line;
   told : (job : g.row.L-Job.Denot) → g.L.Line.told l.line job → g.L.Line.told l.fn.line job;
   rows : l.writer.rows ≡ l.written.rows;
   joined : g.L.Line.is_joined l.line;

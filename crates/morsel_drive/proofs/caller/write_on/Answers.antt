@@ -5,13 +5,14 @@ use Rattle.morsel_drive.proofs.TurnLemmas.{wrote_nothing, wrote_more, wrote_all,
 use Rattle.morsel_drive.proofs.caller.write_on.Goals as goal
 
 pub parts-init : goal.parts-init
-parts-init g c = record { made = c.requires.made; told = λ job is. is; rows = c.requires.rows; joined = λ is. is; within = λ size given next. next; more = omega arith; small = λ few. few; stands = wrote_nothing _ _ _ _ }
+parts-init g c = record { made = c.requires.made; stays = λ begun was. was; told = λ job is. is; rows = c.requires.rows; joined = λ is. is; within = λ size given next. next; more = omega arith; small = λ few. few; stands = wrote_nothing _ _ _ _ }
 
 pub parts-preserved : goal.parts-preserved
 parts-preserved g c =
     let w = c.in_default.ensures.writes in
     let same = stays _ _ (Writing c.in-Part.part.bytes ∷ []) (inr tt, tt) w.3 in record {
       made = let some = c.parts.invariant.made in let sinks = same.sinks in omega (arith, some, sinks);
+      stays = λ begun was. c.in-Part.ensures.stays begun (c.parts.invariant.stays begun was);
       told = λ job is. c.parts.invariant.told job (c.in-Part.ensures.told job is);
       rows = c.in_default.ensures.rows;
       joined = λ is. c.in-Part.ensures.joined (c.parts.invariant.joined is);

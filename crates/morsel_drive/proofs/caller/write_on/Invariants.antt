@@ -7,6 +7,7 @@ use Rattle.morsel_drive.proofs.caller.write_on.Given as goal
 abbrev pub invariant-parts : goal.invariant-parts
 invariant-parts g l = record {
   made : 0 < (g.H.Io.seen l.io).sinks;
+  stays : (begun : g.row.L.Denot) → g.L.Line.stays begun l.fn.line → g.L.Line.stays begun l.line;
   told : (job : g.row.L-Job.Denot) → g.L.Line.told l.line job → g.L.Line.told l.fn.line job;
   rows : l.writer.rows ≡ l.written.rows;
   joined : g.L.Line.is_joined l.fn.line → g.L.Line.is_joined l.line;

@@ -22,6 +22,7 @@ module _ (g : Over) where
 pub tasks-init : goal.tasks-init
 tasks-init g c = record {
   owed = c.requires.owed;
+  stays = λ begun was. was;
   same_faults = λ fault may. may;
   same_cx = refl;
   same_home = refl;
@@ -36,6 +37,7 @@ tasks-preserved-in_default g c =
     record {
       owed = subst (λ (ts : Tasks g). g.S.Stage.owes c.tasks.stage (unjoined ts)) (sym (ap (λ (local : Seen g). local.tasks) c.take_out.ensures.taken))
           (subst (g.S.Stage.owes c.tasks.stage) (sym (unjoined_none (c.tasks.number + 1) c.tasks.local.tasks none)) c.tasks.invariant.owed);
+      stays = c.tasks.invariant.stays;
       same_faults = c.tasks.invariant.same_faults;
       same_cx = ap (λ (local : Seen g). local.cx) c.take_out.ensures.taken ∙ c.tasks.invariant.same_cx;
       same_home = ap (λ (local : Seen g). local.home) c.take_out.ensures.taken ∙ c.tasks.invariant.same_home;
@@ -56,6 +58,7 @@ returns-in-Err g c = record {
   owed = owed_others g.S.Task.Task.gives (g.S.Stage.owes c.tasks.stage) (g.S.Stage.owes c.give_back.new.self) c.tasks.local.tasks c.take_out.new.self.tasks (c.tasks.number + 1) c.in-Some.out c.in-Some.ensures.value c.in-Some.ensures.gives
       (ap (λ (local : Seen g). local.tasks) c.take_out.ensures.taken) c.tasks.invariant.owed c.give_back.ensures.owed;
   fault = inr (c.tasks.invariant.same_faults c.in-Err.fault c.in-Err.ensures.fault);
+  stays = λ begun was. c.give_back.ensures.stays begun (c.tasks.invariant.stays begun was);
   same_faults = λ fault may. c.tasks.invariant.same_faults fault (c.give_back.ensures.same_faults fault may);
   same_cx = ap (λ (local : Seen g). local.cx) c.take_out.ensures.taken ∙ c.tasks.invariant.same_cx;
   same_home = ap (λ (local : Seen g). local.home) c.take_out.ensures.taken ∙ c.tasks.invariant.same_home;
@@ -66,6 +69,7 @@ pub tasks-preserved : goal.tasks-preserved
 tasks-preserved g c = record {
   owed = owed_others g.S.Task.Task.gives (g.S.Stage.owes c.tasks.stage) (g.S.Stage.owes c.give_back.new.self) c.tasks.local.tasks c.take_out.new.self.tasks (c.tasks.number + 1) c.in-Some.out c.in-Some.ensures.value c.in-Some.ensures.gives
       (ap (λ (local : Seen g). local.tasks) c.take_out.ensures.taken) c.tasks.invariant.owed c.give_back.ensures.owed;
+  stays = λ begun was. c.give_back.ensures.stays begun (c.tasks.invariant.stays begun was);
   same_faults = λ fault may. c.tasks.invariant.same_faults fault (c.give_back.ensures.same_faults fault may);
   same_cx = ap (λ (local : Seen g). local.cx) c.take_out.ensures.taken ∙ c.tasks.invariant.same_cx;
   same_home = ap (λ (local : Seen g). local.home) c.take_out.ensures.taken ∙ c.tasks.invariant.same_home;

@@ -10,6 +10,7 @@ use Rattle.morsel_stage.proofs.join.join_ended.Given as goal
 abbrev pub invariant-tasks : goal.invariant-tasks
 invariant-tasks g l = record {
   owed : g.S.Stage.owes l.stage (unjoined l.local.tasks);
+  stays : (begun : g.row.S.Denot) → g.S.Stage.stays begun l.fn.stage → g.S.Stage.stays begun l.stage;
   same_faults : (fault : Fault) → g.S.Stage.fails l.stage fault → g.S.Stage.fails l.fn.stage fault;
   same_cx : l.local.cx ≡ l.fn.local.cx;
   same_home : l.local.home ≡ l.fn.local.home;

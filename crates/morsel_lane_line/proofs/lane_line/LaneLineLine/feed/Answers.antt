@@ -13,6 +13,6 @@ try_send-requires-clause-suits g c =
     let feeds : FeedsLine c.self.inside.local.home.lane_table (g.L.Sender.LaneSender.home c.in-Open.to) (g.L.Sender.LaneSender.job c.in-Open.to) last =
     subst (λ (feed : Feed g.row.L-Sender.Denot). IfOpenFeed feed (λ end. FeedsLine c.self.inside.local.home.lane_table (g.L.Sender.LaneSender.home end) (g.L.Sender.LaneSender.job end) last)) c.in-Open.is c.self.invariant.feed_is in (
       piece_suits (g.L.Sender.LaneSender.job c.in-Open.to) last c.args.piece feeds.is_first c.requires.fits
-          (subst (λ (seen : LineSeen). (job : Job) → TellsJob seen.lane job → IsJobPiece job c.args.piece) (sym c.self.view_is) c.requires.told),
+          (subst (λ (seen : LineSeen g.row.S.Denot). (job : Job) → TellsJob seen.lane job → IsJobPiece job c.args.piece) (sym c.self.view_is) c.requires.told),
       tt,
     )
