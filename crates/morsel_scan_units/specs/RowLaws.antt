@@ -1,7 +1,7 @@
 -- What lanes of rows carry, before and behind a join.
-use Rattle.std.specs.Prelude.{ℕ, suc, ◌+◌, ◌≤◌, Bool, IsTrue, true, false, Result, Ok, Err, List, [], ◌∷◌, ◌++◌, length, map, take, drop, slice_range}
-use Rattle.std.proofs.Common.{◌≡◌, refl, sym, ap, subst, ◌∙◌, arith, append-nil, length-map}
-use Rattle.std.proofs.lemmas.List.{take_all, take-map, drop-map}
+use Rattle.std.specs.Prelude.{ℕ, suc, ◌+◌, ◌-◌, ◌≤◌, true, Result, Ok, Err, List, [], ◌∷◌, ◌++◌, length, map, take, drop, slice_range}
+use Rattle.std.proofs.Common.{◌≡◌, refl, sym, ap, subst, ◌∙◌, arith, append-nil}
+use Rattle.std.proofs.lemmas.List.{length-map, take_all, take-map, drop-map}
 use Rattle.morsel_meaning.specs.declared.fault.Fault.{Fault}
 use Rattle.morsel_meaning.specs.declared.value.Field.{Field}
 use Rattle.morsel_meaning.specs.Values.{Row, Table}
@@ -23,10 +23,6 @@ use Rattle.morsel_line.specs.ScanSources.{ReadsJob}
 use Rattle.morsel_scan_units.specs.LaneJobs.{LaneFor, TellsJob, SuitsLane, SuitsRows, IsWholeIfScanned}
 use Rattle.morsel_scan_units.specs.LaneRows.{CarriesRows, PlacesGive, AreScanRows, FindsBetween, AloneBetween}
 
-is_so : (b : Bool) → IsTrue b → b ≡ true
-is_so true so = refl
-is_so false so = absurd so
-
 -- the rows of a scan come in whole stretches
 pub are_whole : (lane : LaneFor) (columns : List Field) (load : LoadSeen) → CarriesRows lane columns → SuitsLane lane load → AreWholeRows columns load
 are_whole lane columns (SeenMorsel frame seq source stretch) carries suits =
@@ -39,7 +35,7 @@ are_whole lane columns (SeenPart seq part) carries suits = absurd (let both : Pa
 scanned_gives : (job : Job) (rows : List Row) (stretch : Stretch) → job.stage ≡ ScannedRows → stretch.skip ≡ 0 → stretch.last ≡ true → SuitsRows (job_axis job) rows stretch
     → Gives (scan_axis job).gives stretch.from stretch.to rows
 scanned_gives job rows stretch scanned skip last suits =
-    let ends : stretch.skip + length rows ≡ length suits.all = suits.ends (subst IsTrue (sym last) tt) in
+    let ends : stretch.skip + length rows ≡ length suits.all = suits.ends last in
     let same : rows ≡ suits.all = suits.are ∙ ap (λ n. take (length rows) (drop n suits.all)) skip ∙ take_all (length rows) suits.all (omega (arith, ends, skip)) in
     subst (λ (rs : List Row). Gives (scan_axis job).gives stretch.from stretch.to rs) (sym same) (subst (λ (st : StageSeen). Gives (staged_gives st (scan_axis job).gives) stretch.from stretch.to suits.all) scanned suits.gives)
 
@@ -68,12 +64,12 @@ found_all side (Ok first ∷ gives) rows e =
 found_gives : (side : KeptSide) (gives : Places) (from to : ℕ) (rows : List Row) → Gives gives from to rows → Gives (map (given_found side) gives) from to (rows_found side rows)
 found_gives side gives from to rows given = record {
   order = given.order;
-  within = let w = given.within in let l = length-map (given_found side) gives in omega (arith, w, l);
+  within = let w = given.within in let l : length (map (given_found side) gives) ≡ length gives = length-map gives (given_found side) in omega (arith, w, l);
   all = ap collected (ap (take (to - from)) (drop-map (given_found side) from gives) ∙ take-map (given_found side) (to - from) (drop from gives)) ∙ found_all side (slice_range gives from to) rows given.all;
 }
 
 -- a job of the lane behind is one of the lane before, but for what its rows are
-job_before : Job → Job
+abbrev job_before : Job → Job
 job_before job = record job { stage = ScannedRows }
 
 told_before : (from : LaneFor) (stage : StageSeen) (job : Job) → from.stage ≡ ScannedRows → TellsJob (record from { stage = stage }) job → TellsJob from (job_before job)
@@ -98,7 +94,7 @@ found_suits side from to asked found seq source other stretch cut finds suits co
                 (rw (some.from, some.to) behind);
             within = some.within;
             are = some.are;
-            ends = λ last. some.ends (is_so cut.last last);
+            ends = λ last. some.ends last;
           });
     }
 
@@ -123,6 +119,6 @@ alone_suits side from to asked found seq source cut alone all columns some =
             gives = subst (λ (st : StageSeen). Gives (staged_gives st (scan_axis job).gives) cut.from cut.to (rows_alone side asked)) (sym (is.2 ∙ stage)) (rw (some.from, some.to) one);
             within = some.within;
             are = some.are;
-            ends = λ last. some.ends (is_so cut.last last);
+            ends = λ last. some.ends last;
           });
     }
