@@ -76,6 +76,9 @@ impl<
 
     ghost took = { λ node lists. Unit {0} };
 
+    // It keeps nothing of its own.
+    ghost stays = { λ begun node. Unit {0} };
+
     fn name(&self) -> &str {
         "handing"
     }
