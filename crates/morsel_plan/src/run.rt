@@ -185,6 +185,7 @@ where
     requires none_written { writer.rows ≡ 0 }
     requires reader { lane.now.reader ≡ reader }
     requires outside { lane.now.outside ≡ H.seen io.old }
+    requires scanned { lane.now.stage ≡ ScannedRows }
     requires some { IsSome parts.old }
     requires ends { IfSome parts.old (λ parts. AreLineEnds L.Sender.home L.Sender.job L.Receiver.home L.Receiver.job (L.Board.id parts.board).lane_table lane.now parts.feed parts.take) }
     requires firsts { IfSome parts.old (λ parts. All (A.Unit.can_poll (L.Board.id parts.board)) parts.nodes.firsts.items) }
@@ -244,6 +245,7 @@ where
     requires none_written { writer.rows ≡ 0 }
     requires reader { lane.now.reader ≡ reader }
     requires outside { lane.now.outside ≡ H.seen io.old }
+    requires scanned { lane.now.stage ≡ ScannedRows }
     requires some { IsSome parts.old }
     requires ends { IfSome parts.old (λ parts. AreLineEnds L.Sender.home L.Sender.job L.Receiver.home L.Receiver.job (L.Board.id parts.board).lane_table lane.now parts.feed parts.take) }
     requires firsts { IfSome parts.old (λ parts. All (A.Unit.can_poll (L.Board.id parts.board)) parts.nodes.firsts.items) }
