@@ -2,3 +2,6 @@ pub mod NameLemmas
 pub mod FieldLemmas
 pub mod SoundLemmas
 pub mod SetLemmas
+pub mod SideLemmas
+pub mod WidthLemmas
+pub mod PlanLemmas

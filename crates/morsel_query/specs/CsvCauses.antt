@@ -1,5 +1,5 @@
--- Why a scan of CSV files may have a fault, by the records of its files.
-use Rattle.std.specs.Prelude.{◌≡◌, ◌≢◌, ℕ, ◌+◌, ◌<◌, true, false, Option, Some, None, List, [], ◌∷◌, ◌++◌, length, take, slice_get}
+-- Why a scan of CSV files may have a fault, by the records of its files; and why a query over such files.
+use Rattle.std.specs.Prelude.{◌≡◌, ◌≢◌, ◌⊎◌, ℕ, ◌+◌, ◌<◌, true, false, Option, Some, None, List, [], ◌∷◌, ◌++◌, length, take, slice_get}
 use Rattle.std.specs.List.{flat_map, sum_by}
 use Rattle.morsel_meaning.specs.declared.fault.Fault.{Fault}
 use Rattle.morsel_meaning.specs.declared.fault.Fault.TheVariants as faults
@@ -17,6 +17,8 @@ use Rattle.morsel_scan.specs.Scans.{CsvScan}
 use Rattle.morsel_scan.specs.ScanColumns.{used_columns}
 use Rattle.morsel_scan.specs.Blocks.{compression_code}
 use Rattle.morsel_scan.specs.CsvAxis.{TextPart, text_parts, csv_keeps}
+use Rattle.morsel_query.specs.Queries.{FileScan, JoinPart, QueryParts}
+use Rattle.morsel_query.specs.Meanings.{csv_scan, left_files, right_files}
 
 -- the record of a part of a text, where it is one
 abbrev pub record_in : TextPart → List CsvRecord
@@ -101,3 +103,13 @@ CsvCause s first names files (faults.ComputeError kinds.IllTyped file at) = HasF
 CsvCause s first names files (faults.ComputeError kinds.TooManyRows file at) = (file ≡ 4294967295) × (at ≡ 0) × (4294967295 < rows_in_all s files)
 CsvCause s first names files (faults.ComputeError kinds.IndexTooLarge file at) = (file ≡ 4294967295) × (at ≡ 0) × HasLargeIndex s first names files
 CsvCause s first names files fault = ⊥
+
+-- when a query with this left side and this join may have a fault of its files: of those of one side
+abbrev pub CauseBy : FileScan → Option JoinPart → List (List ℕ) → Fault → Type 0
+CauseBy left None files fault = CsvCause (csv_scan left) 0 left.sources files fault
+CauseBy left (Some join) files fault = CsvCause (csv_scan left) 0 left.sources (left_files left files) fault
+    ⊎ CsvCause (csv_scan join.right) (length left.sources) join.right.sources (right_files left files) fault
+
+-- when a query over CSV files with these bytes may have a fault of its files
+abbrev pub QueryCause : QueryParts → List (List ℕ) → Fault → Type 0
+QueryCause query files fault = CauseBy query.left query.join files fault

@@ -1,16 +1,19 @@
 -- What a query means: the rows that its files allow, and the text of rows in its sink.
-use Rattle.std.specs.Prelude.{◌≡◌, ℕ, ◌≤◌, None, Result, Ok, List}
+use Rattle.std.specs.Prelude.{◌≡◌, ℕ, ◌≤◌, Option, Some, None, Result, Ok, List, length, take, drop}
 use Rattle.std.specs.List.{All}
+use Rattle.morsel_meaning.specs.declared.value.Field.{Field}
 use Rattle.morsel_meaning.specs.declared.fault.Fault.{Fault}
-use Rattle.morsel_meaning.specs.Values.{Row, kinds_of, names_of}
+use Rattle.morsel_meaning.specs.Values.{Row, Table, kinds_of, names_of}
 use Rattle.morsel_grammar.specs.Dialect.{Dialect}
 use Rattle.morsel_grammar.specs.Rows.{IsOfGrammar}
+use Rattle.morsel_join.specs.declared.rules.JoinRules.{JoinRules}
+use Rattle.morsel_join.specs.Rows.{IsJoin}
 use Rattle.morsel_scan.specs.Scans.{CsvScan}
 use Rattle.morsel_scan.specs.ScanRows.{total_rows}
 use Rattle.morsel_scan.specs.CsvScans.{csv_sources, csv_scan_rows}
 use Rattle.morsel_sink.specs.Sinks.{text_by_format}
-use Rattle.morsel_query.specs.Queries.{FileFormat, CsvFiles, FileScan, QueryParts, scan_asked}
-use Rattle.morsel_query.specs.Plans.{planned, output_of, query_fault}
+use Rattle.morsel_query.specs.Queries.{FileFormat, CsvFiles, FileScan, JoinPart, QueryParts, scan_asked}
+use Rattle.morsel_query.specs.Plans.{planned, output_of, fields_of_scan, AreRulesOf, query_fault}
 
 -- how the files of a format are written
 abbrev pub dialect_of : FileFormat → Dialect
@@ -40,19 +43,55 @@ height_over scan first files = height_by_format scan.format scan first files
 abbrev pub AreOfFormat : FileFormat → List (List ℕ) → Type 0
 AreOfFormat (CsvFiles fields options) files = All (IsOfGrammar options (kinds_of fields)) files
 
--- the rows that a query may give, where its sources have these bytes: those of its scan
+-- the files of the left side, of those of a query with a join: the first
+abbrev pub left_files : FileScan → List (List ℕ) → List (List ℕ)
+left_files left files = take (length left.sources) files
+
+-- the files of the right side: those that follow
+abbrev pub right_files : FileScan → List (List ℕ) → List (List ℕ)
+right_files left files = drop (length left.sources) files
+
+-- a table of columns and rows
+abbrev pub table_of : List Field → List Row → Table
+table_of fields rows = record { schema = fields; rows = rows }
+
+-- rows that a join may give of these rows of its sides
+pub record AreJoinRows (left : FileScan) (join : JoinPart) (lefts rights rows : List Row) : Type 0 where
+  pub rules : JoinRules
+  pub are_rules : AreRulesOf (fields_of_scan left) (fields_of_scan join.right) join rules
+  pub is_join : IsJoin rules (table_of (fields_of_scan left) lefts) (table_of (fields_of_scan join.right) rights) (table_of rules.output rows)
+
+-- rows that a join of scans may give, where their sources have these bytes, those of the left one first
+pub record JoinMeans (left : FileScan) (join : JoinPart) (files : List (List ℕ)) (rows : List Row) : Type 0 where
+  pub lefts : List Row
+  pub rights : List Row
+  pub left_rows : rows_over left 0 (left_files left files) ≡ Ok lefts
+  pub right_rows : rows_over join.right (length left.sources) (right_files left files) ≡ Ok rights
+  pub joined : AreJoinRows left join lefts rights rows
+
+-- the rows that a query with this left side and this join may give
+abbrev pub MeansBy : FileScan → Option JoinPart → List (List ℕ) → List Row → Type 0
+MeansBy left None files rows = rows_over left 0 files ≡ Ok rows
+MeansBy left (Some join) files rows = JoinMeans left join files rows
+
+-- the rows that a query may give, where its sources have these bytes: those of its scan, or of its join
 abbrev pub Meaning : QueryParts → List (List ℕ) → List Row → Type 0
-Meaning query files rows = rows_over query.left 0 files ≡ Ok rows
+Meaning query files rows = MeansBy query.left query.join files rows
 
 -- the text of rows of a query in its sink
 abbrev pub text_of : QueryParts → List Row → List ℕ
 text_of query rows = text_by_format query.sink.format (names_of (output_of (planned query))) rows
 
--- a query whose names meet its columns, over files of which it has a meaning: each is one of its format, there are not too many rows, no bad cell is used,
+-- it holds of each scan of a query with this left side and this join, of the number of its first source and the bytes of its sources
+abbrev pub EachSide : (FileScan → ℕ → List (List ℕ) → Type 0) → FileScan → Option JoinPart → List (List ℕ) → Type 0
+EachSide P left None files = P left 0 files
+EachSide P left (Some join) files = P left 0 (left_files left files) × P join.right (length left.sources) (right_files left files)
+
+-- a query whose names meet its columns, over files of which it has a meaning: each is one of its format, no scan has too many rows, no bad cell is used,
 -- and no number of a row is too large
 pub record IsValid (query : QueryParts) (files : List (List ℕ)) : Type 0 where
   pub planned : query_fault query ≡ None
-  pub of_format : AreOfFormat query.left.format files
-  pub few : height_over query.left 0 files ≤ 4294967295
+  pub of_format : EachSide (λ scan first bytes. AreOfFormat scan.format bytes) query.left query.join files
+  pub few : EachSide (λ scan first bytes. height_over scan first bytes ≤ 4294967295) query.left query.join files
   pub rows : List Row
   pub means : Meaning query files rows

@@ -1,28 +1,87 @@
 -- The plan of a query: where the names of the query meet the columns of its files, once; and why they do not.
-use Rattle.std.specs.Prelude.{ℕ, ℤ, int_lt, pos, if◌then◌else◌, Option, Some, None, List}
+use Rattle.std.specs.Prelude.{◌≡◌, ℕ, ℤ, int_lt, pos, if◌then◌else◌, Option, Some, None, option_map, List}
 use Rattle.morsel_meaning.specs.declared.value.Field.{Field}
 use Rattle.morsel_meaning.specs.declared.fault.Fault.{Fault}
 use Rattle.morsel_meaning.specs.declared.fault.Fault.TheVariants.{ComputeError}
 use Rattle.morsel_meaning.specs.declared.fault.ComputeKind.TheVariants.{NegativeSlice}
 use Rattle.morsel_frame.specs.Refusals.{first_fault}
+use Rattle.morsel_join.specs.declared.rules.JoinRules.{JoinRules}
+use Rattle.morsel_join.specs.Payloads.{join_fields, join_flaw, key_places}
+use Rattle.morsel_join.specs.Rows.{FitRules, join_columns}
 use Rattle.morsel_scan.specs.Scans.{Scan}
 use Rattle.morsel_scan.specs.ScanColumns.{output_fields}
 use Rattle.morsel_scan.specs.ScanFlaws.{scan_flaw}
 use Rattle.morsel_query.specs.declared.scan_plan.ScanPlan.{ScanPlan}
+use Rattle.morsel_query.specs.declared.plans.JoinPlan.{JoinPlan}
 use Rattle.morsel_query.specs.declared.plans.QueryPlan.{QueryPlan}
-use Rattle.morsel_query.specs.Queries.{FileFormat, CsvFiles, QueryParts, scan_asked}
+use Rattle.morsel_query.specs.Queries.{FileFormat, CsvFiles, FileScan, JoinPart, QueryParts, scan_asked}
 
 -- the plan of a scan
 abbrev pub planned_scan : Scan → ScanPlan
 planned_scan scan = record { output = output_fields scan }
 
+-- the columns of the rows of a scan of files
+abbrev pub fields_of_scan : FileScan → List Field
+fields_of_scan files = output_fields (scan_asked files)
+
+-- the columns of the rows of a join with a left side of these columns
+abbrev pub fields_of_join : List Field → JoinPart → List Field
+fields_of_join left join = join_fields join.args left (fields_of_scan join.right) join.left_keys join.right_keys
+
+-- what a plan has of a join: the plan of the right side, and the columns of the rows
+pub record PlannedJoin : Type 0 where
+  pub right : ScanPlan
+  pub output : List Field
+
+-- the plan of a query, as far as its columns go
+pub record PlannedQuery : Type 0 where
+  pub left : ScanPlan
+  pub join : Option PlannedJoin
+
+-- the plan of a join with a left side of these columns
+abbrev pub planned_join : List Field → JoinPart → PlannedJoin
+planned_join left join = record { right = planned_scan (scan_asked join.right); output = fields_of_join left join }
+
 -- the plan of a query: later parts stand on the columns that those before give
-abbrev pub planned : QueryParts → QueryPlan
-planned query = record { left = planned_scan (scan_asked query.left) }
+abbrev pub planned : QueryParts → PlannedQuery
+planned query = record { left = planned_scan (scan_asked query.left); join = option_map (planned_join (fields_of_scan query.left)) query.join }
+
+-- the columns of the rows of a query with this plan of its left side and of its join
+abbrev pub output_by : ScanPlan → Option PlannedJoin → List Field
+output_by left None = left.output
+output_by left (Some join) = join.output
 
 -- the columns of a query's rows
-abbrev pub output_of : QueryPlan → List Field
-output_of plan = plan.left.output
+abbrev pub output_of : PlannedQuery → List Field
+output_of plan = output_by plan.left plan.join
+
+-- the rules are those of a join of sides with these columns
+pub record AreRulesOf (left right : List Field) (join : JoinPart) (rules : JoinRules) : Type 0 where
+  pub how : rules.how ≡ join.args.how
+  pub order : rules.maintain_order ≡ join.args.maintain_order
+  pub nulls : rules.join_nulls ≡ join.args.join_nulls
+  pub left_keys : rules.left_keys.items ≡ key_places left join.left_keys
+  pub right_keys : rules.right_keys.items ≡ key_places right join.right_keys
+  pub columns : rules.columns.items ≡ join_columns join.args left right join.left_keys join.right_keys
+  pub output : rules.output ≡ join_fields join.args left right join.left_keys join.right_keys
+
+-- a plan of a join with a left side of these columns
+pub record IsJoinPlan (left : List Field) (join : JoinPart) (plan : JoinPlan) : Type 0 where
+  pub right : plan.right ≡ planned_scan (scan_asked join.right)
+  pub rules : AreRulesOf left (fields_of_scan join.right) join plan.rules
+  pub fit : FitRules left (fields_of_scan join.right) plan.rules
+
+-- a plan of a join where there is one, and none where there is none
+abbrev pub IsPlanOfJoin : List Field → Option JoinPart → Option JoinPlan → Type 0
+IsPlanOfJoin left None None = Unit {0}
+IsPlanOfJoin left None (Some plan) = ⊥
+IsPlanOfJoin left (Some join) None = ⊥
+IsPlanOfJoin left (Some join) (Some plan) = IsJoinPlan left join plan
+
+-- a plan of a query
+pub record IsPlan (query : QueryParts) (plan : QueryPlan) : Type 0 where
+  pub left : plan.left ≡ (planned query).left
+  pub join : IsPlanOfJoin (fields_of_scan query.left) query.join plan.join
 
 -- the fault of a slice that counts from the end of rows whose number is not known before they are read
 abbrev pub slice_fault : Option (ℤ × ℕ) → Option Fault
@@ -33,6 +92,21 @@ slice_fault (Some slice) = if int_lt slice.0 (pos 0) then Some (ComputeError Neg
 abbrev pub side_fault : FileFormat → Scan → Option Fault
 side_fault (CsvFiles fields options) scan = first_fault (scan_flaw scan) (slice_fault scan.asked.slice)
 
--- why a query has no plan: the first fault that is due
+-- why a join with a left side of these columns has no plan: its right side has none, or its names do not meet the columns of both
+abbrev pub join_fault : List Field → JoinPart → Option Fault
+join_fault left join =
+    first_fault (side_fault join.right.format (scan_asked join.right)) (join_flaw join.args left (fields_of_scan join.right) join.left_keys join.right_keys)
+
+-- the same, where there is a join
+abbrev pub join_fault_if : List Field → Option JoinPart → Option Fault
+join_fault_if left None = None
+join_fault_if left (Some join) = join_fault left join
+
+-- why a query with this left side and this join has no plan
+abbrev pub fault_by : FileScan → Option JoinPart → Option Fault
+fault_by left None = side_fault left.format (scan_asked left)
+fault_by left (Some join) = first_fault (side_fault left.format (scan_asked left)) (join_fault (fields_of_scan left) join)
+
+-- why a query has no plan: the first fault that is due, of the left side, the right side and then the join
 abbrev pub query_fault : QueryParts → Option Fault
-query_fault query = side_fault query.left.format (scan_asked query.left)
+query_fault query = fault_by query.left query.join

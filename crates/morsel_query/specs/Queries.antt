@@ -1,15 +1,18 @@
--- What a query asks: scans of files, and a sink.
-use Rattle.std.specs.Prelude.{ℕ, Option, List, map}
+-- What a query asks: scans of files, a join of two, and a sink.
+use Rattle.std.specs.Prelude.{ℕ, Option, option_map, List, map}
 use Rattle.morsel_meaning.specs.declared.value.Field.{Field}
 use Rattle.morsel_grammar.specs.Dialect.{Dialect}
 use Rattle.morsel_expr.specs.declared.node.PredNode.{PredNode}
 use Rattle.morsel_grammar.specs.Reading.{chosen}
+use Rattle.morsel_join.specs.declared.payload.JoinArgs.{JoinArgs}
 use Rattle.morsel_scan.specs.Scans.{FileOptions, Scan}
 use Rattle.morsel_scan.specs.ScanColumns.{is_kept}
 use Rattle.morsel_scan.specs.declared.spec.ScanFormat.{ScanFormat}
 use Rattle.morsel_scan.specs.declared.spec.ScanFormat.TheVariants as formats
 use Rattle.morsel_scan.specs.declared.spec.ScanSpec.{ScanSpec}
 use Rattle.morsel_sink.specs.declared.spec.SinkSpec.{SinkSpec}
+use Rattle.morsel_query.specs.declared.join.JoinHow.{JoinHow}
+use Rattle.morsel_query.specs.declared.join.JoinSpec.{JoinSpec}
 
 -- the format of files, with what has to be told to read them
 pub data FileFormat : Type 0 where
@@ -22,9 +25,18 @@ pub record FileScan : Type 0 where
   pub asked : FileOptions  -- what is asked of their rows
   pub filter : Option PredNode  -- the predicate of the rows that are kept, over the row index, the columns and the path
 
+-- a join: the right side, and what is asked of the rows of both
+pub record JoinPart : Type 0 where
+  pub right : FileScan
+  pub left_keys : List (List ℕ)  -- the names of the left columns whose values are to be equal to those of the right keys, one by one
+  pub right_keys : List (List ℕ)
+  pub args : JoinArgs
+  pub how : JoinHow  -- how its rows are found; which they are does not depend on it
+
 -- what a query is made of
 pub record QueryParts : Type 0 where
   pub left : FileScan
+  pub join : Option JoinPart
   pub sink : SinkSpec
 
 -- the format of a scan, as contracts see it
@@ -40,9 +52,19 @@ file_scan spec = record {
   filter = spec.filter;
 }
 
+-- a join, as contracts see it
+abbrev pub join_part : JoinSpec → JoinPart
+join_part spec = record {
+  right = file_scan spec.right;
+  left_keys = spec.left_keys.items;
+  right_keys = spec.right_keys.items;
+  args = spec.args;
+  how = spec.how;
+}
+
 -- a query of these parts, as contracts see it
-abbrev pub query_parts : ScanSpec → SinkSpec → QueryParts
-query_parts left sink = record { left = file_scan left; sink = sink }
+abbrev pub query_parts : ScanSpec → Option JoinSpec → SinkSpec → QueryParts
+query_parts left join sink = record { left = file_scan left; join = option_map join_part join; sink = sink }
 
 -- the columns of files whose format has them
 abbrev pub fields_of_format : FileFormat → List Field

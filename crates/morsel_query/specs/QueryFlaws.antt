@@ -1,16 +1,21 @@
 -- Why a query cannot be asked, whatever its files are.
-use Rattle.std.specs.Prelude.{◌≡◌, ◌⊎◌, ℕ, ◌<◌, ◌≤◌, true, false, Option, Some, None, List, [], ◌∷◌, ◌++◌, length}
+use Rattle.std.specs.Prelude.{◌≡◌, ◌≢◌, ◌⊎◌, ℕ, ◌<◌, ◌≤◌, Bool, true, false, ◌||◌, Option, Some, None, option_map, List, [], ◌∷◌, ◌++◌, length}
 use Rattle.morsel_meaning.specs.declared.fault.Fault.{Fault}
 use Rattle.morsel_meaning.specs.declared.fault.Fault.TheVariants.{InvalidQuery}
 use Rattle.morsel_meaning.specs.declared.fault.Why.{Why}
-use Rattle.morsel_meaning.specs.declared.fault.Why.TheVariants.{NoSource, ManySources, NoColumn, SinkIsSource}
+use Rattle.morsel_meaning.specs.declared.fault.Why.TheVariants.{NoSource, ManySources, NoColumn, SinkIsSource, NoKeys, RepeatedKey, UnequalKeys}
 use Rattle.morsel_frame.specs.Names.{stands_in}
-use Rattle.morsel_query.specs.Queries.{FileFormat, CsvFiles, FileScan, QueryParts}
+use Rattle.morsel_query.specs.Queries.{FileFormat, CsvFiles, FileScan, JoinPart, QueryParts}
 
 -- one side of a query, as far as its flaws go
 pub record Side : Type 0 where
   pub sources : List (List ℕ)  -- the names of its files
   pub columns : Option ℕ  -- how many columns the query gives them, where their format asks that
+
+-- the keys of a join, by their names: the first left one and the first right one are a pair, and so on
+pub record JoinKeys : Type 0 where
+  pub left : List (List ℕ)
+  pub right : List (List ℕ)
 
 -- how many columns a query gives its files, where their format asks that
 abbrev pub columns_given : FileFormat → Option ℕ
@@ -20,9 +25,22 @@ columns_given (CsvFiles fields options) = Some (length fields)
 abbrev pub side_of : FileScan → Side
 side_of scan = record { sources = scan.sources; columns = columns_given scan.format }
 
+-- the right side of a join, where there is one
+abbrev pub right_sides : Option JoinPart → List Side
+right_sides None = []
+right_sides (Some join) = side_of join.right ∷ []
+
 -- the sides of a query, the left one first
 abbrev pub sides_of : QueryParts → List Side
-sides_of query = side_of query.left ∷ []
+sides_of query = side_of query.left ∷ right_sides query.join
+
+-- the keys of a join
+abbrev pub keys_of : JoinPart → JoinKeys
+keys_of join = record { left = join.left_keys; right = join.right_keys }
+
+-- the keys of a query's join, where it has one
+abbrev pub keys_of_query : QueryParts → Option JoinKeys
+keys_of_query query = option_map keys_of query.join
 
 -- the sources of all sides, in order
 abbrev pub sources_of_sides : List Side → List (List ℕ)
@@ -48,13 +66,30 @@ abbrev pub AreColumns : Option ℕ → Type 0
 AreColumns None = Unit {0}
 AreColumns (Some columns) = (0 < columns) × (columns ≤ 65535)
 
--- the flaw that is named, of a query with these sides and a sink of this name
-abbrev pub IsFlaw : List Side → List ℕ → Why → Type 0
-IsFlaw sides sink NoSource = HasSide (λ side. length side.sources ≡ 0) sides
-IsFlaw sides sink ManySources = HasSide (λ side. 65536 < length side.sources) sides
-IsFlaw sides sink NoColumn = HasSide (λ side. AreNoColumns side.columns) sides
-IsFlaw sides sink SinkIsSource = stands_in sink (sources_of_sides sides) ≡ true
-IsFlaw sides sink why = ⊥
+-- whether one of these names stands among those that follow it
+abbrev pub has_repeats : List (List ℕ) → Bool
+has_repeats [] = false
+has_repeats (name ∷ names) = stands_in name names || has_repeats names
+
+-- it holds of the keys of a join, where there is one
+abbrev pub HasKeys : (JoinKeys → Type 0) → Option JoinKeys → Type 0
+HasKeys P None = ⊥
+HasKeys P (Some keys) = P keys
+
+-- neither side has a key
+abbrev pub AreNoKeys : JoinKeys → Type 0
+AreNoKeys keys = (length keys.left ≡ 0) × (length keys.right ≡ 0)
+
+-- the flaw that is named, of a query with these sides, these keys of its join and a sink of this name
+abbrev pub IsFlaw : List Side → Option JoinKeys → List ℕ → Why → Type 0
+IsFlaw sides keys sink NoSource = HasSide (λ side. length side.sources ≡ 0) sides
+IsFlaw sides keys sink ManySources = HasSide (λ side. 65536 < length side.sources) sides
+IsFlaw sides keys sink NoColumn = HasSide (λ side. AreNoColumns side.columns) sides
+IsFlaw sides keys sink NoKeys = HasKeys AreNoKeys keys
+IsFlaw sides keys sink RepeatedKey = HasKeys (λ names. (has_repeats names.left || has_repeats names.right) ≡ true) keys
+IsFlaw sides keys sink UnequalKeys = HasKeys (λ names. length names.left ≢ length names.right) keys
+IsFlaw sides keys sink SinkIsSource = stands_in sink (sources_of_sides sides) ≡ true
+IsFlaw sides keys sink why = ⊥
 
 -- a side without flaws
 pub record IsSoundSide (side : Side) : Type 0 where
@@ -67,20 +102,33 @@ abbrev pub AreSoundSides : List Side → Type 0
 AreSoundSides [] = Unit {0}
 AreSoundSides (side ∷ sides) = IsSoundSide side × AreSoundSides sides
 
--- sides and a sink without flaws
-pub record AreSound (sides : List Side) (sink : List ℕ) : Type 0 where
+-- keys of a join without flaws
+pub record AreJoinKeys (keys : JoinKeys) : Type 0 where
+  pub equal : length keys.left ≡ length keys.right
+  pub some : 0 < length keys.left
+  pub left_once : has_repeats keys.left ≡ false
+  pub right_once : has_repeats keys.right ≡ false
+
+-- the keys of a join without flaws, where there is one
+abbrev pub AreSoundKeys : Option JoinKeys → Type 0
+AreSoundKeys None = Unit {0}
+AreSoundKeys (Some keys) = AreJoinKeys keys
+
+-- sides, keys and a sink without flaws
+pub record AreSound (sides : List Side) (keys : Option JoinKeys) (sink : List ℕ) : Type 0 where
   pub each : AreSoundSides sides
+  pub keys_fit : AreSoundKeys keys
   pub sink_apart : stands_in sink (sources_of_sides sides) ≡ false
 
 -- a query without flaws
 abbrev pub IsSound : QueryParts → Type 0
-IsSound query = AreSound (sides_of query) query.sink.name
+IsSound query = AreSound (sides_of query) (keys_of_query query) query.sink.name
 
 -- the fault names a flaw of the query
 abbrev pub IsFlawFault : QueryParts → Fault → Type 0
-IsFlawFault query (InvalidQuery why) = IsFlaw (sides_of query) query.sink.name why
+IsFlawFault query (InvalidQuery why) = IsFlaw (sides_of query) (keys_of_query query) query.sink.name why
 IsFlawFault query fault = ⊥
 
 -- no query has a flaw and none
 abbrev pub SoundHasNoFlaw : Type 0
-SoundHasNoFlaw = (sides : List Side) (sink : List ℕ) (why : Why) → AreSound sides sink → IsFlaw sides sink why → ⊥
+SoundHasNoFlaw = (sides : List Side) (keys : Option JoinKeys) (sink : List ℕ) (why : Why) → AreSound sides keys sink → IsFlaw sides keys sink why → ⊥

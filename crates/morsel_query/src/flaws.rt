@@ -1,7 +1,7 @@
 //! The flaws of a query in which no file has a part.
-ghost use Rattle.std.specs.Prelude.{◌≡◌, ◌↔◌, ◌∷◌, [], IfSome, IsNone, IsTrue, IsFalse};
+ghost use Rattle.std.specs.Prelude.{◌≡◌, ◌↔◌, ◌∷◌, [], Some, None, IfSome, IsNone, IsTrue, IsFalse};
 ghost use Rattle.morsel_frame.specs.Names.{stands_in};
-ghost use Rattle.morsel_query.specs.QueryFlaws.{AreColumns, AreNoColumns, AreSound, IsFlaw, SoundHasNoFlaw};
+ghost use Rattle.morsel_query.specs.QueryFlaws.{AreColumns, AreJoinKeys, AreNoColumns, AreSound, IsFlaw, SoundHasNoFlaw, has_repeats};
 
 use morsel_meaning::{Name, Why};
 
@@ -16,8 +16,8 @@ const MOST_COLUMNS: usize = 65_535;
 ///
 /// There are 1 to 65,536 sources and 1 to 65,535 columns, and the sink's name is not the name of a source.
 pub fn flaw_of_side(sources: &[Name], columns: Option<usize>, sink: &str) -> Option<Why>
-    ensures some { IfSome result (IsFlaw (record { sources = sources.now; columns = columns } ∷ []) sink.now) }
-    ensures none { IsNone result → AreSound (record { sources = sources.now; columns = columns } ∷ []) sink.now }
+    ensures some { IfSome result (IsFlaw (record { sources = sources.now; columns = columns } ∷ []) None sink.now) }
+    ensures none { IsNone result → AreSound (record { sources = sources.now; columns = columns } ∷ []) None sink.now }
 {
     if sources.is_empty() {
         return Some(Why::NoSource);
@@ -32,6 +32,37 @@ pub fn flaw_of_side(sources: &[Name], columns: Option<usize>, sink: &str) -> Opt
         return Some(Why::SinkIsSource);
     }
     None
+}
+
+/// A flaw of the keys of a join; none where they have no flaw.
+///
+/// There are as many right keys as left ones, at least one, and no side names a key twice.
+pub fn flaw_of_keys(left: &[Name], right: &[Name]) -> Option<Why>
+    ensures some { IfSome result (IsFlaw [] (Some (record { left = left.now; right = right.now })) []) }
+    ensures none { IsNone result → AreJoinKeys (record { left = left.now; right = right.now }) }
+{
+    if left.len() != right.len() {
+        return Some(Why::UnequalKeys);
+    }
+    if left.is_empty() {
+        return Some(Why::NoKeys);
+    }
+    if has_repeats(left) || has_repeats(right) {
+        return Some(Why::RepeatedKey);
+    }
+    None
+}
+
+/// Whether one of these names stands among those that follow it.
+fn has_repeats(names: &[Name]) -> bool
+    ensures { result ≡ has_repeats names.now }
+{
+    for at in 0..names.len() {
+        if is_among(names[at].as_str(), &names[at + 1..]) {
+            return true;
+        }
+    }
+    false
 }
 
 /// Whether these are some columns, and not too many, where they are given.

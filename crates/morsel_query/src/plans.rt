@@ -1,11 +1,14 @@
 //! The plan of a query: where its names meet the columns of its files, once.
-ghost use Rattle.std.specs.Prelude.{◌≡◌, IfOk};
+ghost use Rattle.std.specs.Prelude.{◌≡◌, ◌<◌, ◌≤◌, ◌^◌, length, option_map, IfOk};
 ghost use Rattle.morsel_frame.specs.Refusals.{Refuses};
-ghost use Rattle.morsel_query.specs.Queries.{file_format, file_scan, scan_asked};
-ghost use Rattle.morsel_query.specs.Plans.{planned, planned_scan, side_fault, slice_fault, query_fault};
+ghost use Rattle.morsel_query.specs.Queries.{fields_of_format, file_format, file_scan, join_part, scan_asked};
+ghost use Rattle.morsel_query.specs.QueryFlaws.{AreJoinKeys, AreSoundKeys, AreSoundSides, keys_of, right_sides};
+ghost use Rattle.morsel_query.specs.Plans.{planned_scan, side_fault, slice_fault, join_fault, join_fault_if, query_fault, IsJoinPlan, IsPlanOfJoin, IsPlan};
 
-use crate::Query;
 use crate::scan_plan::{ScanPlan, plan_scan};
+use crate::{JoinSpec, Query};
+use morsel_frame::Schema;
+use morsel_join::JoinRules;
 use morsel_meaning::{ComputeKind, Fault, QUERY_FILE};
 use morsel_scan::{ScanFormat, ScanSpec};
 use std::alloc::Global;
@@ -13,20 +16,33 @@ use std::alloc::Global;
 /// The plan of a query. Each part stands on the columns that the parts before it give.
 #[derive(Debug, Drop)]
 pub struct QueryPlan {
-    /// The plan of the scan.
+    /// The plan of the scan, or of the left side of the join.
     pub left: ScanPlan,
+    /// The plan of the join, where there is one.
+    pub join: Option<JoinPlan>,
+}
+
+/// The plan of a join.
+#[derive(Debug, Drop)]
+pub struct JoinPlan {
+    /// The plan of the right side.
+    pub right: ScanPlan,
+    /// The rules of the join, by the places of the columns of both sides.
+    pub rules: JoinRules,
 }
 
 /// The plan of a query whose names meet the columns of its own schemas, with types that fit; else the first fault that is due.
 ///
-/// For a scan of CSV files these are the faults of `plan_scan`, and then `NegativeSlice` where its slice counts from the end.
+/// For a scan of CSV files these are the faults of `plan_scan`, and then `NegativeSlice` where its slice counts from the end. Those
+/// of the left side come before those of the right side, and these before those of the join, which are the faults of
+/// `JoinRules::new`.
 pub fn plan(alloc: Global, query: &Query) -> Result<QueryPlan, Fault>
-    ensures ok { IfOk result (λ plan. plan ≡ planned query.now) }
+    ensures ok { IfOk result (IsPlan query.now) }
     ensures refused { Refuses (query_fault query.now) result }
 {
-    Ok(QueryPlan {
-        left: plan_side(alloc, query.left())?,
-    })
+    let left = plan_side(alloc, query.left())?;
+    let join = plan_join_if(alloc, &left.output, query.join())?;
+    Ok(QueryPlan { left, join })
 }
 
 /// Refuses a query that has no plan, with the fault that `plan` answers.
@@ -46,6 +62,45 @@ fn plan_side(alloc: Global, scan: &ScanSpec) -> Result<ScanPlan, Fault>
     let plan = plan_scan(alloc, schema, &scan.file_options, &scan.filter)?;
     check_slice(&scan.file_options.slice)?;
     Ok(plan)
+}
+
+/// The plan of a join with a left side of these columns, where there is one.
+fn plan_join_if(
+    alloc: Global,
+    left: &Schema,
+    join: &Option<JoinSpec>,
+) -> Result<Option<JoinPlan>, Fault>
+    requires left_short { length left.now < 2 ^ 32 }
+    requires sides { AreSoundSides (right_sides (option_map join_part join.now)) }
+    requires keys { AreSoundKeys (option_map keys_of (option_map join_part join.now)) }
+    ensures ok { IfOk result (IsPlanOfJoin left.now (option_map join_part join.now)) }
+    ensures refused { Refuses (join_fault_if left.now (option_map join_part join.now)) result }
+{
+    match join {
+        Some(join) => Ok(Some(plan_join(alloc, left, join)?)),
+        None => Ok(None),
+    }
+}
+
+/// The plan of a join with a left side of these columns.
+#[tactic(auto, using(crate::proofs::WidthLemmas::output_short))]
+fn plan_join(alloc: Global, left: &Schema, join: &JoinSpec) -> Result<JoinPlan, Fault>
+    requires left_short { length left.now < 2 ^ 32 }
+    requires right_short { length (fields_of_format (file_format join.now.right.format)) ≤ 65535 }
+    requires keys { AreJoinKeys (keys_of (join_part join.now)) }
+    ensures ok { IfOk result (IsJoinPlan left.now (join_part join.now)) }
+    ensures refused { Refuses (join_fault left.now (join_part join.now)) result }
+{
+    let right = plan_side(alloc, &join.right)?;
+    let rules = JoinRules::new(
+        alloc,
+        left,
+        &right.output,
+        &join.left_keys,
+        &join.right_keys,
+        &join.args,
+    )?;
+    Ok(JoinPlan { right, rules })
 }
 
 /// Refuses a slice that counts from the end.

@@ -1,20 +1,22 @@
 //! Queries.
-ghost use Rattle.std.specs.Prelude.{◌≡◌, IfOk, IfErr, OnOk, IfSome, IsNone};
-ghost use Rattle.morsel_query.specs.Queries.{file_scan, query_parts};
-ghost use Rattle.morsel_query.specs.QueryFlaws.{sides_of, IsFlaw, IsSound, IsFlawFault};
+ghost use Rattle.std.specs.Prelude.{◌≡◌, ◌∷◌, [], Some, IfOk, IfErr, OnOk, IfSome, IsNone, option_map};
+ghost use Rattle.morsel_query.specs.Queries.{file_scan, join_part, query_parts};
+ghost use Rattle.morsel_query.specs.QueryFlaws.{side_of, sides_of, keys_of, keys_of_query, AreSound, IsFlaw, IsSound, IsFlawFault};
 
-use crate::flaw_of_side;
+use crate::{JoinSpec, flaw_of_keys, flaw_of_side};
 use morsel_meaning::{Fault, Why};
 use morsel_scan::{ScanFormat, ScanSpec};
 use morsel_sink::SinkSpec;
 use std::marker::Model;
 
-/// A query: a scan, and a sink for its rows.
+/// A query: a scan, a join with another scan if there is one, and a sink for the rows.
 ///
-/// It has 1 to 65,536 sources, and CSV files of 1 to 65,535 columns; and the sink's name is not the name of a source.
+/// Each scan has 1 to 65,536 sources, and CSV files of 1 to 65,535 columns; a join has as many left keys as right ones, at least
+/// one, and names none twice on one side; and the sink's name is not the name of a source.
 #[derive(Debug, Drop)]
 pub struct Query {
     left: ScanSpec,
+    join: Option<JoinSpec>,
     sink: SinkSpec,
 }
 
@@ -29,28 +31,29 @@ impl Model for Query {
 
     ghost coded = { Prim.hlevel (codes, tree.the_row.coded) };
 
-    ghost view = { λ query. query_parts query.left query.sink };
+    ghost view = { λ query. query_parts query.left query.join query.sink };
 
-    ghost invariant = { λ query. IsSound (query_parts query.left query.sink) };
+    ghost invariant = { λ query. IsSound (query_parts query.left query.join query.sink) };
 }
 
 impl Query {
     /// A query of these parts. One that has a flaw is refused, by one of its flaws.
     ///
-    /// `NoSource`: the scan names no source. `ManySources`: it names more than 65,536. `NoColumn`: the schema of CSV files has
-    /// no column, or more than 65,535. `SinkIsSource`: the sink's name is the name of a source.
-    pub fn new(left: ScanSpec, sink: SinkSpec) -> Result<Query, Fault>
-        ensures value { IfOk result (λ query. query ≡ query_parts left sink) }
-        ensures sound { OnOk result (IsSound (query_parts left sink)) }
-        ensures refused { IfErr result (IsFlawFault (query_parts left sink)) }
+    /// `NoSource`: a scan names no source. `ManySources`: it names more than 65,536. `NoColumn`: the schema of CSV files has no
+    /// column, or more than 65,535. `NoKeys`: a join has no key. `UnequalKeys`: it has more keys on one side than on the other.
+    /// `RepeatedKey`: one side of it names a key twice. `SinkIsSource`: the sink's name is the name of a source.
+    pub fn new(left: ScanSpec, join: Option<JoinSpec>, sink: SinkSpec) -> Result<Query, Fault>
+        ensures value { IfOk result (λ query. query ≡ query_parts left join sink) }
+        ensures sound { OnOk result (IsSound (query_parts left join sink)) }
+        ensures refused { IfErr result (IsFlawFault (query_parts left join sink)) }
     {
-        if let Some(why) = flaw_of_query(&left, &sink) {
+        if let Some(why) = flaw_of_query(&left, &join, &sink) {
             return Err(Fault::InvalidQuery { why });
         }
-        Ok(Query { left, sink })
+        Ok(Query { left, join, sink })
     }
 
-    /// The scan.
+    /// The scan, or the left side of the join.
     pub fn left(&self) -> &ScanSpec
         ensures value { file_scan result.now ≡ self.now.left }
         ensures sound { IsSound self.now }
@@ -58,12 +61,20 @@ impl Query {
         &self.left
     }
 
+    /// The join, where there is one.
+    pub fn join(&self) -> &Option<JoinSpec>
+        ensures value { option_map join_part result.now ≡ self.now.join }
+        ensures sound { IsSound self.now }
+    {
+        &self.join
+    }
+
     /// The parts of which the query is made.
-    pub fn into_parts(self) -> (ScanSpec, SinkSpec)
-        ensures value { query_parts result.0 result.1 ≡ self }
+    pub fn into_parts(self) -> (ScanSpec, Option<JoinSpec>, SinkSpec)
+        ensures value { query_parts result.0 result.1 result.2 ≡ self }
         ensures sound { IsSound self }
     {
-        (self.left, self.sink)
+        (self.left, self.join, self.sink)
     }
 
     /// The sink.
@@ -75,10 +86,37 @@ impl Query {
 }
 
 /// A flaw of a query of these parts.
-fn flaw_of_query(left: &ScanSpec, sink: &SinkSpec) -> Option<Why>
-    ensures some { IfSome result (IsFlaw (sides_of (query_parts left.now sink.now)) sink.now.name) }
-    ensures none { IsNone result → IsSound (query_parts left.now sink.now) }
+#[tactic(auto, using(crate::proofs::SideLemmas::flaw_in_front, crate::proofs::SideLemmas::flaw_behind, crate::proofs::SideLemmas::sound_with_side))]
+fn flaw_of_query(left: &ScanSpec, join: &Option<JoinSpec>, sink: &SinkSpec) -> Option<Why>
+    ensures some { IfSome result (IsFlaw (sides_of (query_parts left.now join.now sink.now)) (keys_of_query (query_parts left.now join.now sink.now)) sink.now.name) }
+    ensures none { IsNone result → IsSound (query_parts left.now join.now sink.now) }
 {
-    let ScanFormat::Csv { schema, .. } = &left.format;
-    flaw_of_side(&left.sources, Some(schema.len()), sink.name.as_str())
+    if let Some(why) = flaw_of_scan(left, sink) {
+        return Some(why);
+    }
+    match join {
+        Some(join) => flaw_of_join(join, sink),
+        None => None,
+    }
+}
+
+/// A flaw of a scan.
+fn flaw_of_scan(scan: &ScanSpec, sink: &SinkSpec) -> Option<Why>
+    ensures some { IfSome result (IsFlaw (side_of (file_scan scan.now) ∷ []) None sink.now.name) }
+    ensures none { IsNone result → AreSound (side_of (file_scan scan.now) ∷ []) None sink.now.name }
+{
+    let ScanFormat::Csv { schema, .. } = &scan.format;
+    flaw_of_side(&scan.sources, Some(schema.len()), sink.name.as_str())
+}
+
+/// A flaw of a join, its right side included.
+#[tactic(auto, using(crate::proofs::SideLemmas::flaw_in_front, crate::proofs::SideLemmas::flaw_among_keys, crate::proofs::SideLemmas::sound_with_keys))]
+fn flaw_of_join(join: &JoinSpec, sink: &SinkSpec) -> Option<Why>
+    ensures some { IfSome result (IsFlaw (side_of (file_scan join.now.right) ∷ []) (Some (keys_of (join_part join.now))) sink.now.name) }
+    ensures none { IsNone result → AreSound (side_of (file_scan join.now.right) ∷ []) (Some (keys_of (join_part join.now))) sink.now.name }
+{
+    if let Some(why) = flaw_of_scan(&join.right, sink) {
+        return Some(why);
+    }
+    flaw_of_keys(&join.left_keys, &join.right_keys)
 }

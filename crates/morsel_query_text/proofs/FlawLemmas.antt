@@ -1,107 +1,130 @@
--- The flaws of a query and those of its scan.
-use Rattle.std.proofs.Common.{◌≡◌, inl, inr, ℕ, List, Option, Some, None, Err, refl, ap, ◌∙◌}
-use Rattle.std.specs.Option.{option_or}
+-- The flaws of a query, and those of its parts.
+use Rattle.std.proofs.Common.{◌≡◌, inl, inr, ℕ, List, Option, Some, None, refl, ap}
 use Rattle.morsel_meaning.specs.declared.fault.Fault.{Fault}
 use Rattle.morsel_meaning.specs.declared.fault.Fault.TheVariants as faults
 use Rattle.morsel_meaning.specs.declared.fault.Why.{Why}
 use Rattle.morsel_meaning.specs.declared.fault.Why.TheVariants as whys
-use Rattle.morsel_frame.specs.Refusals.{Refuses, fault_of_repeat}
-use Rattle.morsel_query.specs.RunOptions.{RunOptions, AreInRange}
-use Rattle.morsel_query.specs.Queries.{FileScan, QueryParts}
-use Rattle.morsel_sink.specs.declared.spec.SinkFormat.{SinkFormat}
-use Rattle.morsel_sink.specs.declared.spec.SinkSpec.{SinkSpec}
-use Rattle.morsel_query_text.specs.Written.{WrittenScan, WrittenQuery, scan_written, sink_written, query_written}
-use Rattle.morsel_query_text.specs.TextFlaws.{HasTextFlaw, IsTooDeep, IsFlawless, repeat_of_format, name_repeated}
-use Rattle.morsel_query_text.specs.Answers.{HasScanFlaw, IsFlawlessScan, RefusesScan, RefusesMade, RefusesLate}
+use Rattle.morsel_query.specs.RunOptions.{AreInRange}
+use Rattle.morsel_query.specs.QueryFlaws.{AreSound, IsFlaw}
+use Rattle.morsel_query.proofs.SoundLemmas.{sound_has_no_flaw}
+use Rattle.morsel_query_text.specs.Written.{WrittenScan, WrittenJoin, WrittenQuery}
+use Rattle.morsel_query_text.specs.TextFlaws.{HasScan, HasNoBytes, IsTooDeep, right_scans, scans_written, sides_written, keys_written, HasTextFlaw, IsFlawless}
+use Rattle.morsel_query_text.specs.Answers.{HasReadingFlaw, IsReadable, RefusesReading, IsRightReadable, RefusesRight, RefusesFlaw}
 
--- a flaw of the scan is one of the query
-pub scan_flaw_is : (query : WrittenQuery) (out : List ℕ) (why : Why) → HasScanFlaw query.left out why → HasTextFlaw query out why
-scan_flaw_is query out whys.ParseBytes flaw = inl flaw
-scan_flaw_is query out whys.PredDepth flaw = inl flaw
-scan_flaw_is query out whys.OptionRange flaw = absurd flaw
-scan_flaw_is query out whys.NoSource flaw = flaw
-scan_flaw_is query out whys.ManySources flaw = flaw
-scan_flaw_is query out whys.NoColumn flaw = flaw
-scan_flaw_is query out whys.SinkIsSource flaw = flaw
-scan_flaw_is query out whys.BlockFiles flaw = flaw
-scan_flaw_is query out whys.NoKeys flaw = flaw
-scan_flaw_is query out whys.RepeatedKey flaw = flaw
-scan_flaw_is query out whys.UnequalKeys flaw = flaw
+-- a flaw of the sides, the keys or the sink's name is one of the query
+pub side_flaw_is : (query : WrittenQuery) (out : List ℕ) (why : Why) → IsFlaw (sides_written query) (keys_written query) out why → HasTextFlaw query out why
+side_flaw_is query out whys.ParseBytes flaw = absurd flaw
+side_flaw_is query out whys.PredDepth flaw = absurd flaw
+side_flaw_is query out whys.OptionRange flaw = absurd flaw
+side_flaw_is query out whys.NoSource flaw = flaw
+side_flaw_is query out whys.ManySources flaw = flaw
+side_flaw_is query out whys.NoColumn flaw = flaw
+side_flaw_is query out whys.SinkIsSource flaw = flaw
+side_flaw_is query out whys.BlockFiles flaw = absurd flaw
+side_flaw_is query out whys.NoKeys flaw = flaw
+side_flaw_is query out whys.RepeatedKey flaw = flaw
+side_flaw_is query out whys.UnequalKeys flaw = flaw
 
--- a query whose options are in range and whose scan has no flaw has none
-pub flawless_is : (query : WrittenQuery) (out : List ℕ) → ((AreInRange query.options → ⊥) → ⊥) → IsFlawlessScan query.left out → IsFlawless query out
-flawless_is query out range none whys.OptionRange flaw = range flaw
-flawless_is query out range none whys.ParseBytes flaw = elim flaw [ inl here ↦ none whys.ParseBytes here | inr there ↦ there ]
-flawless_is query out range none whys.PredDepth flaw = elim flaw [ inl here ↦ none whys.PredDepth here | inr there ↦ there ]
-flawless_is query out range none whys.NoSource flaw = none whys.NoSource flaw
-flawless_is query out range none whys.ManySources flaw = none whys.ManySources flaw
-flawless_is query out range none whys.NoColumn flaw = none whys.NoColumn flaw
-flawless_is query out range none whys.SinkIsSource flaw = none whys.SinkIsSource flaw
-flawless_is query out range none whys.BlockFiles flaw = none whys.BlockFiles flaw
-flawless_is query out range none whys.NoKeys flaw = none whys.NoKeys flaw
-flawless_is query out range none whys.RepeatedKey flaw = none whys.RepeatedKey flaw
-flawless_is query out range none whys.UnequalKeys flaw = none whys.UnequalKeys flaw
+-- a flaw of the left scan is one of the query
+left_flaw_is : (query : WrittenQuery) (out : List ℕ) (why : Why) → HasReadingFlaw query.left why → HasTextFlaw query out why
+left_flaw_is query out whys.ParseBytes flaw = inl flaw
+left_flaw_is query out whys.PredDepth flaw = inl flaw
+left_flaw_is query out whys.OptionRange flaw = absurd flaw
+left_flaw_is query out whys.NoSource flaw = absurd flaw
+left_flaw_is query out whys.ManySources flaw = absurd flaw
+left_flaw_is query out whys.NoColumn flaw = absurd flaw
+left_flaw_is query out whys.SinkIsSource flaw = absurd flaw
+left_flaw_is query out whys.BlockFiles flaw = absurd flaw
+left_flaw_is query out whys.NoKeys flaw = absurd flaw
+left_flaw_is query out whys.RepeatedKey flaw = absurd flaw
+left_flaw_is query out whys.UnequalKeys flaw = absurd flaw
 
-or_none : (told : Option (List ℕ)) → option_or told None ≡ told
-or_none None = refl
-or_none (Some name) = refl
+pub left_refused : (query : WrittenQuery) (out : List ℕ) (fault : Fault) → RefusesReading query.left fault → RefusesFlaw query out fault
+left_refused query out faults.OutOfMemory refused = tt
+left_refused query out (faults.InvalidQuery why) refused = left_flaw_is query out why refused
+left_refused query out (faults.Duplicate name) refused = refused
+left_refused query out faults.QueryText refused = refused
+left_refused query out (faults.ReadFault file) refused = refused
+left_refused query out faults.WriteFault refused = refused
+left_refused query out (faults.Malformed file at) refused = refused
+left_refused query out (faults.Unsupported file code) refused = refused
+left_refused query out (faults.ColumnNotFound name) refused = refused
+left_refused query out (faults.SchemaMismatch name) refused = refused
+left_refused query out (faults.ComputeError kind file at) refused = refused
+left_refused query out faults.Usage refused = refused
 
--- the name that a query repeats is that of its scan
-pub repeat_is : (query : WrittenQuery) → name_repeated query ≡ repeat_of_format query.left.format
-repeat_is query = or_none (repeat_of_format query.left.format)
+-- the flaw that is named of a right scan, where there is one
+abbrev HasRightFlaw : Option WrittenJoin → Why → Type 0
+HasRightFlaw None why = ⊥
+HasRightFlaw (Some join) why = HasReadingFlaw join.right why
 
--- a fault of the scan is one of the query
-pub refuses_made : (query : WrittenQuery) (out : List ℕ) (fault : Fault) → ((AreInRange query.options → ⊥) → ⊥) → RefusesScan query.left out fault → RefusesMade query out fault
-refuses_made query out faults.OutOfMemory range refused = tt
-refuses_made query out (faults.InvalidQuery why) range refused = scan_flaw_is query out why refused
-refuses_made query out (faults.Duplicate name) range refused = (flawless_is query out range refused.0, repeat_is query ∙ refused.1)
-refuses_made query out faults.QueryText range refused = refused
-refuses_made query out (faults.ReadFault file) range refused = refused
-refuses_made query out faults.WriteFault range refused = refused
-refuses_made query out (faults.Malformed file at) range refused = refused
-refuses_made query out (faults.Unsupported file code) range refused = refused
-refuses_made query out (faults.ColumnNotFound name) range refused = refused
-refuses_made query out (faults.SchemaMismatch name) range refused = refused
-refuses_made query out (faults.ComputeError kind file at) range refused = refused
-refuses_made query out faults.Usage range refused = refused
+right_flaw_in : (P : WrittenScan → Type 0) (join : Option WrittenJoin) (why : Why) → ((scan : WrittenScan) → HasReadingFlaw scan why → P scan) → HasRightFlaw join why → HasScan P (right_scans join)
+right_flaw_in P None why is flaw = absurd flaw
+right_flaw_in P (Some join) why is flaw = inl (is join.right flaw)
 
--- what the parts of a query are written as
-abbrev query_of_parts : WrittenScan → SinkFormat → RunOptions → WrittenQuery
-query_of_parts left format options = record { left = left; sink = sink_written format; options = options }
+no_right_flaw : (A : Type 0) (join : Option WrittenJoin) (why : Why) → ((scan : WrittenScan) → HasReadingFlaw scan why → ⊥) → HasRightFlaw join why → A
+no_right_flaw A None why none flaw = absurd flaw
+no_right_flaw A (Some join) why none flaw = absurd (none join.right flaw)
 
--- a query is written as its parts are
-pub made_text : (query : QueryParts) (left : FileScan) (sink : SinkSpec) (options : RunOptions) (written : WrittenScan) (format : SinkFormat) (numbers : RunOptions) → query ≡ record { left = left; sink = sink } → scan_written left ≡ written → sink.format ≡ format → options ≡ numbers → query_written query options ≡ record { left = written; sink = sink_written format; options = numbers }
-made_text query left sink options written format numbers is a b c =
-    ap (λ (q : QueryParts). query_written q options) is
-    ∙ ap (λ (w : WrittenScan). query_of_parts w sink.format options) a
-    ∙ ap (λ (f : SinkFormat). query_of_parts written f options) b
-    ∙ ap (λ (o : RunOptions). query_of_parts written format o) c
+-- a flaw of the right scan is one of the query
+right_flaw_is : (query : WrittenQuery) (out : List ℕ) (why : Why) → HasRightFlaw query.join why → HasTextFlaw query out why
+right_flaw_is query out whys.ParseBytes flaw = inr (right_flaw_in (λ scan. HasNoBytes scan.format) query.join whys.ParseBytes (λ scan is. is) flaw)
+right_flaw_is query out whys.PredDepth flaw = inr (right_flaw_in (λ scan. IsTooDeep scan.filter) query.join whys.PredDepth (λ scan is. is) flaw)
+right_flaw_is query out whys.OptionRange flaw = no_right_flaw _ query.join whys.OptionRange (λ scan is. is) flaw
+right_flaw_is query out whys.NoSource flaw = no_right_flaw _ query.join whys.NoSource (λ scan is. is) flaw
+right_flaw_is query out whys.ManySources flaw = no_right_flaw _ query.join whys.ManySources (λ scan is. is) flaw
+right_flaw_is query out whys.NoColumn flaw = no_right_flaw _ query.join whys.NoColumn (λ scan is. is) flaw
+right_flaw_is query out whys.SinkIsSource flaw = no_right_flaw _ query.join whys.SinkIsSource (λ scan is. is) flaw
+right_flaw_is query out whys.BlockFiles flaw = no_right_flaw _ query.join whys.BlockFiles (λ scan is. is) flaw
+right_flaw_is query out whys.NoKeys flaw = no_right_flaw _ query.join whys.NoKeys (λ scan is. is) flaw
+right_flaw_is query out whys.RepeatedKey flaw = no_right_flaw _ query.join whys.RepeatedKey (λ scan is. is) flaw
+right_flaw_is query out whys.UnequalKeys flaw = no_right_flaw _ query.join whys.UnequalKeys (λ scan is. is) flaw
 
-late_by : (T : Type 0) (written : WrittenScan) (told : Option (List ℕ)) (fault : Fault) → (IsTooDeep written.filter → ⊥) → repeat_of_format written.format ≡ told → Refuses {T = T} (fault_of_repeat told) (Err fault) → RefusesLate written fault
-late_by T written told faults.OutOfMemory shallow is refused = tt
-late_by T written None (faults.Duplicate name) shallow is refused = cc
-late_by T written (Some first) (faults.Duplicate name) shallow is refused = let same : first ≡ name = cc in (shallow, is ∙ ap (λ (n : List ℕ). Some n) same)
-late_by T written None (faults.InvalidQuery why) shallow is refused = cc
-late_by T written (Some first) (faults.InvalidQuery why) shallow is refused = cc
-late_by T written None faults.QueryText shallow is refused = cc
-late_by T written (Some first) faults.QueryText shallow is refused = cc
-late_by T written None (faults.ReadFault file) shallow is refused = cc
-late_by T written (Some first) (faults.ReadFault file) shallow is refused = cc
-late_by T written None faults.WriteFault shallow is refused = cc
-late_by T written (Some first) faults.WriteFault shallow is refused = cc
-late_by T written None (faults.Malformed file at) shallow is refused = cc
-late_by T written (Some first) (faults.Malformed file at) shallow is refused = cc
-late_by T written None (faults.Unsupported file code) shallow is refused = cc
-late_by T written (Some first) (faults.Unsupported file code) shallow is refused = cc
-late_by T written None (faults.ColumnNotFound name) shallow is refused = cc
-late_by T written (Some first) (faults.ColumnNotFound name) shallow is refused = cc
-late_by T written None (faults.SchemaMismatch name) shallow is refused = cc
-late_by T written (Some first) (faults.SchemaMismatch name) shallow is refused = cc
-late_by T written None (faults.ComputeError kind file at) shallow is refused = cc
-late_by T written (Some first) (faults.ComputeError kind file at) shallow is refused = cc
-late_by T written None faults.Usage shallow is refused = cc
-late_by T written (Some first) faults.Usage shallow is refused = cc
+pub right_refused : (query : WrittenQuery) (out : List ℕ) (fault : Fault) → RefusesRight query.join fault → RefusesFlaw query out fault
+right_refused query out fault refused = by query.join fault refused (λ why flaw. right_flaw_is query out why flaw)
+  where
+    by : (join : Option WrittenJoin) (f : Fault) → RefusesRight join f → ((why : Why) → HasRightFlaw join why → HasTextFlaw query out why) → RefusesFlaw query out f
+    by join faults.OutOfMemory told is = tt
+    by None (faults.InvalidQuery why) told is = absurd told
+    by (Some join) (faults.InvalidQuery why) told is = is why told
+    by None (faults.Duplicate name) told is = told
+    by (Some join) (faults.Duplicate name) told is = told
+    by None faults.QueryText told is = told
+    by (Some join) faults.QueryText told is = told
+    by None (faults.ReadFault file) told is = told
+    by (Some join) (faults.ReadFault file) told is = told
+    by None faults.WriteFault told is = told
+    by (Some join) faults.WriteFault told is = told
+    by None (faults.Malformed file at) told is = told
+    by (Some join) (faults.Malformed file at) told is = told
+    by None (faults.Unsupported file code) told is = told
+    by (Some join) (faults.Unsupported file code) told is = told
+    by None (faults.ColumnNotFound name) told is = told
+    by (Some join) (faults.ColumnNotFound name) told is = told
+    by None (faults.SchemaMismatch name) told is = told
+    by (Some join) (faults.SchemaMismatch name) told is = told
+    by None (faults.ComputeError kind file at) told is = told
+    by (Some join) (faults.ComputeError kind file at) told is = told
+    by None faults.Usage told is = told
+    by (Some join) faults.Usage told is = told
 
--- a schema that is refused has a name twice
-pub refuses_late : (T : Type 0) (written : WrittenScan) (fault : Fault) → (IsTooDeep written.filter → ⊥) → Refuses {T = T} (fault_of_repeat (repeat_of_format written.format)) (Err fault) → RefusesLate written fault
-refuses_late T written fault shallow refused = late_by T written (repeat_of_format written.format) fault shallow refl refused
+none_right : (P : WrittenScan → Type 0) (join : Option WrittenJoin) → IsRightReadable join → ((scan : WrittenScan) → IsReadable scan → P scan → ⊥) → HasScan P (right_scans join) → ⊥
+none_right P None readable none has = has
+none_right P (Some join) readable none has = elim has [ inl here ↦ none join.right readable here | inr there ↦ there ]
+
+-- a query has no flaw whose options are in range, whose sides, keys and sink have none, and whose scans have none
+pub flawless_is : (query : WrittenQuery) (out : List ℕ) → ((AreInRange query.options → ⊥) → ⊥) → AreSound (sides_written query) (keys_written query) out
+    → IsReadable query.left → IsRightReadable query.join → IsFlawless query out
+flawless_is query out range sound left right whys.OptionRange flaw = range flaw
+flawless_is query out range sound left right whys.ParseBytes flaw =
+    elim flaw [ inl here ↦ left whys.ParseBytes here | inr there ↦ none_right (λ scan. HasNoBytes scan.format) query.join right (λ scan is. is whys.ParseBytes) there ]
+flawless_is query out range sound left right whys.PredDepth flaw =
+    elim flaw [ inl here ↦ left whys.PredDepth here | inr there ↦ none_right (λ scan. IsTooDeep scan.filter) query.join right (λ scan is. is whys.PredDepth) there ]
+flawless_is query out range sound left right whys.NoSource flaw = sound_has_no_flaw (sides_written query) (keys_written query) out whys.NoSource sound flaw
+flawless_is query out range sound left right whys.ManySources flaw = sound_has_no_flaw (sides_written query) (keys_written query) out whys.ManySources sound flaw
+flawless_is query out range sound left right whys.NoColumn flaw = sound_has_no_flaw (sides_written query) (keys_written query) out whys.NoColumn sound flaw
+flawless_is query out range sound left right whys.SinkIsSource flaw = sound_has_no_flaw (sides_written query) (keys_written query) out whys.SinkIsSource sound flaw
+flawless_is query out range sound left right whys.BlockFiles flaw = flaw
+flawless_is query out range sound left right whys.NoKeys flaw = sound_has_no_flaw (sides_written query) (keys_written query) out whys.NoKeys sound flaw
+flawless_is query out range sound left right whys.RepeatedKey flaw = sound_has_no_flaw (sides_written query) (keys_written query) out whys.RepeatedKey sound flaw
+flawless_is query out range sound left right whys.UnequalKeys flaw = sound_has_no_flaw (sides_written query) (keys_written query) out whys.UnequalKeys sound flaw

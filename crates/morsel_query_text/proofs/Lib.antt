@@ -5,3 +5,5 @@ pub mod LevelLemmas
 pub mod FlawLemmas
 pub mod ScanLemmas
 pub mod AlikeLemmas
+pub mod JoinLemmas
+pub mod MadeLemmas

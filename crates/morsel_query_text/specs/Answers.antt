@@ -1,16 +1,15 @@
 -- What reading a query of a tree answers.
-use Rattle.std.specs.Prelude.{◌≡◌, ℕ, Some, None, List, [], ◌∷◌}
+use Rattle.std.specs.Prelude.{◌≡◌, ℕ, Option, Some, None, List}
 use Rattle.serde_json.specs.Data.{Data}
 use Rattle.morsel_meaning.specs.declared.fault.Fault.{Fault}
 use Rattle.morsel_meaning.specs.declared.fault.Fault.TheVariants.{OutOfMemory, QueryText, InvalidQuery, Duplicate}
 use Rattle.morsel_meaning.specs.declared.fault.Why.{Why}
 use Rattle.morsel_meaning.specs.declared.fault.Why.TheVariants.{ParseBytes, PredDepth}
-use Rattle.morsel_query.specs.QueryFlaws.{IsFlaw}
 use Rattle.morsel_query.specs.RunOptions.{RunOptions}
-use Rattle.morsel_query.specs.Queries.{FileScan, QueryParts}
-use Rattle.morsel_query_text.specs.Written.{WrittenScan, WrittenQuery, scan_written, query_written}
+use Rattle.morsel_query.specs.Queries.{QueryParts}
+use Rattle.morsel_query_text.specs.Written.{WrittenScan, WrittenJoin, WrittenQuery, query_written}
 use Rattle.morsel_query_text.specs.QueryTexts.{QueryOf}
-use Rattle.morsel_query_text.specs.TextFlaws.{HasNoBytes, IsTooDeep, side_written, HasTextFlaw, IsFlawless, repeat_of_format, name_repeated}
+use Rattle.morsel_query_text.specs.TextFlaws.{HasNoBytes, IsTooDeep, HasTextFlaw, IsFlawless, name_repeated}
 
 -- the tree is this query, which has no flaw and whose sink has this name
 pub record IsQueryText (tree : Data) (out : List ℕ) (query : QueryParts) (options : RunOptions) : Type 0 where
@@ -41,38 +40,41 @@ RefusesMade written out (InvalidQuery why) = HasTextFlaw written out why
 RefusesMade written out (Duplicate name) = IsFlawless written out × (name_repeated written ≡ Some name)
 RefusesMade written out fault = ⊥
 
--- the flaw that is named, of a scan into a sink of the name `out`
-abbrev pub HasScanFlaw : WrittenScan → List ℕ → Why → Type 0
-HasScanFlaw scan out ParseBytes = HasNoBytes scan.format
-HasScanFlaw scan out PredDepth = IsTooDeep scan.filter
-HasScanFlaw scan out why = IsFlaw (side_written scan ∷ []) out why
+-- the flaw that is named of a scan alone: how its files are written contradicts itself, or its predicate has too many levels
+abbrev pub HasReadingFlaw : WrittenScan → Why → Type 0
+HasReadingFlaw scan ParseBytes = HasNoBytes scan.format
+HasReadingFlaw scan PredDepth = IsTooDeep scan.filter
+HasReadingFlaw scan why = ⊥
 
--- a scan without flaws
-abbrev pub IsFlawlessScan : WrittenScan → List ℕ → Type 0
-IsFlawlessScan scan out = (why : Why) → HasScanFlaw scan out why → ⊥
+-- a scan without such flaws
+abbrev pub IsReadable : WrittenScan → Type 0
+IsReadable scan = (why : Why) → HasReadingFlaw scan why → ⊥
 
--- a scan is made of what a text has, which has no flaw
-pub record IsScanOf (written : WrittenScan) (out : List ℕ) (scan : FileScan) : Type 0 where
-  pub text : scan_written scan ≡ written
-  pub flawless : IsFlawlessScan written out
-  pub distinct : repeat_of_format written.format ≡ None
+-- such a flaw is told, or memory is out
+abbrev pub RefusesReading : WrittenScan → Fault → Type 0
+RefusesReading written OutOfMemory = Unit {0}
+RefusesReading written (InvalidQuery why) = HasReadingFlaw written why
+RefusesReading written fault = ⊥
 
--- a fault of a scan in its order
-abbrev pub RefusesScan : WrittenScan → List ℕ → Fault → Type 0
-RefusesScan written out OutOfMemory = Unit {0}
-RefusesScan written out (InvalidQuery why) = HasScanFlaw written out why
-RefusesScan written out (Duplicate name) = IsFlawlessScan written out × (repeat_of_format written.format ≡ Some name)
-RefusesScan written out fault = ⊥
+-- the right side of a join has no such flaws, where there is a join
+abbrev pub IsRightReadable : Option WrittenJoin → Type 0
+IsRightReadable None = Unit {0}
+IsRightReadable (Some join) = IsReadable join.right
 
--- a scan is made of what a text has, where the options of its files are known
-pub record IsWithOptions (written : WrittenScan) (scan : FileScan) : Type 0 where
-  pub text : scan_written scan ≡ written
-  pub shallow : IsTooDeep written.filter → ⊥
-  pub distinct : repeat_of_format written.format ≡ None
+-- such a flaw of the right side of a join is told, or memory is out
+abbrev pub RefusesRight : Option WrittenJoin → Fault → Type 0
+RefusesRight written OutOfMemory = Unit {0}
+RefusesRight None fault = ⊥
+RefusesRight (Some join) fault = RefusesReading join.right fault
 
--- a fault that only the predicate and the schema have
-abbrev pub RefusesLate : WrittenScan → Fault → Type 0
-RefusesLate written OutOfMemory = Unit {0}
-RefusesLate written (InvalidQuery PredDepth) = IsTooDeep written.filter
-RefusesLate written (Duplicate name) = (IsTooDeep written.filter → ⊥) × (repeat_of_format written.format ≡ Some name)
-RefusesLate written fault = ⊥
+-- a flaw of the query is told, or memory is out
+abbrev pub RefusesFlaw : WrittenQuery → List ℕ → Fault → Type 0
+RefusesFlaw written out OutOfMemory = Unit {0}
+RefusesFlaw written out (InvalidQuery why) = HasTextFlaw written out why
+RefusesFlaw written out fault = ⊥
+
+-- a query without flaws, of which a text with these parts is made
+pub record IsMadeOfParts (written : WrittenQuery) (out : List ℕ) (query : QueryParts) (options : RunOptions) : Type 0 where
+  pub text : query_written query options ≡ written
+  pub sink : query.sink.name ≡ out
+  pub distinct : name_repeated written ≡ None

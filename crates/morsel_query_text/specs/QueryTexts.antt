@@ -7,11 +7,19 @@ use Rattle.serde_json.specs.Find.{as_str, as_bool}
 use Rattle.morsel_meaning.specs.declared.value.ColType.{ColType}
 use Rattle.morsel_meaning.specs.declared.value.ColType.TheVariants as types
 use Rattle.morsel_meaning.specs.declared.value.Field.{Field}
+use Rattle.morsel_join.specs.declared.join_type.JoinType.{JoinType}
+use Rattle.morsel_join.specs.declared.join_type.JoinType.TheVariants as joins
+use Rattle.morsel_join.specs.declared.join_type.MaintainOrderJoin.{MaintainOrderJoin}
+use Rattle.morsel_join.specs.declared.join_type.MaintainOrderJoin.TheVariants as orders
 use Rattle.morsel_scan.specs.declared.spec.RowIndex.{RowIndex}
+use Rattle.morsel_query.specs.declared.join.JoinHow.{JoinHow}
+use Rattle.morsel_query.specs.declared.join.JoinHow.TheVariants as hows
 use Rattle.morsel_query.specs.RunOptions.{RunOptions, standard_options}
-use Rattle.morsel_query_text.specs.Trees.{has_only, at_key, IsAtKey, some_of, text_or_null, number, narrow_number, signed_number, list_of, pair_of}
+use Rattle.morsel_query_text.specs.Trees.{has_only, at_key, IsAtKey, SomeOf, some_of, word_as, text_or_null, number, narrow_number, signed_number, list_of, pair_of}
+use Rattle.morsel_query_text.specs.declared.join.KeySide.{KeySide}
+use Rattle.morsel_query_text.specs.declared.join.KeySide.TheVariants as key_sides
 use Rattle.morsel_query_text.specs.Predicates.{predicate}
-use Rattle.morsel_query_text.specs.Written.{WrittenCsv, WrittenFormat, WrittenCsvFiles, WrittenScan, WrittenSink, WrittenNdJson, WrittenQuery, standard_csv}
+use Rattle.morsel_query_text.specs.Written.{WrittenCsv, WrittenFormat, WrittenCsvFiles, WrittenScan, WrittenJoin, WrittenSink, WrittenNdJson, WrittenQuery, standard_csv}
 
 -- ---- kinds
 
@@ -28,6 +36,34 @@ field tree = option_map (λ (pair : List ℕ × ColType). record { name = pair.0
 -- `[name, offset]`
 abbrev pub row_index : Data → Option RowIndex
 row_index tree = option_map (λ (pair : List ℕ × ℕ). record { name = pair.0; offset = pair.1 }) (pair_of as_str narrow_number tree)
+
+-- the kind of joins that a word names
+abbrev pub join_type_named : List ℕ → Option JoinType
+join_type_named word =
+    if bytes_eq word (codes "inner") then Some joins.Inner
+    else (if bytes_eq word (codes "left") then Some joins.Left
+    else (if bytes_eq word (codes "right") then Some joins.Right else (if bytes_eq word (codes "full") then Some joins.Full else None)))
+
+-- the order of rows that a word names
+abbrev pub order_named : List ℕ → Option MaintainOrderJoin
+order_named word =
+    if bytes_eq word (codes "none") then Some orders.None
+    else (if bytes_eq word (codes "left") then Some orders.Left
+    else (if bytes_eq word (codes "right") then Some orders.Right
+    else (if bytes_eq word (codes "left_right") then Some orders.LeftRight else (if bytes_eq word (codes "right_left") then Some orders.RightLeft else None))))
+
+-- the way to find the rows of a join that a word names; rows of both sides at once are not had yet
+abbrev pub how_named : List ℕ → Option JoinHow
+how_named word = if bytes_eq word (codes "hash") then Some hows.Hash else None
+
+-- the name of a side, of a left and a right one
+abbrev pub name_on : KeySide → List ℕ × List ℕ → List ℕ
+name_on key_sides.Left pair = pair.0
+name_on key_sides.Right pair = pair.1
+
+-- the name of a side in `[left name, right name]`
+abbrev pub key_of : KeySide → Data → Option (List ℕ)
+key_of side tree = option_map (name_on side) (pair_of as_str as_str tree)
 
 -- ---- objects
 
@@ -61,7 +97,7 @@ pub record CsvFilesOf (tree : Data) (fields : List Field) (written : WrittenCsv)
 abbrev pub FormatOf : Data → WrittenFormat → Type 0
 FormatOf tree (WrittenCsvFiles fields csv) = CsvFilesOf tree fields csv
 
--- `left`: a scan
+-- `left`, and `right` of a join: a scan
 pub record ScanOf (tree : Data) (scan : WrittenScan) : Type 0 where
   pub format : FormatOf tree scan.format
   pub files : at_key (codes "files") (list_of as_str) None tree ≡ Some scan.files
@@ -71,6 +107,23 @@ pub record ScanOf (tree : Data) (scan : WrittenScan) : Type 0 where
   pub path : at_key (codes "path") (some_of as_str) (Some None) tree ≡ Some scan.path
   pub allow_missing_columns : at_key (codes "allow_missing_columns") as_bool (Some false) tree ≡ Some scan.allow_missing_columns  -- no key of CSV files
   pub filter : at_key (codes "filter") (some_of predicate) (Some None) tree ≡ Some scan.filter
+
+-- the keys of a join
+abbrev pub join_keys : List (List ℕ)
+join_keys = codes "right" ∷ codes "on" ∷ codes "kind" ∷ codes "order" ∷ codes "nulls" ∷ codes "coalesce" ∷ codes "suffix" ∷ codes "how" ∷ []
+
+-- `join`: `on` has a left and a right name for each pair of keys
+pub record JoinOf (tree : Data) (join : WrittenJoin) : Type 0 where
+  pub keys : has_only join_keys tree ≡ true
+  pub right : IsAtKey (codes "right") ScanOf None tree join.right
+  pub left_keys : at_key (codes "on") (list_of (key_of key_sides.Left)) None tree ≡ Some join.left_keys
+  pub right_keys : at_key (codes "on") (list_of (key_of key_sides.Right)) None tree ≡ Some join.right_keys
+  pub kind : at_key (codes "kind") (word_as join_type_named) (Some joins.Inner) tree ≡ Some join.args.how
+  pub order : at_key (codes "order") (word_as order_named) (Some orders.None) tree ≡ Some join.args.maintain_order
+  pub nulls : at_key (codes "nulls") as_bool (Some false) tree ≡ Some join.args.join_nulls
+  pub coalesce : at_key (codes "coalesce") as_bool (Some true) tree ≡ Some join.args.coalesce
+  pub suffix : at_key (codes "suffix") as_str (Some (codes "_right")) tree ≡ Some join.args.suffix
+  pub how : at_key (codes "how") (word_as how_named) (Some hows.Hash) tree ≡ Some join.how
 
 -- the keys of an NDJSON sink
 abbrev pub ndjson_keys : List (List ℕ)
@@ -102,12 +155,13 @@ pub record OptionsOf (tree : Data) (options : RunOptions) : Type 0 where
 
 -- the keys of a query
 abbrev pub query_keys : List (List ℕ)
-query_keys = codes "left" ∷ codes "sink" ∷ codes "options" ∷ []
+query_keys = codes "left" ∷ codes "join" ∷ codes "sink" ∷ codes "options" ∷ []
 
 -- a query
 pub record QueryOf (tree : Data) (query : WrittenQuery) : Type 0 where
   pub keys : has_only query_keys tree ≡ true
   pub left : IsAtKey (codes "left") ScanOf None tree query.left
+  pub join : IsAtKey (codes "join") (SomeOf JoinOf) (Some None) tree query.join
   pub sink : IsAtKey (codes "sink") SinkOf None tree query.sink
   pub options : IsAtKey (codes "options") OptionsOf (Some standard_options) tree query.options
 

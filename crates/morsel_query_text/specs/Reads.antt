@@ -5,11 +5,14 @@ use Rattle.serde_json.specs.Find.{as_str, as_bool}
 use Rattle.morsel_meaning.specs.declared.fault.Fault.{Fault}
 use Rattle.morsel_meaning.specs.declared.fault.Fault.TheVariants.{OutOfMemory, QueryText}
 use Rattle.morsel_expr.specs.declared.node.PredNode.{PredNode}
+use Rattle.morsel_join.specs.declared.join_type.JoinType.TheVariants as joins
+use Rattle.morsel_join.specs.declared.join_type.MaintainOrderJoin.TheVariants as orders
+use Rattle.morsel_join.specs.declared.payload.JoinArgs.{JoinArgs}
 use Rattle.morsel_scan.specs.Scans.{FileOptions}
-use Rattle.morsel_query_text.specs.Trees.{has_only, at_key, IsAtKey, some_of, list_of, pair_of, number, signed_number}
+use Rattle.morsel_query_text.specs.Trees.{has_only, at_key, IsAtKey, some_of, word_as, list_of, pair_of, number, signed_number}
 use Rattle.morsel_query_text.specs.Predicates.{pred_tree, is_predicate}
 use Rattle.morsel_query_text.specs.Written.{WrittenCsv, standard_csv}
-use Rattle.morsel_query_text.specs.QueryTexts.{CsvOf, csv_scan_keys, row_index}
+use Rattle.morsel_query_text.specs.QueryTexts.{CsvOf, csv_scan_keys, row_index, join_type_named, order_named}
 
 -- a value that is none is refused, or memory is out
 abbrev pub Refused : {T : Type 0} → Option T → Fault → Type 0
@@ -47,3 +50,11 @@ pub record AreAsked (tree : Data) (asked : FileOptions) : Type 0 where
   pub row_index : at_key (codes "row_index") (some_of row_index) (Some None) tree ≡ Some asked.row_index
   pub path : at_key (codes "path") (some_of as_str) (Some None) tree ≡ Some asked.path
   pub allow_missing_columns : at_key (codes "allow_missing_columns") as_bool (Some false) tree ≡ Some asked.allow_missing_columns
+
+-- what a join asks of its rows
+pub record AreJoinArgs (tree : Data) (args : JoinArgs) : Type 0 where
+  pub kind : at_key (codes "kind") (word_as join_type_named) (Some joins.Inner) tree ≡ Some args.how
+  pub order : at_key (codes "order") (word_as order_named) (Some orders.None) tree ≡ Some args.maintain_order
+  pub nulls : at_key (codes "nulls") as_bool (Some false) tree ≡ Some args.join_nulls
+  pub coalesce : at_key (codes "coalesce") as_bool (Some true) tree ≡ Some args.coalesce
+  pub suffix : at_key (codes "suffix") as_str (Some (codes "_right")) tree ≡ Some args.suffix

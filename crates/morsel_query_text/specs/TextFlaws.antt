@@ -1,5 +1,5 @@
 -- The flaws of a query as its text has it.
-use Rattle.std.specs.Prelude.{◌≡◌, ◌⊎◌, ℕ, ◌<◌, Option, Some, None, List, [], ◌∷◌, map, length}
+use Rattle.std.specs.Prelude.{◌≡◌, ◌⊎◌, ℕ, ◌<◌, Option, Some, None, option_map, List, [], ◌∷◌, map, length}
 use Rattle.std.specs.Option.{option_or}
 use Rattle.serde_json.specs.Data.{Data}
 use Rattle.morsel_meaning.specs.Values.{names_of}
@@ -10,9 +10,9 @@ use Rattle.morsel_meaning.specs.declared.fault.Why.TheVariants.{OptionRange, Par
 use Rattle.morsel_frame.specs.Names.{first_repeated}
 use Rattle.morsel_grammar.specs.Dialect.{Dialect, IsDialect}
 use Rattle.morsel_query.specs.RunOptions.{AreInRange}
-use Rattle.morsel_query.specs.QueryFlaws.{Side, IsFlaw}
+use Rattle.morsel_query.specs.QueryFlaws.{Side, JoinKeys, IsFlaw}
 use Rattle.morsel_query_text.specs.Predicates.{tree_levels}
-use Rattle.morsel_query_text.specs.Written.{WrittenCsv, WrittenFormat, WrittenCsvFiles, WrittenScan, WrittenQuery, csv_written}
+use Rattle.morsel_query_text.specs.Written.{WrittenCsv, WrittenFormat, WrittenCsvFiles, WrittenScan, WrittenJoin, WrittenQuery, csv_written}
 
 -- no options of CSV texts are written so
 abbrev pub AreNoBytes : WrittenCsv → Type 0
@@ -37,9 +37,14 @@ IsTooDeep (Some tree) = 128 < tree_levels tree
 abbrev pub columns_written : WrittenFormat → Option ℕ
 columns_written (WrittenCsvFiles fields csv) = Some (length fields)
 
+-- the right scan of a join, where there is one
+abbrev pub right_scans : Option WrittenJoin → List WrittenScan
+right_scans None = []
+right_scans (Some join) = join.right ∷ []
+
 -- the scans of a query, the left one first
 abbrev pub scans_written : WrittenQuery → List WrittenScan
-scans_written query = query.left ∷ []
+scans_written query = query.left ∷ right_scans query.join
 
 -- a scan as a side
 abbrev pub side_written : WrittenScan → Side
@@ -48,6 +53,14 @@ side_written scan = record { sources = scan.files; columns = columns_written sca
 -- the sides of a query, the left one first
 abbrev pub sides_written : WrittenQuery → List Side
 sides_written query = map side_written (scans_written query)
+
+-- the keys of a join
+abbrev pub keys_in : WrittenJoin → JoinKeys
+keys_in join = record { left = join.left_keys; right = join.right_keys }
+
+-- the keys of a query's join, where it has one
+abbrev pub keys_written : WrittenQuery → Option JoinKeys
+keys_written query = option_map keys_in query.join
 
 -- it holds of one of the scans
 abbrev pub HasScan : (WrittenScan → Type 0) → List WrittenScan → Type 0
@@ -59,7 +72,7 @@ abbrev pub HasTextFlaw : WrittenQuery → List ℕ → Why → Type 0
 HasTextFlaw query out OptionRange = AreInRange query.options → ⊥
 HasTextFlaw query out ParseBytes = HasScan (λ scan. HasNoBytes scan.format) (scans_written query)
 HasTextFlaw query out PredDepth = HasScan (λ scan. IsTooDeep scan.filter) (scans_written query)
-HasTextFlaw query out why = IsFlaw (sides_written query) out why
+HasTextFlaw query out why = IsFlaw (sides_written query) (keys_written query) out why
 
 -- a query without flaws
 abbrev pub IsFlawless : WrittenQuery → List ℕ → Type 0

@@ -36,6 +36,11 @@ FoundAs Of default (Some tree) value = Of tree value
 abbrev pub IsAtKey : {T : Type 0} → List ℕ → (Data → T → Type 0) → Option T → Data → T → Type 0
 IsAtKey key Of default tree value = FoundAs Of default (get key tree) value
 
+-- a value that may be left out, by a relation
+abbrev pub SomeOf : {T : Type 0} → (Data → T → Type 0) → Data → Option T → Type 0
+SomeOf Of tree None = ⊥
+SomeOf Of tree (Some value) = Of tree value
+
 -- a kind of value that may be left out
 abbrev pub some_of : {T : Type 0} → (Data → Option T) → Data → Option (Option T)
 some_of kind tree = option_map (λ value. Some value) (kind tree)
@@ -43,6 +48,10 @@ some_of kind tree = option_map (λ value. Some value) (kind tree)
 -- a text, or null for none
 abbrev pub text_or_null : Data → Option (Option (List ℕ))
 text_or_null tree = if is_some (as_null tree) then Some None else option_map (λ text. Some text) (as_str tree)
+
+-- what a word names
+abbrev pub word_as : {T : Type 0} → (List ℕ → Option T) → Data → Option T
+word_as named tree = option_and_then named (as_str tree)
 
 -- a number without a sign: no fraction, no exponent, and not -0. Those of a tree that was read have 64 bits
 abbrev pub number : Data → Option ℕ

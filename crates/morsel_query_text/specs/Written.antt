@@ -5,7 +5,9 @@ use Rattle.morsel_meaning.specs.declared.value.Field.{Field}
 use Rattle.morsel_grammar.specs.Dialect.{Dialect, standard}
 use Rattle.morsel_scan.specs.declared.spec.RowIndex.{RowIndex}
 use Rattle.morsel_query.specs.RunOptions.{RunOptions}
-use Rattle.morsel_query.specs.Queries.{FileFormat, CsvFiles, FileScan, QueryParts}
+use Rattle.morsel_join.specs.declared.payload.JoinArgs.{JoinArgs}
+use Rattle.morsel_query.specs.declared.join.JoinHow.{JoinHow}
+use Rattle.morsel_query.specs.Queries.{FileFormat, CsvFiles, FileScan, JoinPart, QueryParts}
 use Rattle.morsel_sink.specs.declared.spec.SinkFormat.{SinkFormat}
 use Rattle.morsel_sink.specs.declared.spec.SinkFormat.TheVariants.{NdJson}
 use Rattle.morsel_query_text.specs.Predicates.{pred_tree}
@@ -35,6 +37,14 @@ pub record WrittenScan : Type 0 where
   pub allow_missing_columns : Bool
   pub filter : Option Data  -- the tree of its predicate
 
+-- a join
+pub record WrittenJoin : Type 0 where
+  pub right : WrittenScan
+  pub left_keys : List (List ℕ)
+  pub right_keys : List (List ℕ)
+  pub args : JoinArgs
+  pub how : JoinHow
+
 -- the format of a sink, and what a query has for that format alone
 pub data WrittenSink : Type 0 where
   WrittenNdJson : WrittenSink
@@ -42,6 +52,7 @@ pub data WrittenSink : Type 0 where
 -- a query, without the name of its sink
 pub record WrittenQuery : Type 0 where
   pub left : WrittenScan
+  pub join : Option WrittenJoin
   pub sink : WrittenSink
   pub options : RunOptions
 
@@ -78,6 +89,16 @@ scan_written scan = record {
   filter = option_map pred_tree scan.filter;
 }
 
+-- how a join is written
+abbrev pub join_written : JoinPart → WrittenJoin
+join_written join = record {
+  right = scan_written join.right;
+  left_keys = join.left_keys;
+  right_keys = join.right_keys;
+  args = join.args;
+  how = join.how;
+}
+
 -- how the format of a sink is written
 abbrev pub sink_written : SinkFormat → WrittenSink
 sink_written NdJson = WrittenNdJson
@@ -86,6 +107,7 @@ sink_written NdJson = WrittenNdJson
 abbrev pub query_written : QueryParts → RunOptions → WrittenQuery
 query_written query options = record {
   left = scan_written query.left;
+  join = option_map join_written query.join;
   sink = sink_written query.sink.format;
   options = options;
 }

@@ -4,6 +4,7 @@
 #![tactic(auto)]
 
 mod csv;
+mod join;
 mod lists;
 mod make;
 mod options;

@@ -1,13 +1,14 @@
 //! A query as its text has it, before its flaws are looked for.
-ghost use Rattle.std.specs.Prelude.{Some, None, codes, IfOk, IfErr, IfSome, IsNone};
+ghost use Rattle.std.specs.Prelude.{Some, None, codes, option_map, IfOk, IfErr, IfSome, IsNone};
 ghost use Rattle.serde_json.specs.View.{view};
 ghost use Rattle.morsel_query.specs.RunOptions.{RunOptions, standard_options};
-ghost use Rattle.morsel_query_text.specs.Trees.{IsAtKey};
+ghost use Rattle.morsel_query_text.specs.Trees.{IsAtKey, SomeOf};
 ghost use Rattle.morsel_query_text.specs.Written.{WrittenSink, sink_written};
-ghost use Rattle.morsel_query_text.specs.QueryTexts.{QueryOf, SinkOf, OptionsOf};
-ghost use Rattle.morsel_query_text.specs.Borrowed.{query_of_text, numbers_of};
+ghost use Rattle.morsel_query_text.specs.QueryTexts.{QueryOf, JoinOf, SinkOf, OptionsOf};
+ghost use Rattle.morsel_query_text.specs.Borrowed.{query_of_text, join_of_text, numbers_of};
 ghost use Rattle.morsel_query_text.specs.Reads.{RefusedBy};
 
+use crate::join::{JoinText, read_join};
 use crate::options::OptionNumbers;
 use crate::scan::{ScanText, read_scan};
 use crate::trees::{has_only_keys, text_at};
@@ -20,12 +21,13 @@ use std::alloc::Global;
 #[derive(Debug, Drop)]
 pub struct QueryText<'t> {
     pub left: ScanText<'t>,
+    pub join: Option<JoinText<'t>>,
     pub sink: SinkFormat,
     pub options: OptionNumbers,
 }
 
 /// The keys of a query.
-const KEYS: [&str; 3] = ["left", "sink", "options"];
+const KEYS: [&str; 4] = ["left", "join", "sink", "options"];
 
 /// The query that a tree is.
 pub fn read_query(alloc: Global, tree: &Value) -> Result<QueryText<'_>, Fault>
@@ -45,11 +47,24 @@ pub fn read_query(alloc: Global, tree: &Value) -> Result<QueryText<'_>, Fault>
         return Err(Fault::QueryText);
     };
     let left = read_scan(alloc, left)?;
+    let join = join_at(alloc, tree)?;
     Ok(QueryText {
         left,
+        join,
         sink,
         options,
     })
+}
+
+/// The join of a query; none where the key is absent.
+fn join_at(alloc: Global, tree: &Value) -> Result<Option<JoinText<'_>>, Fault>
+    ensures ok { IfOk result (λ join. IsAtKey (codes "join") (SomeOf JoinOf) (Some None) (view tree.now) (option_map join_of_text join)) }
+    ensures refused { IfErr result (RefusedBy (IsAtKey (codes "join") (SomeOf JoinOf) (Some None) (view tree.now))) }
+{
+    match tree.get("join") {
+        Some(found) => Ok(Some(read_join(alloc, found)?)),
+        None => Ok(None),
+    }
 }
 
 /// The sink of a query.

@@ -1,8 +1,9 @@
 //! Queries made by hand: at the edges of their numbers and past them.
 use morsel_frame::Schema;
 use morsel_grammar::CsvOptions;
+use morsel_join::{JoinArgs, JoinType, MaintainOrderJoin};
 use morsel_meaning::{ColType, Fault, Field, Name, Why};
-use morsel_query::Query;
+use morsel_query::{JoinHow, JoinSpec, Query};
 use morsel_scan::{FileScanOptions, ScanFormat, ScanSpec};
 use morsel_sink::{SinkFormat, SinkSpec};
 use std::alloc::Global;
@@ -72,11 +73,62 @@ fn flaw_of(
         name: Name::new(alloc, sink)?,
         format: SinkFormat::NdJson,
     };
-    match Query::new(left, sink) {
+    why_of(Query::new(left, None, sink))
+}
+
+/// The flaw for which a query is refused, if it is.
+fn why_of(made: Result<Query, Fault>) -> Result<Option<Why>, Fault> {
+    match made {
         Ok(_) => Ok(None),
         Err(Fault::InvalidQuery { why }) => Ok(Some(why)),
         Err(fault) => Err(fault),
     }
+}
+
+/// These names.
+fn names_of(alloc: Global, texts: &[&str]) -> Result<Vec<Name>, Fault> {
+    let mut names = Vec::new(alloc);
+    for text in texts {
+        names.push(Name::new(alloc, text)?)?;
+    }
+    Ok(names)
+}
+
+/// A join with one file of so many columns on these keys.
+fn join(
+    alloc: Global,
+    columns: usize,
+    left: &[&str],
+    right: &[&str],
+) -> Result<JoinSpec, Fault> {
+    Ok(JoinSpec {
+        right: scan(alloc, 1, columns)?,
+        left_keys: names_of(alloc, left)?,
+        right_keys: names_of(alloc, right)?,
+        args: JoinArgs {
+            how: JoinType::Inner,
+            maintain_order: MaintainOrderJoin::None,
+            join_nulls: false,
+            coalesce: true,
+            suffix: Name::new(alloc, "_right")?,
+        },
+        how: JoinHow::Memory,
+    })
+}
+
+/// The flaw for which a query with a join on these keys is refused, if it is.
+fn flaw_of_join(
+    alloc: Global,
+    columns: usize,
+    left: &[&str],
+    right: &[&str],
+) -> Result<Option<Why>, Fault> {
+    let join = join(alloc, columns, left, right)?;
+    let sink = SinkSpec {
+        name: Name::new(alloc, "o")?,
+        format: SinkFormat::NdJson,
+    };
+    why_of(Query::new(scan(alloc, 1, 2)?, Some(join), sink))
 }
 
 #[test]
@@ -104,5 +156,18 @@ fn a_sink_is_no_source(rt: HostRuntime) -> Result<(), Fail> {
         flaw_of(rt.alloc(), 2, 1, "a.csv")?,
         Some(Why::SinkIsSource)
     );
+    Ok(())
+}
+
+#[test]
+fn a_join_has_as_many_left_keys_as_right_ones_each_once(rt: HostRuntime) -> Result<(), Fail> {
+    let alloc = rt.alloc();
+    assert_eq!(rt; flaw_of_join(alloc, 2, &["c0"], &["c1"])?, None);
+    assert_eq!(rt; flaw_of_join(alloc, 2, &["c0", "c1"], &["c1", "c0"])?, None);
+    assert_eq!(rt; flaw_of_join(alloc, 2, &[], &[])?, Some(Why::NoKeys));
+    assert_eq!(rt; flaw_of_join(alloc, 2, &["c0"], &[])?, Some(Why::UnequalKeys));
+    assert_eq!(rt; flaw_of_join(alloc, 2, &["c0", "c0"], &["c0", "c1"])?, Some(Why::RepeatedKey));
+    assert_eq!(rt; flaw_of_join(alloc, 2, &["c0", "c1"], &["c1", "c1"])?, Some(Why::RepeatedKey));
+    assert_eq!(rt; flaw_of_join(alloc, 0, &["c0"], &["c0"])?, Some(Why::NoColumn));
     Ok(())
 }

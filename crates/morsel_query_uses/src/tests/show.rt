@@ -2,7 +2,7 @@
 use morsel_expr::{Pred, PredNode, Rhs};
 use morsel_grammar::CsvOptions;
 use morsel_meaning::{Fault, Field, Name, Value};
-use morsel_query::{Options, Query};
+use morsel_query::{JoinSpec, Options, Query};
 use morsel_scan::{FileScanOptions, RowIndex, ScanFormat, ScanSpec};
 use morsel_sink::SinkSpec;
 use std::alloc::Global;
@@ -149,6 +149,28 @@ pub fn show_scan(text: &mut String, scan: &ScanSpec) -> Result<(), Fault> {
     show_filter(text, &scan.filter)
 }
 
+/// A join, where there is one.
+fn show_join(text: &mut String, join: &Option<JoinSpec>) -> Result<(), Fault> {
+    let Some(join) = join else {
+        return Ok(());
+    };
+    let kind = join.args.how;
+    let order = join.args.maintain_order;
+    let nulls = join.args.join_nulls;
+    let coalesce = join.args.coalesce;
+    let suffix = &join.args.suffix;
+    let how = join.how;
+    write!(
+        text,
+        "join {kind:?} {order:?} nulls {nulls} coalesce {coalesce} suffix <{suffix}> {how:?} on "
+    )?;
+    show_names(text, &join.left_keys)?;
+    text.push_str(" and ")?;
+    show_names(text, &join.right_keys)?;
+    text.push_str("\n")?;
+    show_scan(text, &join.right)
+}
+
 /// A sink.
 pub fn show_sink(text: &mut String, sink: &SinkSpec) -> Result<(), Fault> {
     let SinkSpec { name, format } = sink;
@@ -160,6 +182,7 @@ pub fn show_sink(text: &mut String, sink: &SinkSpec) -> Result<(), Fault> {
 pub fn is_shown(rt: &impl Abort, alloc: Global, query: &Query, wanted: &str) {
     let mut found = String::new(alloc);
     show_scan(&mut found, query.left()).expect(rt, "memory");
+    show_join(&mut found, query.join()).expect(rt, "memory");
     show_sink(&mut found, query.sink()).expect(rt, "memory");
     assert_eq!(rt; found.as_str(), wanted);
     drop(found);

@@ -89,3 +89,56 @@ fn what_a_text_says_is_read(rt: HostRuntime) {
     let numbers = [8, 1000, 4096, 2, 3, 5];
     is_read(&rt, rt.alloc(), WHOLE, WHOLE_SHOWN, numbers, u64::MAX);
 }
+
+/// A join that leaves every default as it is.
+const JOIN: &str =
+    r#"{"left":{"format":"csv","files":["a.csv"],"schema":[["k","int"]]},"join":{"right":{"format":"csv","files":["b.csv"],"schema":[["j","int"]]},"on":[["k","j"]]},"sink":{"format":"ndjson"}}"#;
+
+/// Pairs alone, in any order, nulls that are equal to nothing, and one column of each pair of keys.
+const JOIN_SHOWN: &str = "files(a.csv|) schema(k Int|)
+separator 44 quote Some(34) eol 10 comment none header true null <> ignores false
+columns() slice None index none path none lacking false
+filter none
+join Inner None nulls false coalesce true suffix <_right> Hash on k| and j|
+files(b.csv|) schema(j Int|)
+separator 44 quote Some(34) eol 10 comment none header true null <> ignores false
+columns() slice None index none path none lacking false
+filter none
+sink <out.ndjson> NdJson
+";
+
+#[test]
+fn what_a_join_does_not_say_is_the_default(rt: HostRuntime) {
+    let numbers = [4, 100_000, 65_536, 4, 4, 16_777_216];
+    is_read(&rt, rt.alloc(), JOIN, JOIN_SHOWN, numbers, 0);
+}
+
+/// A join that says all that a join can say.
+const WHOLE_JOIN: &str = r#"{
+"left":{"format":"csv","files":["a.csv"],"schema":[["k","int"],["v","text"],["d","bool"]],"path":"file"},
+"join":{
+  "right":{"format":"csv","files":["b.csv","c.csv"],"schema":[["j","int"],["v","text"]],"csv":{"separator":";"},"slice":[0,9],"filter":["notnull","j"]},
+  "on":[["v","v"],["k","j"]],
+  "kind":"full","order":"right_left","nulls":true,"coalesce":false,"suffix":"2","how":"hash"
+},
+"sink":{"format":"ndjson"}
+}"#;
+
+/// The same, part by part.
+const WHOLE_JOIN_SHOWN: &str = "files(a.csv|) schema(k Int|v Text|d Bool|)
+separator 44 quote Some(34) eol 10 comment none header true null <> ignores false
+columns() slice None index none path <file> lacking false
+filter none
+join Full RightLeft nulls true coalesce false suffix <2> Hash on v|k| and v|j|
+files(b.csv|c.csv|) schema(j Int|v Text|)
+separator 59 quote Some(34) eol 10 comment none header true null <> ignores false
+columns() slice Some((0, 9)) index none path none lacking false
+filter NotNull j|
+sink <out.ndjson> NdJson
+";
+
+#[test]
+fn what_a_join_says_is_read(rt: HostRuntime) {
+    let numbers = [4, 100_000, 65_536, 4, 4, 16_777_216];
+    is_read(&rt, rt.alloc(), WHOLE_JOIN, WHOLE_JOIN_SHOWN, numbers, 0);
+}
