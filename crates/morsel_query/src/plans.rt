@@ -35,13 +35,17 @@ pub struct JoinPlan {
 ///
 /// For a scan of CSV files these are the faults of `plan_scan`, and then `NegativeSlice` where its slice counts from the end. Those
 /// of the left side come before those of the right side, and these before those of the join, which are the faults of
-/// `JoinRules::new`.
+/// `JoinRules::new`. A query with a join that has none of them is `QueryText`, since it cannot be run yet.
 pub fn plan(alloc: Global, query: &Query) -> Result<QueryPlan, Fault>
     ensures ok { IfOk result (IsPlan query.now) }
     ensures refused { Refuses (query_fault query.now) result }
 {
     let left = plan_side(alloc, query.left())?;
     let join = plan_join_if(alloc, &left.output, query.join())?;
+    // No run finds the rows of a join yet.
+    if join.is_some() {
+        return Err(Fault::QueryText);
+    }
     Ok(QueryPlan { left, join })
 }
 
