@@ -1,6 +1,6 @@
 -- The parts of a run, put together.
 use Rattle.std.proofs.Common.{◌≡◌, ℕ, inl, inr, ap, sym, subst, refl, ◌∙◌, append-nil, arith}
-use Rattle.std.specs.Prelude.{ℤ, pos, negsuc, ◌<◌, Option, Some, None, Result, Err, List, [], ◌∷◌, length}
+use Rattle.std.specs.Prelude.{ℤ, pos, negsuc, ◌<◌, Option, Some, None, Result, Err, List, [], ◌∷◌, ◌++◌, length}
 use Rattle.morsel_meaning.specs.declared.fault.Fault.{Fault}
 use Rattle.morsel_meaning.specs.declared.fault.Fault.TheVariants as faults
 use Rattle.morsel_outside.specs.declared.io.FileNo.{FileNo}
@@ -19,10 +19,11 @@ use Rattle.morsel_plan.specs.LineRuns.{WritesOrNot}
 use Rattle.morsel_frame.specs.Refusals.{first_fault}
 use Rattle.morsel_sink.specs.declared.spec.SinkSpec.{SinkSpec}
 use Rattle.morsel_query.specs.RunOptions.{RunOptions}
-use Rattle.morsel_query.specs.Queries.{FileFormat, CsvFiles, QueryParts, file_format, file_scan, query_parts, fields_of_format, scan_over, scan_asked}
-use Rattle.morsel_query.specs.QueryFlaws.{sources_of, IsSound}
-use Rattle.morsel_query.specs.Plans.{slice_fault, side_fault, query_fault}
+use Rattle.morsel_query.specs.Queries.{FileFormat, CsvFiles, JoinPart, QueryParts, file_format, file_scan, query_parts, fields_of_format, scan_over, scan_asked}
+use Rattle.morsel_query.specs.QueryFlaws.{right_sides, sources_of_sides, sources_of, IsSound}
+use Rattle.morsel_query.specs.Plans.{slice_fault, side_fault, fault_by, query_fault}
 use Rattle.morsel_query.specs.Meanings.{dialect_of, csv_scan}
+use Rattle.morsel_query.proofs.PlanLemmas.{no_join}
 use Rattle.morsel_engine.specs.Stages.{HasOpenedAll, bytes_bound, OpensSources, MakesSink, ScansFiles, AreOpenIn, IsPlannedScan}
 use Rattle.morsel_engine.specs.Runs.{Runs}
 use Rattle.morsel_engine.proofs.OpenLemmas.{length_numbers}
@@ -65,18 +66,26 @@ counts (Some (negsuc n, len)) is = absurd (cc)
 
 -- the parts of a query that has a plan
 pub planned_scan : (query : QueryParts) → query_fault query ≡ None → IsPlannedScan query.left
-planned_scan query is = by query.left.format is
+planned_scan query is = by query.left.format (left_alone query.join (no_join query is) is)
   where
     no_first : (first later : Option Fault) → first_fault first later ≡ None → (first ≡ None) × (later ≡ None)
     no_first None later is = (refl, is)
     no_first (Some fault) later is = absurd (cc)
 
+    left_alone : (join : Option JoinPart) → join ≡ None → fault_by query.left join ≡ None → side_fault query.left.format (scan_asked query.left) ≡ None
+    left_alone None none is = is
+    left_alone (Some join) none is = absurd (cc)
+
     by : (f : FileFormat) → side_fault f (scan_asked query.left) ≡ None → IsPlannedScan query.left
     by (CsvFiles fields options) is = let both = no_first (scan_flaw (scan_asked query.left)) (slice_fault query.left.asked.slice) is in record { flawless = both.0; from_first = both.1 }
 
 -- the sources of a scan alone
-pub sources_are : (query : QueryParts) → sources_of query ≡ query.left.sources
-sources_are query = append-nil query.left.sources
+pub sources_are : (query : QueryParts) → query.join ≡ None → sources_of query ≡ query.left.sources
+sources_are query none = by query.join none
+  where
+    by : (join : Option JoinPart) → join ≡ None → query.left.sources ++ sources_of_sides (right_sides join) ≡ query.left.sources
+    by None is = append-nil query.left.sources
+    by (Some join) is = absurd (cc)
 
 -- opening failed
 pub runs_not_opened : (old new : Outside) (query : QueryParts) (options : RunOptions) (fault : Fault) → query_fault query ≡ None → OpensSources old (sources_of query) (Err fault) new
@@ -112,25 +121,26 @@ runs_not_made old now new query options numbers files faults.QueryText planned o
 runs_not_made old now new query options numbers files faults.Usage planned opened h = absurd h
 
 -- a query's sources, which were opened
-opened_of : (old now : Outside) (query : QueryParts) (numbers : List FileNo) (files : List (List ℕ)) → HasOpenedAll old query.left.sources numbers files now → HasOpenedAll old (sources_of query) numbers files now
-opened_of old now query numbers files opened = subst (λ (names : List (List ℕ)). HasOpenedAll old names numbers files now) (sym (sources_are query)) opened
+opened_of : (old now : Outside) (query : QueryParts) (numbers : List FileNo) (files : List (List ℕ)) → query.join ≡ None → HasOpenedAll old query.left.sources numbers files now
+    → HasOpenedAll old (sources_of query) numbers files now
+opened_of old now query numbers files none opened = subst (λ (names : List (List ℕ)). HasOpenedAll old names numbers files now) (sym (sources_are query none)) opened
 
 -- a run whose sources are open and whose sink is made
 pub runs_parts : (old between now new : Outside) (left : ScanSpec) (sink : SinkSpec) (options : RunOptions) (numbers : List FileNo) (files : List (List ℕ)) (result : Result ℕ Fault)
-    → IsSound (query_parts left sink) → query_fault (query_parts left sink) ≡ None → HasOpenedAll old left.sources.items numbers files between → Does between (Making sink.name ∷ []) now
-    → ScansFiles now (csv_scan (file_scan left)) left.sources.items numbers options result new → Runs old (query_parts left sink) options result new
+    → IsSound (query_parts left None sink) → query_fault (query_parts left None sink) ≡ None → HasOpenedAll old left.sources.items numbers files between → Does between (Making sink.name ∷ []) now
+    → ScansFiles now (csv_scan (file_scan left)) left.sources.items numbers options result new → Runs old (query_parts left None sink) options result new
 runs_parts old between now new left sink options numbers files result sound planned opened made scans =
-    let query = query_parts left sink in
-    let start = begun old between now query numbers files (opened_of old between query numbers files opened) made in
+    let query = query_parts left None sink in
+    let start = begun old between now query numbers files (opened_of old between query numbers files refl opened) made in
     let some = sound.each.0.some_source in let all = opened.all in
     runs_scanned sink.format old (file_scan left) sink.name options files now result new planned (counts left.file_options.slice (planned_scan query planned).from_first)
     (omega (arith, some, all)) (sym opened.all) start
     (subst (λ (xs : List FileNo). ScansFiles now (csv_scan (file_scan left)) left.sources.items xs options result new) opened.numbers_are scans)
 
 -- the numbers of opened sources
-pub opened_numbers : (old between now : Outside) (query : QueryParts) (numbers : List FileNo) (files : List (List ℕ)) → HasOpenedAll old query.left.sources numbers files between
+pub opened_numbers : (old between now : Outside) (query : QueryParts) (numbers : List FileNo) (files : List (List ℕ)) → query.join ≡ None → HasOpenedAll old query.left.sources numbers files between
     → Does between (Making query.sink.name ∷ []) now → (length numbers ≡ length query.left.sources) × AreOpenIn now numbers
-opened_numbers old between now query numbers files opened made = (
+opened_numbers old between now query numbers files none opened made = (
   ap length opened.numbers_are ∙ length_numbers (length old.sizes) (length files) ∙ opened.all,
-  subst (AreOpenIn now) (sym opened.numbers_are) (are_open_in old now files (begun old between now query numbers files (opened_of old between query numbers files opened) made).sizes),
+  subst (AreOpenIn now) (sym opened.numbers_are) (are_open_in old now files (begun old between now query numbers files (opened_of old between query numbers files none opened) made).sizes),
 )

@@ -80,13 +80,13 @@ pub record Wrote (old : Outside) (left : FileScan) (name : List ℕ) (options : 
   pub from_first : CountsFromFirst left.asked.slice
   pub one_each : length left.sources ≡ length files
   pub some : 0 < length files
-  pub begun : Begun old (record { left = left; sink = record { name = name; format = formats.NdJson } }) files now
+  pub begun : Begun old (record { left = left; join = None; sink = record { name = name; format = formats.NdJson } }) files now
   pub bound : 0 < bytes_bound options
   pub w : WritesScan (csv_scan left) (reader_of options old left files) (bytes_bound options) now result new
 
 -- the query
 abbrev pub into_ndjson : FileScan → List ℕ → QueryParts
-into_ndjson left name = record { left = left; sink = record { name = name; format = formats.NdJson } }
+into_ndjson left name = record { left = left; join = None; sink = record { name = name; format = formats.NdJson } }
 
 module _ (old : Outside) (left : FileScan) (name : List ℕ) (options : RunOptions) (files : List (List ℕ)) (now : Outside) (result : Result ℕ Fault) (new : Outside)
     (wrote : Wrote old left name options files now result new) where
@@ -315,7 +315,7 @@ module _ (old : Outside) (left : FileScan) (name : List ℕ) (options : RunOptio
 
 -- a run that made its sink, whatever follows
 pub runs_scanned : (format : SinkFormat) (old : Outside) (left : FileScan) (name : List ℕ) (options : RunOptions) (files : List (List ℕ)) (now : Outside) (result : Result ℕ Fault) (new : Outside)
-    → (let query : QueryParts = record { left = left; sink = record { name = name; format = format } } in
+    → (let query : QueryParts = record { left = left; join = None; sink = record { name = name; format = format } } in
     query_fault query ≡ None → CountsFromFirst left.asked.slice → 0 < length files → length left.sources ≡ length files → Begun old query files now
     → ScansFiles now (csv_scan left) left.sources (file_numbers (length old.sizes) (length files)) options result new → Runs old query options result new)
 runs_scanned formats.NdJson old left name options files now result new planned from some one_each begun (inl (is, same)) =

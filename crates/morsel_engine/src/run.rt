@@ -57,7 +57,10 @@ pub fn run_pipelines<H: Io, G: Gate, Y: Ledger>(
         Ok(plan) => plan,
         Err(refused) => return Err(refused),
     };
-    let (left, sink) = query.into_parts();
+    let (left, join, sink) = query.into_parts();
+    if join.is_some() {
+        unreachable!()
+    }
     run_parts(
         alloc,
         io,
@@ -83,12 +86,12 @@ fn run_parts<H: Io, G: Gate, Y: Ledger>(
     gate: &G,
     steps: &mut Steps<Y>,
 ) -> Result<u64, Fault>
-    requires sound { IsSound (query_parts left sink) }
-    requires planned { query_fault (query_parts left sink) ≡ None }
+    requires sound { IsSound (query_parts left None sink) }
+    requires planned { query_fault (query_parts left None sink) ≡ None }
     requires pipelines { (1 ≤ pipelines) × (pipelines ≤ 32768) }
-    requires columns { columns ≡ output_of (planned (query_parts left sink)) }
-    ensures runs { Runs (H.seen io.old) (query_parts left sink) options.now result (H.seen io.new) }
-    ensures sweeps { SweepsWithin (H.seen io.old) (query_parts left sink) options.now steps.old (H.seen io.new) steps.new }
+    requires columns { columns ≡ output_of (planned (query_parts left None sink)) }
+    ensures runs { Runs (H.seen io.old) (query_parts left None sink) options.now result (H.seen io.new) }
+    ensures sweeps { SweepsWithin (H.seen io.old) (query_parts left None sink) options.now steps.old (H.seen io.new) steps.new }
 {
     let files = match open_sources(alloc, io, &left.sources) {
         Ok(files) => files,

@@ -19,12 +19,14 @@ use Rattle.morsel_scan.specs.ScanRows.{Placed, SourceRows, whole_row, output_row
 use Rattle.morsel_scan.specs.ScanRows.{placed, scan_rows}
 use Rattle.morsel_scan.specs.CsvScans.{csv_source, csv_sources, csv_scan_rows}
 use Rattle.morsel_scan.specs.ScanFlaws.{choice_flaw, filter_flaw}
-use Rattle.morsel_query.specs.Queries.{FileFormat, CsvFiles, FileScan, QueryParts}
+use Rattle.morsel_sink.specs.declared.spec.SinkSpec.{SinkSpec}
+use Rattle.morsel_query.specs.Queries.{FileFormat, CsvFiles, FileScan, JoinPart, QueryParts}
 use Rattle.morsel_query.specs.Plans.{slice_fault}
 use Rattle.morsel_query.specs.RunOptions.{RunOptions}
 use Rattle.morsel_query.specs.Meanings.{IsValid}
+use Rattle.morsel_query.proofs.PlanLemmas.{no_join}
 use Rattle.morsel_query_text.specs.Predicates.{pred_tree}
-use Rattle.morsel_query_text.specs.Written.{WrittenScan, WrittenQuery, csv_written, format_written, scan_written, query_written}
+use Rattle.morsel_query_text.specs.Written.{WrittenScan, WrittenQuery, csv_written, format_written, scan_written, join_written, query_written}
 use Rattle.morsel_query_text.proofs.AlikeLemmas.{one_predicate}
 
 -- two filters say the same of each row, have the same flaws, and speak of the same columns
@@ -100,9 +102,13 @@ rows-alike fields asked options a b names files alike =
 abbrev files_with : List (List ℕ) → FileFormat → FileOptions → Option PredNode → FileScan
 files_with sources format asked filter = record { sources = sources; format = format; asked = asked; filter = filter }
 
-valid_with : (query other : QueryParts) (sources : List (List ℕ)) (format : FileFormat) (asked : FileOptions) (a b : Option PredNode) (files : List (List ℕ)) → FilterAlike a b
-    → IsValid (record query { left = files_with sources format asked a }) files → IsValid (record other { left = files_with sources format asked b }) files
-valid_with query other sources (CsvFiles fields options) asked a b files alike valid = record {
+-- a query of one scan
+abbrev scan_into : FileScan → SinkSpec → QueryParts
+scan_into left sink = record { left = left; join = None; sink = sink }
+
+valid_with : (sink other : SinkSpec) (sources : List (List ℕ)) (format : FileFormat) (asked : FileOptions) (a b : Option PredNode) (files : List (List ℕ)) → FilterAlike a b
+    → IsValid (scan_into (files_with sources format asked a) sink) files → IsValid (scan_into (files_with sources format asked b) other) files
+valid_with sink other sources (CsvFiles fields options) asked a b files alike valid = record {
   planned = sym (ap (λ (flaw : Option Fault). first_fault (first_fault (repeat_fault (whole_fields (scan_with fields asked a))) (first_fault (choice_flaw fields asked.columns) flaw)) (slice_fault asked.slice))
       (alike.flaws (whole_fields (scan_with fields asked a)))) ∙ valid.planned;
   of_format = valid.of_format;
@@ -125,13 +131,27 @@ format_alike (CsvFiles fields options) (CsvFiles others more) is =
 asked_alike : (a b : FileScan) → scan_written a ≡ scan_written b → a.asked ≡ b.asked
 asked_alike a b is = grind (arith, common_steps, is)
 
--- queries that are written alike are valid over the same files
+-- scans that are written alike are valid over the same files
+scans_alike : (a b : FileScan) (sink other : SinkSpec) (files : List (List ℕ)) → scan_written a ≡ scan_written b → IsValid (scan_into a sink) files → IsValid (scan_into b other) files
+scans_alike a b sink other files left valid =
+    subst (λ (asked : FileOptions). IsValid (scan_into (files_with b.sources b.format asked b.filter) other) files) (asked_alike a b left)
+    (subst (λ (format : FileFormat). IsValid (scan_into (files_with b.sources format a.asked b.filter) other) files) (format_alike a.format b.format (ap (λ (w : WrittenScan). w.format) left))
+    (subst (λ (sources : List (List ℕ)). IsValid (scan_into (files_with sources a.format a.asked b.filter) other) files) (ap (λ (w : WrittenScan). w.files) left)
+    (valid_with sink other a.sources a.format a.asked a.filter b.filter files (filter_alike a.filter b.filter (ap (λ (w : WrittenScan). w.filter) left)) valid)))
+
+-- queries that are written alike are valid over the same files: both have no join, since one that has a plan has none
 pub valid_alike : (a b : QueryParts) (options others : RunOptions) (files : List (List ℕ)) → query_written a options ≡ query_written b others → IsValid a files → IsValid b files
-valid_alike a b options others files is valid =
-    subst (λ (asked : FileOptions). IsValid (record b { left = files_with b.left.sources b.left.format asked b.left.filter }) files) (asked_alike a.left b.left left)
-    (subst (λ (format : FileFormat). IsValid (record b { left = files_with b.left.sources format a.left.asked b.left.filter }) files) (format_alike a.left.format b.left.format (ap (λ (w : WrittenScan). w.format) left))
-    (subst (λ (sources : List (List ℕ)). IsValid (record b { left = files_with sources a.left.format a.left.asked b.left.filter }) files) (ap (λ (w : WrittenScan). w.files) left)
-    (valid_with a b a.left.sources a.left.format a.left.asked a.left.filter b.left.filter files (filter_alike a.left.filter b.left.filter (ap (λ (w : WrittenScan). w.filter) left)) valid)))
+valid_alike a b options others files is valid = by a.join b.join (no_join a valid.planned) joins refl refl
   where
     left : scan_written a.left ≡ scan_written b.left
     left = ap (λ (w : WrittenQuery). w.left) is
+
+    joins : option_map join_written a.join ≡ option_map join_written b.join
+    joins = ap (λ (w : WrittenQuery). w.join) is
+
+    by : (first second : Option JoinPart) → first ≡ None → option_map join_written first ≡ option_map join_written second → a.join ≡ first → b.join ≡ second → IsValid b files
+    by (Some join) second none same of_first of_second = absurd (cc)
+    by None (Some join) none same of_first of_second = absurd (cc)
+    by None None none same of_first of_second =
+        subst (λ (join : Option JoinPart). IsValid (record b { join = join }) files) (sym of_second)
+        (scans_alike a.left b.left a.sink b.sink files left (subst (λ (join : Option JoinPart). IsValid (record a { join = join }) files) of_first valid))

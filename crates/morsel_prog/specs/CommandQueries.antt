@@ -26,6 +26,7 @@ scan_parts file schema out = record {
     asked = record { slice = None; columns = []; row_index = None; path = None; allow_missing_columns = false };
     filter = None;
   };
+  join = None;
   sink = record { name = out; format = NdJson };
 }
 
