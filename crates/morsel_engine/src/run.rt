@@ -57,10 +57,7 @@ pub fn run_pipelines<H: Io, G: Gate, Y: Ledger>(
         Ok(plan) => plan,
         Err(refused) => return Err(refused),
     };
-    let (left, join, sink) = query.into_parts();
-    if join.is_some() {
-        unreachable!()
-    }
+    let (left, sink) = query.into_scan();
     run_parts(
         alloc,
         io,

@@ -12,4 +12,4 @@ pub returns-in-Err-clause-sweeps : goal.returns-in-Err-clause-sweeps
 returns-in-Err-clause-sweeps g c = no_sweeps (g.H.Io.seen c.args.io.now) (g.H.Io.seen c.args.io.now) c.args.query c.args.options.now c.args.steps.now
 
 pub returns-clause-sweeps : goal.returns-clause-sweeps
-returns-clause-sweeps g c = subst (λ (query : QueryParts). SweepsWithin (g.H.Io.seen c.args.io.now) query c.args.options.now c.args.steps.now (g.H.Io.seen c.run_parts.new.io) c.run_parts.new.steps) c.into_parts-left.ensures.value c.run_parts.ensures.sweeps
+returns-clause-sweeps g c = subst (λ (query : QueryParts). SweepsWithin (g.H.Io.seen c.args.io.now) query c.args.options.now c.args.steps.now (g.H.Io.seen c.run_parts.new.io) c.run_parts.new.steps) c.into_scan-left.ensures.value c.run_parts.ensures.sweeps
