@@ -7,3 +7,4 @@ pub mod ScanLemmas
 pub mod AlikeLemmas
 pub mod JoinLemmas
 pub mod MadeLemmas
+pub mod OneLemmas

@@ -97,16 +97,37 @@ repeat_first T U (Some name) second (faults.Duplicate other) refused = refused
 repeat_first T U None second (faults.InvalidQuery why) refused = cc
 repeat_first T U (Some name) second (faults.InvalidQuery why) refused = refused
 
+-- a call that fails says the same whatever it would have given
+other_type : (T U : Type 0) (due : Option Fault) (fault : Fault) → Refuses {T = T} due (Err fault) → Refuses {T = U} due (Err fault)
+other_type T U due faults.OutOfMemory refused = tt
+other_type T U due faults.QueryText refused = refused
+other_type T U due (faults.ReadFault file) refused = refused
+other_type T U due faults.WriteFault refused = refused
+other_type T U due (faults.InvalidQuery why) refused = refused
+other_type T U due (faults.Malformed file at) refused = refused
+other_type T U due (faults.Unsupported file code) refused = refused
+other_type T U due (faults.ColumnNotFound name) refused = refused
+other_type T U due (faults.SchemaMismatch name) refused = refused
+other_type T U due (faults.Duplicate name) refused = refused
+other_type T U due (faults.ComputeError kind file at) refused = refused
+other_type T U due faults.Usage refused = refused
+
+-- where the first schema has no name twice, the second one tells why a call fails
+pub repeat_later : (T U : Type 0) (first second : Option (List ℕ)) (fault : Fault) → fault_of_repeat first ≡ None → Refuses {T = T} (fault_of_repeat second) (Err fault)
+    → Refuses {T = U} (fault_of_repeat (option_or first second)) (Err fault)
+repeat_later T U None second fault is refused = other_type T U (fault_of_repeat second) fault refused
+repeat_later T U (Some name) second fault is refused = absurd (cc)
+
 no_repeat : (told : Option (List ℕ)) → fault_of_repeat told ≡ None → told ≡ None
 no_repeat None is = refl
 no_repeat (Some name) is = cc
 
--- where it has none twice, the second one tells
-pub repeat_second : (T : Type 0) (first second : Option (List ℕ)) (result : Result T Fault) → fault_of_repeat first ≡ None → Refuses (fault_of_repeat second) result → Refuses (fault_of_repeat (option_or first second)) result
-repeat_second T None second result is refused = refused
-repeat_second T (Some name) second result is refused = cc
-
 -- two schemas without a name twice
+pub none_twice : (first second : Option (List ℕ)) → fault_of_repeat first ≡ None → fault_of_repeat second ≡ None → fault_of_repeat (option_or first second) ≡ None
+none_twice None second is later = later
+none_twice (Some name) second is later = absurd (cc)
+
+-- schemas without a name twice
 pub none_repeated : (query : WrittenQuery) → fault_of_repeat (name_repeated query) ≡ None → name_repeated query ≡ None
 none_repeated query is = no_repeat (name_repeated query) is
 
