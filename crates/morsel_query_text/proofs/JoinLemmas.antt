@@ -1,7 +1,11 @@
 -- What is no part of a join makes it none.
+use Rattle.std.proofs.Common.{◌≡◌, Option, Some, None, subst}
+use Rattle.std.specs.Prelude.{codes}
 use Rattle.serde_json.specs.Data.{Data}
+use Rattle.serde_json.specs.Find.{get}
 use Rattle.morsel_meaning.specs.declared.fault.Fault.{Fault}
 use Rattle.morsel_meaning.specs.declared.fault.Fault.TheVariants as faults
+use Rattle.morsel_query_text.specs.Trees.{FoundAs, IsAtKey, SomeOf}
 use Rattle.morsel_query_text.specs.Written.{WrittenJoin}
 use Rattle.morsel_query_text.specs.QueryTexts.{JoinOf}
 use Rattle.morsel_query_text.specs.Reads.{RefusedBy, AreJoinArgs}
@@ -22,3 +26,22 @@ refused_args tree (faults.SchemaMismatch name) refused = refused
 refused_args tree (faults.Duplicate name) refused = refused
 refused_args tree (faults.ComputeError kind file at) refused = refused
 refused_args tree faults.Usage refused = refused
+
+-- what is no join makes what has it no query's
+pub refused_join : (tree found : Data) (fault : Fault) → get (codes "join") tree ≡ Some found → RefusedBy (JoinOf found) fault → RefusedBy (IsAtKey (codes "join") (SomeOf JoinOf) (Some None) tree) fault
+refused_join tree found faults.OutOfMemory is refused = tt
+refused_join tree found faults.QueryText is refused = λ join at. none join (subst (λ (d : Option Data). FoundAs (SomeOf JoinOf) (Some None) d join) is at)
+  where
+    none : (join : Option WrittenJoin) → SomeOf JoinOf found join → ⊥
+    none None at = at
+    none (Some one) at = refused one at
+refused_join tree found (faults.ReadFault file) is refused = refused
+refused_join tree found faults.WriteFault is refused = refused
+refused_join tree found (faults.InvalidQuery why) is refused = refused
+refused_join tree found (faults.Malformed file at) is refused = refused
+refused_join tree found (faults.Unsupported file code) is refused = refused
+refused_join tree found (faults.ColumnNotFound name) is refused = refused
+refused_join tree found (faults.SchemaMismatch name) is refused = refused
+refused_join tree found (faults.Duplicate name) is refused = refused
+refused_join tree found (faults.ComputeError kind file at) is refused = refused
+refused_join tree found faults.Usage is refused = refused

@@ -57,6 +57,7 @@ pub fn read_query(alloc: Global, tree: &Value) -> Result<QueryText<'_>, Fault>
 }
 
 /// The join of a query; none where the key is absent.
+#[tactic(auto, using(crate::proofs::JoinLemmas::refused_join))]
 fn join_at(alloc: Global, tree: &Value) -> Result<Option<JoinText<'_>>, Fault>
     ensures ok { IfOk result (λ join. IsAtKey (codes "join") (SomeOf JoinOf) (Some None) (view tree.now) (option_map join_of_text join)) }
     ensures refused { IfErr result (RefusedBy (IsAtKey (codes "join") (SomeOf JoinOf) (Some None) (view tree.now))) }

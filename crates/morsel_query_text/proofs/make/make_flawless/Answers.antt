@@ -13,7 +13,7 @@ use Rattle.morsel_query_text.proofs.make.make_flawless.Goals as goal
 
 pub returns-in_err-left-clause-refused : goal.returns-in_err-left-clause-refused
 returns-in_err-left-clause-refused c =
-    let p = err_from_is_err_and c.from_residual-in_err-left.result c.from_residual-in_err-left.ensures.1 in
+    let p = err_from_is_err_and c.from_residual.result c.from_residual.ensures.1 in
     rw (p.1, p.2) (repeat_first ScanSpec (QueryParts × RunOptions) (repeat_of_format (scan_of_parts c.args.text.left).format) (repeat_of_scans (right_scans (option_map join_of_parts c.args.text.join)))
     c.in_err-left.field-0.0 c.in_err-left.ensures.refused)
 
