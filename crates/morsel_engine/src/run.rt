@@ -40,6 +40,7 @@ pub fn run_local<H: Io, G: Gate, Y: Ledger>(
 }
 
 /// Runs a query as `run_local` does, with so many units of each node in place of one. What is promised is the same for any number.
+#[tactic(auto, using(morsel_query::proofs::PlanLemmas::no_join))]
 pub fn run_pipelines<H: Io, G: Gate, Y: Ledger>(
     alloc: Global,
     io: &mut H,

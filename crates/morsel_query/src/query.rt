@@ -2,7 +2,6 @@
 ghost use Rattle.std.specs.Prelude.{◌≡◌, ◌∷◌, [], Some, None, IfOk, IfErr, OnOk, IfSome, IsNone, option_map};
 ghost use Rattle.morsel_query.specs.Queries.{file_scan, join_part, query_parts};
 ghost use Rattle.morsel_query.specs.QueryFlaws.{side_of, sides_of, keys_of, keys_of_query, AreSound, IsFlaw, IsSound, IsFlawFault};
-ghost use Rattle.morsel_query.specs.Plans.{query_fault};
 
 use crate::{JoinSpec, flaw_of_keys, flaw_of_side};
 use morsel_meaning::{Fault, Why};
@@ -78,18 +77,14 @@ impl Query {
         (self.left, self.join, self.sink)
     }
 
-    /// The scan and the sink of a query that has a plan. It has no join.
-    #[tactic(auto, using(crate::proofs::PlanLemmas::no_join))]
+    /// The scan and the sink of a query that has no join.
     pub fn into_scan(self) -> (ScanSpec, SinkSpec)
-        requires planned { query_fault self ≡ None }
+        requires alone { self.join ≡ None }
         ensures value { query_parts result.0 None result.1 ≡ self }
         ensures sound { IsSound self }
     {
-        let Query { left, join, sink } = self;
-        match join {
-            None => (left, sink),
-            Some(_) => unreachable!(),
-        }
+        let Query { left, sink, .. } = self;
+        (left, sink)
     }
 
     /// The sink.
