@@ -129,13 +129,13 @@ one_options tree a b x y =
     ∙ ap (λ (v : ℕ). options_with b.workers b.morsel_rows b.chunk_bytes v a.linearizer_buffer a.min_values_per_task a.random_state) (one _ _ a.distributor_buffer b.distributor_buffer x.distributor_buffer y.distributor_buffer)
     ∙ ap (λ (v : ℕ). options_with b.workers b.morsel_rows b.chunk_bytes b.distributor_buffer v a.min_values_per_task a.random_state) (one _ _ a.linearizer_buffer b.linearizer_buffer x.linearizer_buffer y.linearizer_buffer)
     ∙ ap (λ (v : ℕ). options_with b.workers b.morsel_rows b.chunk_bytes b.distributor_buffer b.linearizer_buffer v a.random_state)
-        (one _ _ a.min_values_per_task b.min_values_per_task x.min_values_per_task y.min_values_per_task)
+    (one _ _ a.min_values_per_task b.min_values_per_task x.min_values_per_task y.min_values_per_task)
     ∙ ap (λ (v : ℕ). options_with b.workers b.morsel_rows b.chunk_bytes b.distributor_buffer b.linearizer_buffer b.min_values_per_task v) (one _ _ a.random_state b.random_state x.random_state y.random_state)
 
 pub one_query : IsOneQuery
 one_query tree a b x y =
     ap (λ (v : WrittenScan). query_with v a.join a.sink a.options) (one_found WrittenScan ScanOf None (get (codes "left") tree) one_scan a.left b.left x.left y.left)
     ∙ ap (λ (v : Option WrittenJoin). query_with b.left v a.sink a.options)
-        (one_found (Option WrittenJoin) (SomeOf JoinOf) (Some None) (get (codes "join") tree) (one_some WrittenJoin JoinOf one_join) a.join b.join x.join y.join)
+    (one_found (Option WrittenJoin) (SomeOf JoinOf) (Some None) (get (codes "join") tree) (one_some WrittenJoin JoinOf one_join) a.join b.join x.join y.join)
     ∙ ap (λ (v : WrittenSink). query_with b.left b.join v a.options) (one_found WrittenSink SinkOf None (get (codes "sink") tree) one_sink a.sink b.sink x.sink y.sink)
     ∙ ap (λ (v : RunOptions). query_with b.left b.join b.sink v) (one_found RunOptions OptionsOf (Some standard_options) (get (codes "options") tree) one_options a.options b.options x.options y.options)

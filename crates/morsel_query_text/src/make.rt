@@ -169,10 +169,7 @@ fn readable_join(alloc: Global, join: JoinText<'_>) -> Result<JoinParts, Fault>
 }
 
 /// The same, where there is a join.
-fn readable_join_if(
-    alloc: Global,
-    join: Option<JoinText<'_>>,
-) -> Result<Option<JoinParts>, Fault>
+fn readable_join_if(alloc: Global, join: Option<JoinText<'_>>) -> Result<Option<JoinParts>, Fault>
     ensures ok { IfOk result (λ parts. option_map join_of_parts parts ≡ option_map join_of_text join.entry) }
     ensures readable { IfOk result (λ parts. IsRightReadable (option_map join_of_text join.entry)) }
     ensures refused { IfErr result (RefusesRight (option_map join_of_text join.entry)) }
@@ -184,11 +181,7 @@ fn readable_join_if(
 }
 
 /// The query of a text without flaws, whose schemas have no name twice.
-fn make_flawless(
-    alloc: Global,
-    text: FlawlessText,
-    out: &str,
-) -> Result<(Query, Options), Fault>
+fn make_flawless(alloc: Global, text: FlawlessText, out: &str) -> Result<(Query, Options), Fault>
     requires { IsFlawless (query_of_flawless text) out.now }
     ensures ok { IfOk result (λ pair. IsMadeOfParts (query_of_flawless text) out.now pair.0 pair.1) }
     ensures refused { Refuses (fault_of_repeat (name_repeated (query_of_flawless text))) result }

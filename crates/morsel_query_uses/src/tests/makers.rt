@@ -95,12 +95,7 @@ fn names_of(alloc: Global, texts: &[&str]) -> Result<Vec<Name>, Fault> {
 }
 
 /// A join with one file of so many columns on these keys.
-fn join(
-    alloc: Global,
-    columns: usize,
-    left: &[&str],
-    right: &[&str],
-) -> Result<JoinSpec, Fault> {
+fn join(alloc: Global, columns: usize, left: &[&str], right: &[&str]) -> Result<JoinSpec, Fault> {
     Ok(JoinSpec {
         right: scan(alloc, 1, columns)?,
         left_keys: names_of(alloc, left)?,
@@ -165,9 +160,21 @@ fn a_join_has_as_many_left_keys_as_right_ones_each_once(rt: HostRuntime) -> Resu
     assert_eq!(rt; flaw_of_join(alloc, 2, &["c0"], &["c1"])?, None);
     assert_eq!(rt; flaw_of_join(alloc, 2, &["c0", "c1"], &["c1", "c0"])?, None);
     assert_eq!(rt; flaw_of_join(alloc, 2, &[], &[])?, Some(Why::NoKeys));
-    assert_eq!(rt; flaw_of_join(alloc, 2, &["c0"], &[])?, Some(Why::UnequalKeys));
-    assert_eq!(rt; flaw_of_join(alloc, 2, &["c0", "c0"], &["c0", "c1"])?, Some(Why::RepeatedKey));
-    assert_eq!(rt; flaw_of_join(alloc, 2, &["c0", "c1"], &["c1", "c1"])?, Some(Why::RepeatedKey));
-    assert_eq!(rt; flaw_of_join(alloc, 0, &["c0"], &["c0"])?, Some(Why::NoColumn));
+    assert_eq!(rt;
+        flaw_of_join(alloc, 2, &["c0"], &[])?,
+        Some(Why::UnequalKeys)
+    );
+    assert_eq!(rt;
+        flaw_of_join(alloc, 2, &["c0", "c0"], &["c0", "c1"])?,
+        Some(Why::RepeatedKey)
+    );
+    assert_eq!(rt;
+        flaw_of_join(alloc, 2, &["c0", "c1"], &["c1", "c1"])?,
+        Some(Why::RepeatedKey)
+    );
+    assert_eq!(rt;
+        flaw_of_join(alloc, 0, &["c0"], &["c0"])?,
+        Some(Why::NoColumn)
+    );
     Ok(())
 }

@@ -16,7 +16,7 @@ pub fn read(alloc: Global, text: &str) -> Result<(Query, Options), Fault> {
     query_of(alloc, &tree, "out.ndjson")
 }
 
-/// The text is read as this query, whose names meet columns with types that fit, and these options.
+/// The text is read as this query and these options, and checking the query answers this, in words.
 fn is_read(
     rt: &impl Abort,
     alloc: Global,
@@ -24,11 +24,12 @@ fn is_read(
     wanted: &str,
     numbers: [u32; 6],
     random_state: u64,
+    checked: &str,
 ) {
     let (query, options) = read(alloc, text).expect(rt, "a query");
     is_shown(rt, alloc, &query, wanted);
     are_options(rt, &options, numbers, random_state);
-    is_answered(rt, alloc, check(alloc, &query), "ok");
+    is_answered(rt, alloc, check(alloc, &query), checked);
     drop(query);
 }
 
@@ -47,7 +48,7 @@ sink <out.ndjson> NdJson
 #[test]
 fn what_a_text_does_not_say_is_the_default(rt: HostRuntime) {
     let numbers = [4, 100_000, 65_536, 4, 4, 16_777_216];
-    is_read(&rt, rt.alloc(), SHORT, SHORT_SHOWN, numbers, 0);
+    is_read(&rt, rt.alloc(), SHORT, SHORT_SHOWN, numbers, 0, "ok");
 }
 
 /// A query that says all that a query can say, with names in escapes and a filter of every kind of node.
@@ -87,7 +88,7 @@ sink <out.ndjson> NdJson
 #[test]
 fn what_a_text_says_is_read(rt: HostRuntime) {
     let numbers = [8, 1000, 4096, 2, 3, 5];
-    is_read(&rt, rt.alloc(), WHOLE, WHOLE_SHOWN, numbers, u64::MAX);
+    is_read(&rt, rt.alloc(), WHOLE, WHOLE_SHOWN, numbers, u64::MAX, "ok");
 }
 
 /// A join that leaves every default as it is.
@@ -110,7 +111,8 @@ sink <out.ndjson> NdJson
 #[test]
 fn what_a_join_does_not_say_is_the_default(rt: HostRuntime) {
     let numbers = [4, 100_000, 65_536, 4, 4, 16_777_216];
-    is_read(&rt, rt.alloc(), JOIN, JOIN_SHOWN, numbers, 0);
+    // A query with a join has no plan yet.
+    is_read(&rt, rt.alloc(), JOIN, JOIN_SHOWN, numbers, 0, "query text");
 }
 
 /// A join that says all that a join can say.
@@ -140,5 +142,13 @@ sink <out.ndjson> NdJson
 #[test]
 fn what_a_join_says_is_read(rt: HostRuntime) {
     let numbers = [4, 100_000, 65_536, 4, 4, 16_777_216];
-    is_read(&rt, rt.alloc(), WHOLE_JOIN, WHOLE_JOIN_SHOWN, numbers, 0);
+    is_read(
+        &rt,
+        rt.alloc(),
+        WHOLE_JOIN,
+        WHOLE_JOIN_SHOWN,
+        numbers,
+        0,
+        "query text",
+    );
 }
