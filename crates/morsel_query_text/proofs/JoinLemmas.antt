@@ -27,21 +27,22 @@ refused_args tree (faults.Duplicate name) refused = refused
 refused_args tree (faults.ComputeError kind file at) refused = refused
 refused_args tree faults.Usage refused = refused
 
--- what is no join makes what has it no query's
+none_of_some : (found : Data) → ((join : WrittenJoin) → JoinOf found join → ⊥) → (join : Option WrittenJoin) → SomeOf JoinOf found join → ⊥
+none_of_some found none None is = is
+none_of_some found none (Some join) is = none join is
+
+-- what is no join makes the query that has it none
 pub refused_join : (tree found : Data) (fault : Fault) → get (codes "join") tree ≡ Some found → RefusedBy (JoinOf found) fault → RefusedBy (IsAtKey (codes "join") (SomeOf JoinOf) (Some None) tree) fault
-refused_join tree found faults.OutOfMemory is refused = tt
-refused_join tree found faults.QueryText is refused = λ join at. none join (subst (λ (d : Option Data). FoundAs (SomeOf JoinOf) (Some None) d join) is at)
-  where
-    none : (join : Option WrittenJoin) → SomeOf JoinOf found join → ⊥
-    none None at = at
-    none (Some one) at = refused one at
-refused_join tree found (faults.ReadFault file) is refused = refused
-refused_join tree found faults.WriteFault is refused = refused
-refused_join tree found (faults.InvalidQuery why) is refused = refused
-refused_join tree found (faults.Malformed file at) is refused = refused
-refused_join tree found (faults.Unsupported file code) is refused = refused
-refused_join tree found (faults.ColumnNotFound name) is refused = refused
-refused_join tree found (faults.SchemaMismatch name) is refused = refused
-refused_join tree found (faults.Duplicate name) is refused = refused
-refused_join tree found (faults.ComputeError kind file at) is refused = refused
-refused_join tree found faults.Usage is refused = refused
+refused_join tree found faults.OutOfMemory there refused = tt
+refused_join tree found faults.QueryText there refused =
+    λ join is. none_of_some found refused join (subst (λ (d : Option Data). FoundAs (SomeOf JoinOf) (Some None) d join) there is)
+refused_join tree found (faults.ReadFault file) there refused = refused
+refused_join tree found faults.WriteFault there refused = refused
+refused_join tree found (faults.InvalidQuery why) there refused = refused
+refused_join tree found (faults.Malformed file at) there refused = refused
+refused_join tree found (faults.Unsupported file code) there refused = refused
+refused_join tree found (faults.ColumnNotFound name) there refused = refused
+refused_join tree found (faults.SchemaMismatch name) there refused = refused
+refused_join tree found (faults.Duplicate name) there refused = refused
+refused_join tree found (faults.ComputeError kind file at) there refused = refused
+refused_join tree found faults.Usage there refused = refused
