@@ -2,7 +2,6 @@
 use Rattle.std.specs.Prelude.{◌≡◌, ◌⊎◌, ℕ, ◌-◌, ◌^◌, ◌<◌, ◌≤◌, ltb, Bool, true, false, IsOkUnless, Option, Some, None, Result, Ok, Err, List, [], ◌∷◌, ◌++◌, length, refl}
 use Rattle.std.proofs.Common.{sym, ap, subst, ◌∙◌, arith, inl, inr, append-nil}
 use Rattle.std.proofs.lemmas.Bool.{ltb-true, ltb-false}
-use Rattle.std.proofs.lemmas.Grind.{common_steps}
 use Rattle.std.proofs.lemmas.List.{append_cancel_left}
 use Rattle.serde_json.specs.Data.{Data}
 use Rattle.morsel_meaning.specs.declared.fault.Fault.{Fault}
@@ -18,6 +17,7 @@ use Rattle.morsel_query.specs.Meanings.{IsValid}
 use Rattle.morsel_query_text.specs.Written.{WrittenQuery, query_written}
 use Rattle.morsel_query_text.specs.QueryTexts.{QueryOf}
 use Rattle.morsel_query_text.specs.TextFlaws.{HasTextFlaw, name_repeated}
+use Rattle.morsel_query_text.proofs.OneLemmas.{one_query}
 use Rattle.morsel_engine.specs.Runs.{TellsBytes, NoneRises}
 use Rattle.morsel_prog.specs.Words.{Command, ScanFile, AnswerQuery}
 use Rattle.morsel_prog.specs.QueryFiles.{IsTextOf, IsQueryFile, RefusesBytesOf}
@@ -49,10 +49,6 @@ fronts (x ∷ a) (y ∷ b) c d len is =
       ap (λ z. z ∷ a) heads ∙ ap (λ zs. y ∷ zs) rest.0,
       rest.1,
     )
-
--- a tree is one query
-one_query : (tree : Data) (a b : WrittenQuery) → QueryOf tree a → QueryOf tree b → a ≡ b
-one_query tree a b first second = grind (arith, common_steps, first, second)
 
 -- bytes are the text of one query
 one_text : (bytes : List ℕ) (a b : WrittenQuery) → IsTextOf bytes a → IsTextOf bytes b → a ≡ b
