@@ -58,7 +58,7 @@ where
         ensures can_step { (id : BoardId) → L.Receiver.home from ≡ id.lane_table → HoldsTokensOf J.holds L.token_home (L.Receiver.job from) id.group_table → IfOk result (⟦<FlatUnit<L, J, M> as Stepwise<L::Board>>⟧.can_step id) }
         ensures seen { IfOk result (λ unit. ⟦<FlatUnit<L, J, M> as Stepwise<L::Board>>⟧.seen unit ≡ record { work = MakesOthers; home = L.Receiver.home from; from = L.Receiver.lane from ∷ []; to = L.Sender.lane to ∷ []; places = L.Receiver.wait_places from ++ L.Sender.wait_places to }) }
         ensures fails { IfOk result (λ unit. (fault : Fault) → ⟦<FlatUnit<L, J, M> as Stepwise<L::Board>>⟧.fails unit fault → M.may_fail (L.Receiver.job from) fault) }
-        ensures maker { IfOk result (λ unit. unit.maker ≡ maker) }
+        ensures maker { IfOk result (λ unit. (unit.maker ≡ maker) × (L.Receiver.job unit.from ≡ L.Receiver.job from)) }
         ensures out_of_memory { IsOkUnless result OutOfMemory }
     {
         Ok(FlatUnit {
@@ -173,8 +173,8 @@ where
 
     ghost gives = { λ seen finished. AreReceipts L.Receiver.receipt_home L.Receiver.receipt_lane L.Receiver.all_taken L.Sender.receipt_home L.Sender.receipt_lane L.Sender.all_sent seen finished.receipts.taken.items finished.receipts.sent.items };
 
-    // What was sent was made of what was taken, by the same maker.
-    ghost leaves = { λ unit finished. M.is_later unit.maker finished.work × M.did finished.work (loads_of L.Receiver.all_taken finished.receipts.taken.items) (loads_of L.Sender.all_sent finished.receipts.sent.items) };
+    // What was sent was made of what was taken, by the same maker, and for the same lanes.
+    ghost leaves = { λ unit finished. M.is_later unit.maker finished.work × M.joins finished.work (L.Receiver.job unit.from) (L.Sender.job unit.sending.to) × M.did finished.work (loads_of L.Receiver.all_taken finished.receipts.taken.items) (loads_of L.Sender.all_sent finished.receipts.sent.items) };
 
     ghost fails = { λ unit fault. M.may_fail (L.Receiver.job unit.from) fault };
 

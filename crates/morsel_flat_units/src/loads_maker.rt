@@ -36,7 +36,7 @@ pub trait LoadsMaker<K, J: LoadJob<K>> {
         requires takes { takes self.old (load_seen load) }
         requires free { held_token load ≡ None }
         requires none_left { left self.old ≡ [] }
-        ensures joins { (from to : J) → joins self.old from to → joins self.new from to }
+        ensures joins { (from to : J) → joins self.old from to → J.suits from (load_seen load) → joins self.new from to }
         ensures makes_for { OnOk result ((from to : J) → joins self.old from to → J.suits from (load_seen load) → makes_for self.new to) }
         ensures left { OnOk result (left self.new ≡ ends_of (load_seen load)) }
         ensures did { OnOk result ((taken made : List LoadSeen) → did self.old taken made → did self.new (taken ++ load_seen load ∷ []) made) }

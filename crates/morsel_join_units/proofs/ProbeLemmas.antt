@@ -1,6 +1,7 @@
 -- What was made of rows that are looked up.
 use Rattle.std.proofs.Common.{◌≡◌, ◌++◌, [], ◌∷◌, List, ℕ, Bool, true, false, if◌then◌else◌, Option, None, Some, refl, sym, ap, subst, ◌∙◌, append_assoc}
 use Rattle.std.specs.Arc.{arc_value}
+use Rattle.std.specs.List.{All}
 use Rattle.std.proofs.lemmas.List.{append-nil, flat_map_more}
 use Rattle.morsel_meaning.specs.Values.{Row, Table}
 use Rattle.morsel_meaning.specs.declared.value.Field.{Field}
@@ -15,7 +16,8 @@ use Rattle.morsel_join.specs.Hits.{HaveHit}
 use Rattle.morsel_join.specs.Probings.{IsProbing, LooksUp}
 use Rattle.morsel_join.specs.Sides.{KeptSide, found_by_row, rows_found}
 use Rattle.morsel_join_units.specs.RowCutters.{GivesRest, rows_of_load, rows_of_loads, stretch_of}
-use Rattle.morsel_join_units.specs.ProbeMakers.{AreToGive, DidProbe, FindsFor, FindsOf, HasGiven, IsLookedUp, stretch_left}
+use Rattle.morsel_join_units.specs.LookedUps.{AreLookedUpOf}
+use Rattle.morsel_join_units.specs.ProbeMakers.{AreToGive, DidProbe, FindsFor, FindsOf, HasGiven, IsLookedUp, IsProbeMaker, stretch_left}
 use Rattle.morsel_join_units.specs.declared.probe_maker.ProbeMaker.{ProbeMaker}
 use Rattle.morsel_join_units.specs.declared.probe_maker.Probed.{Probed}
 
@@ -28,6 +30,18 @@ found-append side (x ∷ xs) ys = ap (λ (rows : List Row). found_by_row side x 
 pub nothing-left : (probed : Option Probed) → stretch_left probed ≡ [] → probed ≡ None
 nothing-left None left = refl
 nothing-left (Some probed) left = absurd (cc)
+
+-- a maker still makes loads for the same jobs
+pub joins-later : {J : Type 0} (suits : J → LoadSeen → Type 0) (gives_rows : J → List Field → Type 0) (finds : KeptSide → J → J → Type 0) (maker later : ProbeMaker) (from to : J) → arc_value later.build ≡ arc_value maker.build → IsProbeMaker later
+    → (All (AreLookedUpOf suits from) maker.looked.items → All (AreLookedUpOf suits from) later.looked.items)
+    → IsProbeMaker maker × gives_rows from (arc_value maker.build).asked × finds (kept_side (arc_value maker.build)) from to × All (AreLookedUpOf suits from) maker.looked.items
+    → IsProbeMaker later × gives_rows from (arc_value later.build).asked × finds (kept_side (arc_value later.build)) from to × All (AreLookedUpOf suits from) later.looked.items
+joins-later suits gives_rows finds maker later from to same is all joins = (
+  is,
+  subst (λ (b : Build). gives_rows from b.asked) (sym same) joins.1,
+  subst (λ (b : Build). finds (kept_side b) from to) (sym same) joins.2,
+  all joins.3,
+)
 
 -- of a load that is looked up nothing was given
 pub finds-begun : {J : Type 0} (suits : J → LoadSeen → Type 0) (finds : KeptSide → J → J → Type 0) (build now : Build) (from to : J) (frame given : Table) (seq : ℕ) (source : SourceSeen) (stretch : Stretch) (probed : Probed) → now ≡ build → given ≡ frame → finds (kept_side build) from to

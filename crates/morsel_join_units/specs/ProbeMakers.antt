@@ -8,18 +8,19 @@ use Rattle.morsel_load.specs.declared.morsels.Stretch.{Stretch}
 use Rattle.morsel_join.specs.declared.build_side.Build.{Build}
 use Rattle.morsel_join.specs.declared.probing.Probing.{Probing}
 use Rattle.morsel_join.specs.BuildSides.{IsBuild, kept_side}
-use Rattle.morsel_join.specs.Hits.{AreMarks, HaveHit}
+use Rattle.morsel_join.specs.Hits.{HaveHit}
 use Rattle.morsel_join.specs.Probings.{IsProbing, LooksUp}
 use Rattle.morsel_join.specs.Sides.{KeptSide, rows_found}
+use Rattle.morsel_join_units.specs.LookedUps.{rows_looked_up}
 use Rattle.morsel_join_units.specs.RowCutters.{HasCut, rows_of_loads}
 use Rattle.morsel_join_units.specs.declared.probe_maker.ProbeMaker.{ProbeMaker}
 use Rattle.morsel_join_units.specs.declared.probe_maker.Probed.{Probed}
 
--- a maker has a kept side, and a mark for each of its keys
+-- a maker has a kept side, and the marks of the rows that it has looked up
 pub record IsProbeMaker (maker : ProbeMaker) : Type 0 where
   pub built : IsBuild (arc_value maker.build)
   pub some : 0 < maker.rows
-  pub marks : AreMarks (arc_value maker.build) maker.hits.seen.items
+  pub hits : HaveHit (arc_value maker.build) maker.hits.seen.items (rows_looked_up maker.looked.items)
 
 -- the rows of this frame are looked up in this kept side, and nothing was given
 pub record IsLookedUp (build : Build) (frame : Table) (probing : Probing) : Type 0 where

@@ -1,5 +1,5 @@
 //! What rows find on the kept side of a join, as loads.
-ghost use Rattle.std.specs.Prelude.{◌≡◌, ◌<◌, ◌++◌, if◌then◌else◌, [], List, None, Some, IfOk, OnOk, IsOkUnless};
+ghost use Rattle.std.specs.Prelude.{◌≡◌, ◌<◌, ◌++◌, ◌∷◌, if◌then◌else◌, [], List, None, Some, IfOk, OnOk, OnErr, IsOkUnless};
 ghost use Rattle.std.specs.Arc.{arc_value};
 ghost use Rattle.morsel_meaning.specs.declared.fault.Fault.TheVariants.{OutOfMemory};
 ghost use Rattle.morsel_meaning.specs.Values.{Row};
@@ -10,14 +10,16 @@ ghost use Rattle.morsel_join.specs.Probings.{IsProbing, LooksUp};
 ghost use Rattle.morsel_join_units.specs.RowCutters.{GivesRest, stretch_of};
 ghost use Rattle.morsel_join_units.specs.ProbeMakers.{HasGiven, IsLookedUp, IsProbeMaker};
 
+use crate::looked_up::LookedUp;
 use crate::row_cutter::RowCutter;
 use morsel_flat_units::LoadsMaker;
 use morsel_frame::Frame;
 use morsel_join::{Build, Hits, Probing};
-use morsel_load::{Load, Morsel, Stretch};
+use morsel_load::{Load, Morsel};
 use morsel_meaning::Fault;
 use morsel_rows_job::RowsJob;
 use std::alloc::Global;
+use std::snapshot::Snapshot;
 use std::sync::Arc;
 
 /// The rows of a load that are looked up, and how many of those that they find were given.
@@ -36,6 +38,8 @@ pub struct ProbeMaker {
     rows: usize,
     /// Which kept rows were asked for.
     pub hits: Hits,
+    /// The loads whose rows asked for them.
+    pub looked: Vec<LookedUp>,
     probed: Option<Probed>,
 }
 
@@ -46,7 +50,7 @@ impl ProbeMaker {
         requires some { 0 < rows }
         ensures build { IfOk result (λ maker. arc_value maker.build ≡ arc_value build) }
         ensures maker { IfOk result IsProbeMaker }
-        ensures none { IfOk result (λ maker. (maker.probed ≡ None) × HaveHit (arc_value build) maker.hits.seen.items []) }
+        ensures none { IfOk result (λ maker. (maker.probed ≡ None) × (maker.looked.items ≡ []) × HaveHit (arc_value build) maker.hits.seen.items []) }
         ensures out_of_memory { IsOkUnless result OutOfMemory }
     {
         let hits = Hits::new(alloc, &build)?;
@@ -55,19 +59,23 @@ impl ProbeMaker {
             build,
             rows,
             hits,
+            looked: Vec::new(alloc),
             probed: None,
         })
     }
 
-    /// Looks the keys of a frame's rows up.
-    fn look_up(&mut self, frame: Frame) -> Result<Probing, Fault>
+    /// Looks the keys of a frame's rows up, which are those of a load.
+    fn look_up(&mut self, frame: Frame, looked: LookedUp) -> Result<Probing, Fault>
         requires maker { IsProbeMaker self.old }
         requires none { self.old.probed ≡ None }
         requires columns { frame.schema ≡ (arc_value self.old.build).asked }
+        requires frame { looked.frame.value ≡ frame }
         ensures same { (self.new.build ≡ self.old.build) × (self.new.probed ≡ None) }
         ensures maker { IsProbeMaker self.new }
         ensures found { IfOk result (IsLookedUp (arc_value self.old.build) frame) }
         ensures hits { OnOk result ((asked : List Row) → HaveHit (arc_value self.old.build) self.old.hits.seen.items asked → HaveHit (arc_value self.old.build) self.new.hits.seen.items (asked ++ frame.rows)) }
+        ensures looked { OnOk result (self.new.looked.items ≡ self.old.looked.items ++ looked ∷ []) }
+        ensures err { OnErr result ((self.new.looked.items ≡ self.old.looked.items) × (self.new.hits ≡ self.old.hits)) }
         ensures out_of_memory { IsOkUnless result OutOfMemory }
     {
         // No scan gives so many rows at once.
@@ -75,6 +83,8 @@ impl ProbeMaker {
             return Err(Fault::OutOfMemory);
         }
         let probing = Probing::new(self.alloc, self.build.clone()?, frame)?;
+        // From here on nothing fails, so the marks are those of the loads that are told.
+        self.looked.push(looked)?;
         probing.mark(&mut self.hits);
         Ok(probing)
     }
@@ -114,7 +124,7 @@ impl Probed {
 }
 
 impl<K: Drop, J: RowsJob<K>> LoadsMaker<K, J> for ProbeMaker {
-    ghost use Rattle.std.specs.Prelude.{◌≡◌, ◌++◌, ◌∷◌, [], List, None, IfSome, IfOk, OnOk, IsOkUnless, refl};
+    ghost use Rattle.std.specs.Prelude.{◌≡◌, ◌++◌, ◌∷◌, [], All, List, None, IfSome, IfOk, OnOk, IsOkUnless, refl};
     ghost use Rattle.std.proofs.Common.{◌∙◌};
     ghost use Rattle.std.specs.Arc.{arc_value};
     ghost use Rattle.morsel_meaning.specs.declared.fault.Fault.TheVariants.{OutOfMemory};
@@ -123,9 +133,10 @@ impl<K: Drop, J: RowsJob<K>> LoadsMaker<K, J> for ProbeMaker {
     ghost use Rattle.morsel_flat_units.specs.FlatUnits.{made_ends, made_loads};
     ghost use Rattle.morsel_join.specs.BuildSides.{kept_side};
     ghost use Rattle.morsel_rows_job.specs.RowsJobs.{AreWholeRows};
+    ghost use Rattle.morsel_join_units.specs.LookedUps.{AreLookedUpOf};
     ghost use Rattle.morsel_join_units.specs.ProbeMakers.{DidProbe, FindsFor, IsProbeMaker, stretch_left};
 
-    ghost joins = { λ maker from to. IsProbeMaker maker × J.gives_rows from (arc_value maker.build).asked × J.finds (kept_side (arc_value maker.build)) from to };
+    ghost joins = { λ maker from to. IsProbeMaker maker × J.gives_rows from (arc_value maker.build).asked × J.finds (kept_side (arc_value maker.build)) from to × All (AreLookedUpOf J.suits from) maker.looked.items };
 
     ghost takes = { λ maker load. IsProbeMaker maker × AreWholeRows (arc_value maker.build).asked load };
 
@@ -143,8 +154,8 @@ impl<K: Drop, J: RowsJob<K>> LoadsMaker<K, J> for ProbeMaker {
         requires takes { IsProbeMaker self.old × AreWholeRows (arc_value self.old.build).asked (load_seen load) }
         requires free { held_token load ≡ None }
         requires none_left { stretch_left self.old.probed ≡ [] }
-        ensures joins { (from to : J) → IsProbeMaker self.old × J.gives_rows from (arc_value self.old.build).asked × J.finds (kept_side (arc_value self.old.build)) from to → IsProbeMaker self.new × J.gives_rows from (arc_value self.new.build).asked × J.finds (kept_side (arc_value self.new.build)) from to }
-        ensures makes_for { OnOk result ((from to : J) → IsProbeMaker self.old × J.gives_rows from (arc_value self.old.build).asked × J.finds (kept_side (arc_value self.old.build)) from to → J.suits from (load_seen load) → FindsFor J.suits J.finds (kept_side (arc_value self.new.build)) to self.new.probed) }
+        ensures joins { (from to : J) → IsProbeMaker self.old × J.gives_rows from (arc_value self.old.build).asked × J.finds (kept_side (arc_value self.old.build)) from to × All (AreLookedUpOf J.suits from) self.old.looked.items → J.suits from (load_seen load) → IsProbeMaker self.new × J.gives_rows from (arc_value self.new.build).asked × J.finds (kept_side (arc_value self.new.build)) from to × All (AreLookedUpOf J.suits from) self.new.looked.items }
+        ensures makes_for { OnOk result ((from to : J) → IsProbeMaker self.old × J.gives_rows from (arc_value self.old.build).asked × J.finds (kept_side (arc_value self.old.build)) from to × All (AreLookedUpOf J.suits from) self.old.looked.items → J.suits from (load_seen load) → FindsFor J.suits J.finds (kept_side (arc_value self.new.build)) to self.new.probed) }
         ensures left { OnOk result (stretch_left self.new.probed ≡ ends_of (load_seen load)) }
         ensures did { OnOk result ((taken made : List LoadSeen) → DidProbe self.old taken made → DidProbe self.new (taken ++ load_seen load ∷ []) made) }
         ensures later { arc_value self.new.build ≡ arc_value self.old.build }
@@ -153,16 +164,21 @@ impl<K: Drop, J: RowsJob<K>> LoadsMaker<K, J> for ProbeMaker {
         let Load::Morsel(morsel) = load else {
             unreachable!()
         };
-        let Stretch { from, to, .. } = morsel.stretch();
+        let stretch = morsel.stretch();
         let (frame, seq, source, _) = morsel.into_inner();
-        let probing = self.look_up(frame)?;
+        let looked = LookedUp {
+            seq,
+            stretch,
+            frame: Snapshot::of(&frame),
+        };
+        let probing = self.look_up(frame, looked)?;
         self.probed = Some(Probed {
             probing,
             cutter: RowCutter {
                 seq,
                 source,
-                from,
-                to,
+                from: stretch.from,
+                to: stretch.to,
                 given: 0,
             },
         });
@@ -170,8 +186,8 @@ impl<K: Drop, J: RowsJob<K>> LoadsMaker<K, J> for ProbeMaker {
     }
 
     fn next(&mut self) -> Result<Option<Load<K, J>>, Fault>
-        requires joined { (from : J) × (to : J) × (IsProbeMaker self.old × J.gives_rows from (arc_value self.old.build).asked × J.finds (kept_side (arc_value self.old.build)) from to) × FindsFor J.suits J.finds (kept_side (arc_value self.old.build)) to self.old.probed }
-        ensures joins { (from to : J) → IsProbeMaker self.old × J.gives_rows from (arc_value self.old.build).asked × J.finds (kept_side (arc_value self.old.build)) from to → IsProbeMaker self.new × J.gives_rows from (arc_value self.new.build).asked × J.finds (kept_side (arc_value self.new.build)) from to }
+        requires joined { (from : J) × (to : J) × (IsProbeMaker self.old × J.gives_rows from (arc_value self.old.build).asked × J.finds (kept_side (arc_value self.old.build)) from to × All (AreLookedUpOf J.suits from) self.old.looked.items) × FindsFor J.suits J.finds (kept_side (arc_value self.old.build)) to self.old.probed }
+        ensures joins { (from to : J) → IsProbeMaker self.old × J.gives_rows from (arc_value self.old.build).asked × J.finds (kept_side (arc_value self.old.build)) from to × All (AreLookedUpOf J.suits from) self.old.looked.items → IsProbeMaker self.new × J.gives_rows from (arc_value self.new.build).asked × J.finds (kept_side (arc_value self.new.build)) from to × All (AreLookedUpOf J.suits from) self.new.looked.items }
         ensures suits { IfOk result (λ made. IfSome made (λ load. (to : J) → FindsFor J.suits J.finds (kept_side (arc_value self.old.build)) to self.old.probed → J.suits to (load_seen load))) }
         ensures free { IfOk result (λ made. IfSome made (λ load. held_token load ≡ None)) }
         ensures makes_for { OnOk result ((to : J) → FindsFor J.suits J.finds (kept_side (arc_value self.old.build)) to self.old.probed → FindsFor J.suits J.finds (kept_side (arc_value self.new.build)) to self.new.probed) }

@@ -1,0 +1,3 @@
+mod BuildFacts
+mod PhaseLemmas
+mod PortLemmas

@@ -1,0 +1,10 @@
+use Rattle.std.proofs.Common.{sym, subst}
+use Rattle.morsel_scan_units.specs.LaneJobs.{LaneFor, IsUnitFault}
+use Rattle.morsel_join_tasks.proofs.line.start_unfed.Goals as goal
+
+pub unfed-requires-clause-fails : goal.unfed-requires-clause-fails
+unfed-requires-clause-fails g c fault fails =
+    let take = rw (sym c.in-Some.ensures.value) at c.requires.take in
+    let tasks = rw (sym c.in-Some.ensures.value) at c.requires.tasks in
+    subst (λ (lane : LaneFor). IsUnitFault lane fault) (sym take.1)
+    (tasks.faults fault (subst (λ (stage : g.row.S.Denot). g.S.Stage.fails stage fault) c.in_ok-local.ensures.stage fails))
