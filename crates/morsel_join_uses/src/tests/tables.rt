@@ -1,0 +1,301 @@
+//! Tables that are made of plain lists, what they are joined by, and the rows of a join as a plain list again. A function here owns two values
+//! that are dropped at most, since each is proved to be dropped at each exit.
+ghost use Rattle.std.specs.Prelude.{◌≡◌, ◌<◌, ◌^◌, length, IfOk, IfSome};
+ghost use Rattle.morsel_join.specs.Rows.{FitRules};
+
+use morsel_frame::{Cell, Column, Frame, Schema};
+use morsel_join::{JoinArgs, JoinRules, JoinType, MaintainOrderJoin, join_frames};
+use morsel_meaning::{ColType, Fault, Field, Name};
+use std::alloc::Global;
+
+/// What is asked of a join, but for the suffix.
+#[derive(Clone, Copy, Debug)]
+pub struct Asked {
+    pub how: JoinType,
+    pub order: MaintainOrderJoin,
+    pub nulls: bool,
+    pub coalesce: bool,
+}
+
+/// A row of a join: the numbers of its left and its right row, and what the columns of keys have.
+#[derive(Clone, Copy, Debug, PartialEq, Eq)]
+pub struct Found {
+    pub left: Option<usize>,
+    pub right: Option<usize>,
+    /// What the column `k` has.
+    pub key: Option<i64>,
+    /// What the column `k_right` has, and none where there is no such column.
+    pub right_key: Option<i64>,
+}
+
+/// How many things may be asked of a join.
+pub const ASKED: usize = 80;
+
+const KINDS: [JoinType; 4] = [
+    JoinType::Inner,
+    JoinType::Left,
+    JoinType::Right,
+    JoinType::Full,
+];
+
+const ORDERS: [MaintainOrderJoin; 5] = [
+    MaintainOrderJoin::None,
+    MaintainOrderJoin::Left,
+    MaintainOrderJoin::Right,
+    MaintainOrderJoin::LeftRight,
+    MaintainOrderJoin::RightLeft,
+];
+
+/// What is asked by a number: each kind with each promise, with nulls equal and not, coalesced and not.
+pub fn asked_of(number: usize) -> Asked {
+    Asked {
+        how: KINDS[number % 4],
+        order: ORDERS[number / 4 % 5],
+        nulls: number / 20 % 2 == 1,
+        coalesce: number / 40 % 2 == 1,
+    }
+}
+
+fn push_number(column: &mut Column, number: Option<i64>) -> Result<(), Fault>
+    requires { column.old.kind ≡ ColType.Int }
+    ensures { column.new.kind ≡ column.old.kind }
+{
+    match number {
+        Some(number) => column.push_int(number),
+        None => column.push_null(),
+    }
+}
+
+/// A column of numbers.
+fn number_column(alloc: Global, numbers: &[Option<i64>]) -> Result<Column, Fault> {
+    let mut column = Column::new(alloc, ColType::Int);
+    for number in numbers {
+        push_number(&mut column, *number)?;
+    }
+    Ok(column)
+}
+
+fn push_word(column: &mut Column, word: Option<&str>) -> Result<(), Fault>
+    requires { column.old.kind ≡ ColType.Text }
+    ensures { column.new.kind ≡ column.old.kind }
+{
+    match word {
+        Some(word) => column.push_text(word),
+        None => column.push_null(),
+    }
+}
+
+/// A column of texts.
+fn word_column(alloc: Global, words: &[Option<&str>]) -> Result<Column, Fault> {
+    let mut column = Column::new(alloc, ColType::Text);
+    for word in words {
+        push_word(&mut column, *word)?;
+    }
+    Ok(column)
+}
+
+/// The schema of one column.
+fn schema_of_one(alloc: Global, name: &str, kind: ColType) -> Result<Schema, Fault> {
+    let name = Name::new(alloc, name)?;
+    Schema::new(alloc, vec![in alloc; Field { name, kind }]?)
+}
+
+/// The frame of one column.
+fn framed(alloc: Global, name: &str, column: Column) -> Result<Frame, Fault> {
+    let schema = schema_of_one(alloc, name, column.kind())?;
+    let height = column.len();
+    Ok(Frame::new(alloc, schema, vec![in alloc; column]?, height))
+}
+
+/// The frame with a first column of the numbers of its rows.
+fn numbered(alloc: Global, frame: Frame, rows: &str) -> Result<Frame, Fault> {
+    frame.with_row_index(alloc, Name::new(alloc, rows)?, 0)
+}
+
+/// Two frames side by side, where their heights are the same.
+fn beside(alloc: Global, frame: Frame, other: Frame) -> Result<Frame, Fault> {
+    if frame.height() != other.height() {
+        return Err(Fault::Usage);
+    }
+    frame.hstack(alloc, other)
+}
+
+/// A table of these keys in a column of this name, with the numbers of its rows under another name.
+pub fn table_by(
+    alloc: Global,
+    name: &str,
+    keys: &[Option<i64>],
+    rows: &str,
+) -> Result<Frame, Fault> {
+    let column = number_column(alloc, keys)?;
+    numbered(alloc, framed(alloc, name, column)?, rows)
+}
+
+/// The same, with the keys in the column `k`.
+pub fn table_of(alloc: Global, keys: &[Option<i64>], rows: &str) -> Result<Frame, Fault> {
+    table_by(alloc, "k", keys, rows)
+}
+
+/// A table of keys of two columns, `k` with numbers and `t` with texts, with the numbers of its rows under another name.
+pub fn table_of_two(
+    alloc: Global,
+    numbers: &[Option<i64>],
+    words: &[Option<&str>],
+    rows: &str,
+) -> Result<Frame, Fault> {
+    let first = framed(alloc, "k", number_column(alloc, numbers)?)?;
+    let second = framed(alloc, "t", word_column(alloc, words)?)?;
+    numbered(alloc, beside(alloc, first, second)?, rows)
+}
+
+/// The left names of pairs of keys.
+fn left_names(alloc: Global, keys: &[(&str, &str)]) -> Result<Vec<Name>, Fault> {
+    let mut names = Vec::new(alloc);
+    for (left, _) in keys {
+        names.push(Name::new(alloc, *left)?)?;
+    }
+    Ok(names)
+}
+
+/// The right names of pairs of keys.
+fn right_names(alloc: Global, keys: &[(&str, &str)]) -> Result<Vec<Name>, Fault> {
+    let mut names = Vec::new(alloc);
+    for (_, right) in keys {
+        names.push(Name::new(alloc, *right)?)?;
+    }
+    Ok(names)
+}
+
+fn args_of(alloc: Global, asked: Asked, suffix: &str) -> Result<JoinArgs, Fault> {
+    Ok(JoinArgs {
+        how: asked.how,
+        maintain_order: asked.order,
+        join_nulls: asked.nulls,
+        coalesce: asked.coalesce,
+        suffix: Name::new(alloc, suffix)?,
+    })
+}
+
+/// The rules of a join by keys of these names.
+fn rules_by(
+    alloc: Global,
+    left: &Schema,
+    right: &Schema,
+    left_keys: &[Name],
+    right_keys: &[Name],
+    args: &JoinArgs,
+) -> Result<JoinRules, Fault>
+    ensures fit { IfOk result (λ rules. FitRules left.now right.now rules) }
+{
+    if left_keys.len() != right_keys.len()
+        || left_keys.is_empty()
+        || left.len() > 10
+        || right.len() > 10
+    {
+        return Err(Fault::Usage);
+    }
+    JoinRules::new(alloc, left, right, left_keys, right_keys, args)
+}
+
+/// The same, of keys that are told by texts.
+pub fn rules_of(
+    alloc: Global,
+    left: &Schema,
+    right: &Schema,
+    keys: &[(&str, &str)],
+    asked: Asked,
+    suffix: &str,
+) -> Result<JoinRules, Fault>
+    ensures fit { IfOk result (λ rules. FitRules left.now right.now rules) }
+{
+    let args = args_of(alloc, asked, suffix)?;
+    let left_keys = left_names(alloc, keys)?;
+    let right_keys = right_names(alloc, keys)?;
+    rules_by(alloc, left, right, &left_keys, &right_keys, &args)
+}
+
+/// The join of two tables by pairs of columns of these names.
+pub fn joined(
+    alloc: Global,
+    left: &Frame,
+    right: &Frame,
+    keys: &[(&str, &str)],
+    asked: Asked,
+) -> Result<Frame, Fault> {
+    if left.height() > 1000 || right.height() > 1000 {
+        return Err(Fault::Usage);
+    }
+    let rules = rules_of(alloc, left.schema(), right.schema(), keys, asked, "_right")?;
+    join_frames(alloc, left, right, &rules)
+}
+
+/// The place of a column that is there.
+fn place_of(frame: &Frame, name: &str) -> Option<usize>
+    ensures { IfSome result (λ at. at < length frame.now.schema) }
+{
+    let at = frame.schema().find(name)?;
+    if at < frame.width() { Some(at) } else { None }
+}
+
+/// The number of a row in a column, if it has one there.
+pub fn number_at(frame: &Frame, name: &str, row: usize) -> Option<i64> {
+    let at = place_of(frame, name)?;
+    if row >= frame.height() {
+        return None;
+    }
+    match frame.column(at).get(row) {
+        Cell::Int(number) => Some(number),
+        _ => None,
+    }
+}
+
+/// Whether a row has this text in a column.
+pub fn has_text(frame: &Frame, name: &str, row: usize, text: &str) -> bool {
+    let Some(at) = place_of(frame, name) else {
+        return false;
+    };
+    row < frame.height() && frame.column(at).get(row) == Cell::Text(text)
+}
+
+/// The row that has this number, if one is told.
+fn row_at(frame: &Frame, name: &str, row: usize) -> Option<usize> {
+    let number = number_at(frame, name, row)?;
+    if number < 0 {
+        None
+    } else {
+        Some(number as usize)
+    }
+}
+
+/// Puts the rows of a join last.
+pub fn put_rows(frame: &Frame, rows: &mut Vec<Found>) -> Result<(), Fault> {
+    for row in 0..frame.height() {
+        rows.push(Found {
+            left: row_at(frame, "l", row),
+            right: row_at(frame, "r", row),
+            key: number_at(frame, "k", row),
+            right_key: number_at(frame, "k_right", row),
+        })?;
+    }
+    Ok(())
+}
+
+/// The rows of a join.
+pub fn rows_of(alloc: Global, frame: &Frame) -> Result<Vec<Found>, Fault> {
+    let mut rows = Vec::new(alloc);
+    put_rows(frame, &mut rows)?;
+    Ok(rows)
+}
+
+/// Whether columns have these names.
+pub fn has_names(fields: &[Field], names: &[&str]) -> bool {
+    if fields.len() != names.len() {
+        return false;
+    }
+    for at in 0..names.len() {
+        if fields[at].name.as_str() != names[at] {
+            return false;
+        }
+    }
+    true
+}
