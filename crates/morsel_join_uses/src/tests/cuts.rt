@@ -1,13 +1,13 @@
 //! Joins whose rows are looked up by morsels of so many, one after the other, each of which gives at most as many rows at a time. The kept rows
-//! come in frames of as many, and those that none finds come last.
-ghost use Rattle.std.specs.Prelude.{◌≡◌, ◌<◌, ◌^◌, length, IfOk};
+//! come in two frames, and those that none finds come last.
+ghost use Rattle.std.specs.Prelude.{◌≡◌, ◌<◌, ◌^◌, true, false, length, IfOk};
 ghost use Rattle.std.specs.Arc.{arc_value};
 ghost use Rattle.std.specs.List.{All};
 ghost use Rattle.morsel_join.specs.BuildSides.{IsBuild};
 ghost use Rattle.morsel_join.specs.Hits.{AreMarks};
 ghost use Rattle.morsel_join.specs.LoneRows.{AreLone};
 ghost use Rattle.morsel_join.specs.Probings.{IsProbing};
-ghost use Rattle.morsel_join.specs.Rows.{keeps_left};
+ghost use Rattle.morsel_join.specs.Rows.{FitRules, keeps_left};
 ghost use Rattle.morsel_join.specs.Sides.{FitSides};
 
 use super::plain::are_joined;
@@ -22,19 +22,16 @@ use std::test::Fail;
 /// More calls than any test makes for one morsel.
 const CALLS: usize = 1000;
 
-/// Frames of so many rows, and the last of those that are left.
+/// The first so many rows of a frame, and those that follow.
 fn parts_of(alloc: Global, frame: &Frame, size: usize) -> Result<Vec<Frame>, Fault>
-    requires some { 0 < size }
     ensures columns { IfOk result (λ parts. All (λ part. part.schema ≡ frame.now.schema) parts.items) }
 {
-    let mut parts = Vec::new(alloc);
-    for at in 0..frame.height().div_ceil(size) {
-        parts.push(frame.slice(alloc, at.wrapping_mul(size), size)?)?;
-    }
-    Ok(parts)
+    let front = frame.slice(alloc, 0, size)?;
+    let back = frame.slice(alloc, size, frame.height())?;
+    Ok(vec![in alloc; front, back]?)
 }
 
-/// The kept side of these rows, which come in frames of so many.
+/// The kept side of these rows, which come in two frames.
 fn build_of(
     alloc: Global,
     rules: JoinRules,
@@ -43,7 +40,6 @@ fn build_of(
     size: usize,
 ) -> Result<Arc<Build, Global>, Fault>
     requires fit { FitSides (keeps_left rules.how rules.maintain_order) kept.now.schema asked.now rules }
-    requires some { 0 < size }
     ensures built { IfOk result (λ build. IsBuild (arc_value build)) }
     ensures asked { IfOk result (λ build. (arc_value build).asked ≡ asked.now) }
 {
@@ -248,6 +244,36 @@ fn put_looked_up(
     put_all(alloc, build, asked, size, rows)
 }
 
+fn put_left_kept(
+    alloc: Global,
+    rules: JoinRules,
+    left: &Frame,
+    right: &Frame,
+    size: usize,
+    rows: &mut Vec<Found>,
+) -> Result<(), Fault>
+    requires keeps { keeps_left rules.how rules.maintain_order ≡ true }
+    requires fit { FitRules left.now.schema right.now.schema rules }
+    requires some { 0 < size }
+{
+    put_looked_up(alloc, rules, left, right, size, rows)
+}
+
+fn put_right_kept(
+    alloc: Global,
+    rules: JoinRules,
+    left: &Frame,
+    right: &Frame,
+    size: usize,
+    rows: &mut Vec<Found>,
+) -> Result<(), Fault>
+    requires keeps { keeps_left rules.how rules.maintain_order ≡ false }
+    requires fit { FitRules left.now.schema right.now.schema rules }
+    requires some { 0 < size }
+{
+    put_looked_up(alloc, rules, right, left, size, rows)
+}
+
 /// Puts the rows of a join of two tables last.
 fn put_join(
     alloc: Global,
@@ -262,9 +288,9 @@ fn put_join(
     let keys = [("k", "k")];
     let rules = rules_of(alloc, left.schema(), right.schema(), &keys, asked, "_right")?;
     if rules.keeps_left() {
-        put_looked_up(alloc, rules, left, right, size, rows)
+        put_left_kept(alloc, rules, left, right, size, rows)
     } else {
-        put_looked_up(alloc, rules, right, left, size, rows)
+        put_right_kept(alloc, rules, left, right, size, rows)
     }
 }
 

@@ -1,4 +1,6 @@
 //! One key with many rows on both sides.
+ghost use Rattle.std.specs.Prelude.{◌<◌};
+
 use super::cuts::put_join_of;
 use super::plain::are_in_order;
 use super::tables::{Asked, Found};
@@ -46,7 +48,9 @@ fn put_many(
     order: MaintainOrderJoin,
     size: usize,
     rows: &mut Vec<Found>,
-) -> Result<(), Fault> {
+) -> Result<(), Fault>
+    requires some { 0 < size }
+{
     let asked = Asked {
         how: JoinType::Full,
         order,
@@ -64,14 +68,18 @@ fn put_many(
 }
 
 /// Whether the join by morsels of so many rows has each pair once, in the promised order.
-fn has_all(alloc: Global, order: MaintainOrderJoin, size: usize) -> Result<bool, Fault> {
+fn has_all(alloc: Global, order: MaintainOrderJoin, size: usize) -> Result<bool, Fault>
+    requires some { 0 < size }
+{
     let mut rows = Vec::new(alloc);
     put_many(alloc, order, size, &mut rows)?;
     Ok(are_in_order(order, &rows) && has_each_pair(alloc, &rows)?)
 }
 
 /// Whether that holds of each promise.
-fn has_all_in_each_order(alloc: Global, size: usize) -> Result<bool, Fault> {
+fn has_all_in_each_order(alloc: Global, size: usize) -> Result<bool, Fault>
+    requires some { 0 < size }
+{
     Ok(
         has_all(alloc, MaintainOrderJoin::None, size)?
             && has_all(alloc, MaintainOrderJoin::Left, size)?

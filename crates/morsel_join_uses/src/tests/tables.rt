@@ -107,6 +107,16 @@ fn framed(alloc: Global, name: &str, column: Column) -> Result<Frame, Fault> {
     Ok(Frame::new(alloc, schema, vec![in alloc; column]?, height))
 }
 
+/// The frame of one column of numbers.
+fn numbers_of(alloc: Global, name: &str, numbers: &[Option<i64>]) -> Result<Frame, Fault> {
+    framed(alloc, name, number_column(alloc, numbers)?)
+}
+
+/// The frame of one column of texts.
+fn words_of(alloc: Global, name: &str, words: &[Option<&str>]) -> Result<Frame, Fault> {
+    framed(alloc, name, word_column(alloc, words)?)
+}
+
 /// The frame with a first column of the numbers of its rows.
 fn numbered(alloc: Global, frame: Frame, rows: &str) -> Result<Frame, Fault> {
     frame.with_row_index(alloc, Name::new(alloc, rows)?, 0)
@@ -127,8 +137,7 @@ pub fn table_by(
     keys: &[Option<i64>],
     rows: &str,
 ) -> Result<Frame, Fault> {
-    let column = number_column(alloc, keys)?;
-    numbered(alloc, framed(alloc, name, column)?, rows)
+    numbered(alloc, numbers_of(alloc, name, keys)?, rows)
 }
 
 /// The same, with the keys in the column `k`.
@@ -143,8 +152,8 @@ pub fn table_of_two(
     words: &[Option<&str>],
     rows: &str,
 ) -> Result<Frame, Fault> {
-    let first = framed(alloc, "k", number_column(alloc, numbers)?)?;
-    let second = framed(alloc, "t", word_column(alloc, words)?)?;
+    let first = numbers_of(alloc, "k", numbers)?;
+    let second = words_of(alloc, "t", words)?;
     numbered(alloc, beside(alloc, first, second)?, rows)
 }
 
