@@ -1,6 +1,6 @@
 //! Joins whose rows are looked up by morsels of so many, one after the other, each of which gives at most as many rows at a time. The kept rows
 //! come in two frames, and those that none finds come last.
-ghost use Rattle.std.specs.Prelude.{◌≡◌, ◌<◌, ◌^◌, true, false, length, IfOk};
+ghost use Rattle.std.specs.Prelude.{◌≡◌, ◌<◌, ◌^◌, ◌∷◌, [], true, false, length, IfOk};
 ghost use Rattle.std.specs.Arc.{arc_value};
 ghost use Rattle.std.specs.List.{All};
 ghost use Rattle.morsel_join.specs.BuildSides.{IsBuild};
@@ -22,13 +22,21 @@ use std::test::Fail;
 /// More calls than any test makes for one morsel.
 const CALLS: usize = 1000;
 
+/// Two frames as a list.
+fn both(alloc: Global, front: Frame, back: Frame) -> Result<Vec<Frame>, Fault>
+    ensures { IfOk result (λ parts. parts.items ≡ front ∷ back ∷ []) }
+{
+    Ok(vec![in alloc; front, back]?)
+}
+
 /// The first so many rows of a frame, and those that follow.
 fn parts_of(alloc: Global, frame: &Frame, size: usize) -> Result<Vec<Frame>, Fault>
-    ensures columns { IfOk result (λ parts. All (λ part. part.schema ≡ frame.now.schema) parts.items) }
+    ensures { IfOk result (λ parts. All (λ part. part.schema ≡ frame.now.schema) parts.items) }
 {
     let front = frame.slice(alloc, 0, size)?;
     let back = frame.slice(alloc, size, frame.height())?;
-    Ok(vec![in alloc; front, back]?)
+    let parts = both(alloc, front, back)?;
+    Ok(parts)
 }
 
 /// The kept side of these rows, which come in two frames.

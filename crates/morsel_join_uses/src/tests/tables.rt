@@ -1,6 +1,6 @@
 //! Tables that are made of plain lists, what they are joined by, and the rows of a join as a plain list again. A function here owns two values
 //! that are dropped at most, since each is proved to be dropped at each exit.
-ghost use Rattle.std.specs.Prelude.{◌≡◌, ◌<◌, ◌^◌, length, IfOk, IfSome};
+ghost use Rattle.std.specs.Prelude.{◌≡◌, ◌<◌, length, IfOk, IfSome};
 ghost use Rattle.morsel_join.specs.Rows.{FitRules};
 
 use morsel_frame::{Cell, Column, Frame, Schema};
@@ -206,7 +206,21 @@ fn rules_by(
     JoinRules::new(alloc, left, right, left_keys, right_keys, args)
 }
 
-/// The same, of keys that are told by texts.
+fn rules_with(
+    alloc: Global,
+    left: &Schema,
+    right: &Schema,
+    keys: &[(&str, &str)],
+    args: &JoinArgs,
+) -> Result<JoinRules, Fault>
+    ensures fit { IfOk result (λ rules. FitRules left.now right.now rules) }
+{
+    let left_keys = left_names(alloc, keys)?;
+    let right_keys = right_names(alloc, keys)?;
+    rules_by(alloc, left, right, &left_keys, &right_keys, args)
+}
+
+/// The rules of a join by pairs of columns of these names.
 pub fn rules_of(
     alloc: Global,
     left: &Schema,
@@ -218,9 +232,7 @@ pub fn rules_of(
     ensures fit { IfOk result (λ rules. FitRules left.now right.now rules) }
 {
     let args = args_of(alloc, asked, suffix)?;
-    let left_keys = left_names(alloc, keys)?;
-    let right_keys = right_names(alloc, keys)?;
-    rules_by(alloc, left, right, &left_keys, &right_keys, &args)
+    rules_with(alloc, left, right, keys, &args)
 }
 
 /// The join of two tables by pairs of columns of these names.
