@@ -27,29 +27,18 @@ fn schema_of(alloc: Global, names: &[&str]) -> Result<Schema, Fault> {
     Schema::new(alloc, fields)
 }
 
-/// A join of tables with columns of these names, by these of them.
-#[derive(Clone, Copy)]
-struct Names<'a> {
-    left: &'a [&'a str],
-    right: &'a [&'a str],
-    keys: &'a [(&'a str, &'a str)],
-    suffix: &'a str,
-}
-
-/// A join by the column `a`.
-fn by_a<'a>(left: &'a [&'a str], right: &'a [&'a str]) -> Names<'a> {
-    Names {
-        left,
-        right,
-        keys: &[("a", "a")],
-        suffix: "_right",
-    }
-}
-
-fn rules_between(alloc: Global, names: Names<'_>, asked: Asked) -> Result<JoinRules, Fault> {
-    let left = schema_of(alloc, names.left)?;
-    let right = schema_of(alloc, names.right)?;
-    rules_of(alloc, &left, &right, names.keys, asked, names.suffix)
+/// The rules of a join of tables with columns of these names, by pairs of them.
+fn rules_between(
+    alloc: Global,
+    left: &[&str],
+    right: &[&str],
+    keys: &[(&str, &str)],
+    asked: Asked,
+    suffix: &str,
+) -> Result<JoinRules, Fault> {
+    let left = schema_of(alloc, left)?;
+    let right = schema_of(alloc, right)?;
+    rules_of(alloc, &left, &right, keys, asked, suffix)
 }
 
 fn asked_for(how: JoinType, coalesce: bool) -> Asked {
@@ -62,8 +51,15 @@ fn asked_for(how: JoinType, coalesce: bool) -> Asked {
 }
 
 /// Whether the rows of a join have these columns.
-fn gives(alloc: Global, names: Names<'_>, how: JoinType, coalesce: bool, wanted: &[&str]) -> bool {
-    match rules_between(alloc, names, asked_for(how, coalesce)) {
+fn gives(
+    alloc: Global,
+    left: &[&str],
+    right: &[&str],
+    keys: &[(&str, &str)],
+    asked: Asked,
+    wanted: &[&str],
+) -> bool {
+    match rules_between(alloc, left, right, keys, asked, "_right") {
         Ok(rules) => has_names(rules.output.fields(), wanted),
         Err(_) => false,
     }
@@ -75,15 +71,17 @@ fn is_told(alloc: Global, fault: &Fault, wanted: &str) -> Result<bool, Fault> {
     Ok(text.as_str() == wanted)
 }
 
-/// Whether a join is refused by a fault of this text.
+/// Whether a join with this suffix is refused by a fault of this text.
 fn is_refused(
     alloc: Global,
-    names: Names<'_>,
-    how: JoinType,
-    coalesce: bool,
+    left: &[&str],
+    right: &[&str],
+    keys: &[(&str, &str)],
+    asked: Asked,
+    suffix: &str,
     wanted: &str,
 ) -> Result<bool, Fault> {
-    match rules_between(alloc, names, asked_for(how, coalesce)) {
+    match rules_between(alloc, left, right, keys, asked, suffix) {
         Ok(_) => Ok(false),
         Err(fault) => is_told(alloc, &fault, wanted),
     }
@@ -91,147 +89,169 @@ fn is_refused(
 
 #[test]
 fn a_suffix_is_put_only_where_a_name_clashes(rt: HostRuntime) -> Result<(), Fail> {
-    let alloc = rt.alloc();
-    let names = by_a(&["a", "b", "c"], &["a", "c", "d"]);
+    let left = ["a", "b", "c"];
+    let right = ["a", "c", "d"];
+    let keys = [("a", "a")];
     for how in [JoinType::Inner, JoinType::Left, JoinType::Full] {
-        assert!(rt; gives(alloc, names, how, true, &["a", "b", "c", "c_right", "d"]));
+        let asked = asked_for(how, true);
+        let wanted = ["a", "b", "c", "c_right", "d"];
+        assert!(rt; gives(rt.alloc(), &left, &right, &keys, asked, &wanted));
     }
-    assert!(rt;
-        gives(
-            alloc,
-            names,
-            JoinType::Right,
-            true,
-            &["b", "c", "a", "c_right", "d"]
-        )
-    );
+    let asked = asked_for(JoinType::Right, true);
+    let wanted = ["b", "c", "a", "c_right", "d"];
+    assert!(rt; gives(rt.alloc(), &left, &right, &keys, asked, &wanted));
     for how in [
         JoinType::Inner,
         JoinType::Left,
         JoinType::Right,
         JoinType::Full,
     ] {
-        assert!(rt;
-            gives(
-                alloc,
-                names,
-                how,
-                false,
-                &["a", "b", "c", "a_right", "c_right", "d"]
-            )
-        );
+        let asked = asked_for(how, false);
+        let wanted = ["a", "b", "c", "a_right", "c_right", "d"];
+        assert!(rt; gives(rt.alloc(), &left, &right, &keys, asked, &wanted));
     }
     Ok(())
 }
 
 #[test]
-fn a_left_key_that_is_dropped_still_clashes(rt: HostRuntime) -> Result<(), Fail> {
-    let alloc = rt.alloc();
-    let names = Names {
-        keys: &[("a", "k")],
-        ..by_a(&["a", "b"], &["k", "a"])
-    };
+fn a_left_key_that_is_left_out_still_clashes(rt: HostRuntime) -> Result<(), Fail> {
+    let left = ["a", "b"];
+    let right = ["k", "a"];
+    let keys = [("a", "k")];
     for how in [JoinType::Inner, JoinType::Left, JoinType::Full] {
-        assert!(rt; gives(alloc, names, how, true, &["a", "b", "a_right"]));
+        let asked = asked_for(how, true);
+        assert!(rt;
+            gives(
+                rt.alloc(),
+                &left,
+                &right,
+                &keys,
+                asked,
+                &["a", "b", "a_right"]
+            )
+        );
     }
-    assert!(rt; gives(alloc, names, JoinType::Right, true, &["b", "k", "a_right"]));
+    let asked = asked_for(JoinType::Right, true);
     assert!(rt;
         gives(
-            alloc,
-            names,
-            JoinType::Right,
-            false,
+            rt.alloc(),
+            &left,
+            &right,
+            &keys,
+            asked,
+            &["b", "k", "a_right"]
+        )
+    );
+    let asked = asked_for(JoinType::Right, false);
+    assert!(rt;
+        gives(
+            rt.alloc(),
+            &left,
+            &right,
+            &keys,
+            asked,
             &["a", "b", "k", "a_right"]
         )
     );
     Ok(())
 }
 
+/// Whether a join by the columns `a` is refused, since two columns would have this name.
+fn is_duplicate(
+    alloc: Global,
+    left: &[&str],
+    right: &[&str],
+    asked: Asked,
+    suffix: &str,
+    wanted: &str,
+) -> Result<bool, Fault> {
+    is_refused(alloc, left, right, &[("a", "a")], asked, suffix, wanted)
+}
+
 #[test]
 fn a_suffixed_name_of_a_left_column_is_refused(rt: HostRuntime) -> Result<(), Fail> {
     let alloc = rt.alloc();
-    let names = by_a(&["a", "b", "b_right"], &["a", "b"]);
+    let left = ["a", "b", "b_right"];
+    let right = ["a", "b"];
+    let told = "duplicate column: b_right";
     for how in [
         JoinType::Inner,
         JoinType::Left,
         JoinType::Right,
         JoinType::Full,
     ] {
-        assert!(rt; is_refused(alloc, names, how, true, "duplicate column: b_right")?);
+        assert!(rt; is_duplicate(alloc, &left, &right, asked_for(how, true), "_right", told)?);
     }
-    let unsuffixed = Names {
-        suffix: "",
-        ..by_a(&["a", "b"], &["a", "b"])
-    };
+    let asked = asked_for(JoinType::Inner, true);
+    assert!(rt; is_duplicate(alloc, &left[..2], &right, asked, "", "duplicate column: b")?);
+    Ok(())
+}
+
+#[test]
+fn a_suffixed_key_of_a_left_column_is_refused(rt: HostRuntime) -> Result<(), Fail> {
+    let alloc = rt.alloc();
+    let left = ["a", "a_right"];
+    let apart = asked_for(JoinType::Inner, false);
+    let told = "duplicate column: a_right";
+    assert!(rt; is_duplicate(alloc, &left, &["a"], apart, "_right", told)?);
+    let coalesced = asked_for(JoinType::Inner, true);
     assert!(rt;
-        is_refused(
+        gives(
             alloc,
-            unsuffixed,
-            JoinType::Inner,
-            true,
-            "duplicate column: b"
-        )?
+            &left,
+            &["a"],
+            &[("a", "a")],
+            coalesced,
+            &["a", "a_right"]
+        )
     );
-    let key = by_a(&["a", "a_right"], &["a"]);
-    assert!(rt;
-        is_refused(
-            alloc,
-            key,
-            JoinType::Inner,
-            false,
-            "duplicate column: a_right"
-        )?
-    );
-    assert!(rt; gives(alloc, key, JoinType::Inner, true, &["a", "a_right"]));
     Ok(())
 }
 
 #[test]
 fn a_name_that_two_columns_would_have_is_refused(rt: HostRuntime) -> Result<(), Fail> {
     let alloc = rt.alloc();
-    let suffixed = by_a(&["a", "b"], &["a", "b", "b_right"]);
-    assert!(rt;
-        is_refused(
-            alloc,
-            suffixed,
-            JoinType::Left,
-            true,
-            "duplicate column: b_right"
-        )?
-    );
-    let key = Names {
-        keys: &[("a", "k")],
-        ..by_a(&["a", "k"], &["k"])
-    };
-    assert!(rt; is_refused(alloc, key, JoinType::Right, true, "duplicate column: k")?);
-    assert!(rt; gives(alloc, key, JoinType::Left, true, &["a", "k"]));
+    let suffixed = ["a", "b", "b_right"];
+    let asked = asked_for(JoinType::Left, true);
+    let told = "duplicate column: b_right";
+    assert!(rt; is_duplicate(alloc, &["a", "b"], &suffixed, asked, "_right", told)?);
+    let left = ["a", "k"];
+    let keys = [("a", "k")];
+    assert!(rt; gives(alloc, &left, &["k"], &keys, asked, &["a", "k"]));
+    let right_kept = asked_for(JoinType::Right, true);
+    let told = "duplicate column: k";
+    assert!(rt; is_refused(alloc, &left, &["k"], &keys, right_kept, "_right", told)?);
     Ok(())
 }
 
-/// A join of columns `a`, `b`, `t` with `a`, `t`.
-fn by_keys<'a>(keys: &'a [(&'a str, &'a str)]) -> Names<'a> {
-    Names {
-        left: &["a", "b", "t"],
-        right: &["a", "t"],
+/// Whether the join of columns `a`, `b`, `t` with `a`, `t` by these pairs is refused by a fault of this text.
+fn is_refused_by(
+    alloc: Global,
+    keys: &[(&str, &str)],
+    suffix: &str,
+    wanted: &str,
+) -> Result<bool, Fault> {
+    let asked = asked_for(JoinType::Inner, false);
+    is_refused(
+        alloc,
+        &["a", "b", "t"],
+        &["a", "t"],
         keys,
-        suffix: "_right",
-    }
+        asked,
+        suffix,
+        wanted,
+    )
 }
 
 #[test]
 fn keys_are_columns_of_one_type(rt: HostRuntime) -> Result<(), Fail> {
     let alloc = rt.alloc();
-    let kind = JoinType::Inner;
-    let absent = by_keys(&[("b", "y"), ("x", "a")]);
-    assert!(rt; is_refused(alloc, absent, kind, false, "column not found: x")?);
-    let right_absent = by_keys(&[("t", "a"), ("b", "y")]);
-    assert!(rt; is_refused(alloc, right_absent, kind, false, "column not found: y")?);
-    let other_type = by_keys(&[("b", "a"), ("t", "a")]);
-    assert!(rt; is_refused(alloc, other_type, kind, false, "schema mismatch: t")?);
-    let name_first = Names {
-        suffix: "",
-        ..absent
-    };
-    assert!(rt; is_refused(alloc, name_first, kind, false, "duplicate column: a")?);
+    let absent = [("b", "y"), ("x", "a")];
+    assert!(rt; is_refused_by(alloc, &absent, "_right", "column not found: x")?);
+    let right_absent = [("t", "a"), ("b", "y")];
+    assert!(rt; is_refused_by(alloc, &right_absent, "_right", "column not found: y")?);
+    let other_type = [("b", "a"), ("t", "a")];
+    assert!(rt; is_refused_by(alloc, &other_type, "_right", "schema mismatch: t")?);
+    assert!(rt; is_refused_by(alloc, &absent, "", "duplicate column: a")?);
     Ok(())
 }
