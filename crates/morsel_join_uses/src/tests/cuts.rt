@@ -39,38 +39,46 @@ fn parts_of(alloc: Global, frame: &Frame, size: usize) -> Result<Vec<Frame>, Fau
     Ok(parts)
 }
 
-/// The kept side of these rows, which come in two frames.
-fn build_of(
-    alloc: Global,
-    rules: JoinRules,
-    kept: &Frame,
-    asked: &Schema,
-    size: usize,
-) -> Result<Arc<Build, Global>, Fault>
-    requires fit { FitSides (keeps_left rules.how rules.maintain_order) kept.now.schema asked.now rules }
-    ensures built { IfOk result (λ build. IsBuild (arc_value build)) }
-    ensures asked { IfOk result (λ build. (arc_value build).asked ≡ asked.now) }
+/// The columns of a frame.
+fn columns_of(frame: &Frame) -> Result<Schema, Fault>
+    ensures { IfOk result (λ columns. columns ≡ frame.now.schema) }
 {
-    let parts = parts_of(alloc, kept, size)?;
-    build_of_parts(alloc, rules, kept.schema(), parts, asked)
+    let columns = frame.schema().again()?;
+    Ok(columns)
 }
 
 fn build_of_parts(
     alloc: Global,
     rules: JoinRules,
-    columns: &Schema,
     parts: Vec<Frame>,
-    asked: &Schema,
+    kept: &Frame,
+    asked: &Frame,
 ) -> Result<Arc<Build, Global>, Fault>
-    requires fit { FitSides (keeps_left rules.how rules.maintain_order) columns.now asked.now rules }
-    requires columns { All (λ part. part.schema ≡ columns.now) parts.items }
+    requires fit { FitSides (keeps_left rules.how rules.maintain_order) kept.now.schema asked.now.schema rules }
+    requires columns { All (λ part. part.schema ≡ kept.now.schema) parts.items }
     ensures built { IfOk result (λ build. IsBuild (arc_value build)) }
-    ensures asked { IfOk result (λ build. (arc_value build).asked ≡ asked.now) }
+    ensures asked { IfOk result (λ build. (arc_value build).asked ≡ asked.now.schema) }
 {
-    let columns = columns.again()?;
-    let asked = asked.again()?;
-    let build = Build::new(alloc, rules, columns, parts, asked)?;
+    let columns = columns_of(kept)?;
+    let others = columns_of(asked)?;
+    let build = Build::new(alloc, rules, columns, parts, others)?;
     Ok(Arc::new(alloc, build)?)
+}
+
+/// The kept side of the rows of one frame, which come in two, for rows with the columns of another.
+fn build_of(
+    alloc: Global,
+    rules: JoinRules,
+    kept: &Frame,
+    asked: &Frame,
+    size: usize,
+) -> Result<Arc<Build, Global>, Fault>
+    requires { FitSides (keeps_left rules.how rules.maintain_order) kept.now.schema asked.now.schema rules }
+    ensures built { IfOk result (λ build. IsBuild (arc_value build)) }
+    ensures asked { IfOk result (λ build. (arc_value build).asked ≡ asked.now.schema) }
+{
+    let parts = parts_of(alloc, kept, size)?;
+    build_of_parts(alloc, rules, parts, kept, asked)
 }
 
 /// Puts the next of the rows that are found last. The answer is whether there are no more.
@@ -248,7 +256,7 @@ fn put_looked_up(
     requires fit { FitSides (keeps_left rules.how rules.maintain_order) kept.now.schema asked.now.schema rules }
     requires some { 0 < size }
 {
-    let build = build_of(alloc, rules, kept, asked.schema(), size)?;
+    let build = build_of(alloc, rules, kept, asked, size)?;
     put_all(alloc, build, asked, size, rows)
 }
 
@@ -293,8 +301,7 @@ fn put_join(
 ) -> Result<(), Fault>
     requires some { 0 < size }
 {
-    let keys = [("k", "k")];
-    let rules = rules_of(alloc, left.schema(), right.schema(), &keys, asked, "_right")?;
+    let rules = rules_of(alloc, left, right, &[("k", "k")], asked, "_right")?;
     if rules.keeps_left() {
         put_left_kept(alloc, rules, left, right, size, rows)
     } else {

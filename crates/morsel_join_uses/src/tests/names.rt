@@ -1,6 +1,6 @@
 //! The names of a join's columns, and joins that are refused.
 use super::tables::{Asked, has_names, rules_of};
-use morsel_frame::Schema;
+use morsel_frame::{Frame, Schema};
 use morsel_join::{JoinRules, JoinType, MaintainOrderJoin};
 use morsel_meaning::{ColType, Fault, Field, Name};
 use std::alloc::Global;
@@ -27,6 +27,11 @@ fn schema_of(alloc: Global, names: &[&str]) -> Result<Schema, Fault> {
     Schema::new(alloc, fields)
 }
 
+/// A table without rows.
+fn table_of(alloc: Global, names: &[&str]) -> Result<Frame, Fault> {
+    Ok(Frame::empty(alloc, schema_of(alloc, names)?))
+}
+
 /// The rules of a join of tables with columns of these names, by pairs of them.
 fn rules_between(
     alloc: Global,
@@ -36,8 +41,8 @@ fn rules_between(
     asked: Asked,
     suffix: &str,
 ) -> Result<JoinRules, Fault> {
-    let left = schema_of(alloc, left)?;
-    let right = schema_of(alloc, right)?;
+    let left = table_of(alloc, left)?;
+    let right = table_of(alloc, right)?;
     rules_of(alloc, &left, &right, keys, asked, suffix)
 }
 

@@ -194,7 +194,7 @@ fn rules_by(
     right_keys: &[Name],
     args: &JoinArgs,
 ) -> Result<JoinRules, Fault>
-    ensures fit { IfOk result (λ rules. FitRules left.now right.now rules) }
+    ensures { IfOk result (λ rules. FitRules left.now right.now rules) }
 {
     if left_keys.len() != right_keys.len()
         || left_keys.is_empty()
@@ -208,28 +208,36 @@ fn rules_by(
 
 fn rules_with(
     alloc: Global,
-    left: &Schema,
-    right: &Schema,
+    left: &Frame,
+    right: &Frame,
     keys: &[(&str, &str)],
     args: &JoinArgs,
 ) -> Result<JoinRules, Fault>
-    ensures fit { IfOk result (λ rules. FitRules left.now right.now rules) }
+    ensures { IfOk result (λ rules. FitRules left.now.schema right.now.schema rules) }
 {
     let left_keys = left_names(alloc, keys)?;
     let right_keys = right_names(alloc, keys)?;
-    rules_by(alloc, left, right, &left_keys, &right_keys, args)
+    let rules = rules_by(
+        alloc,
+        left.schema(),
+        right.schema(),
+        &left_keys,
+        &right_keys,
+        args,
+    )?;
+    Ok(rules)
 }
 
-/// The rules of a join by pairs of columns of these names.
+/// The rules of a join of two tables by pairs of columns of these names.
 pub fn rules_of(
     alloc: Global,
-    left: &Schema,
-    right: &Schema,
+    left: &Frame,
+    right: &Frame,
     keys: &[(&str, &str)],
     asked: Asked,
     suffix: &str,
 ) -> Result<JoinRules, Fault>
-    ensures fit { IfOk result (λ rules. FitRules left.now right.now rules) }
+    ensures { IfOk result (λ rules. FitRules left.now.schema right.now.schema rules) }
 {
     let args = args_of(alloc, asked, suffix)?;
     rules_with(alloc, left, right, keys, &args)
@@ -246,7 +254,7 @@ pub fn joined(
     if left.height() > 1000 || right.height() > 1000 {
         return Err(Fault::Usage);
     }
-    let rules = rules_of(alloc, left.schema(), right.schema(), keys, asked, "_right")?;
+    let rules = rules_of(alloc, left, right, keys, asked, "_right")?;
     join_frames(alloc, left, right, &rules)
 }
 

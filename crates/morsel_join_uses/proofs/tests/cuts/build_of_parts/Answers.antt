@@ -9,8 +9,8 @@ use Rattle.morsel_join_uses.proofs.tests.cuts.build_of_parts.Goals as goal
 pub new-requires-clause-fit : goal.new-requires-clause-fit
 new-requires-clause-fit c =
     let rules = c.args.rules in
-    subst (λ (fields : List Field). FitSides (keeps_left rules.how rules.maintain_order) fields c.in_ok-asked.asked rules) (sym c.in_ok-columns.ensures.same)
-    (subst (λ (fields : List Field). FitSides (keeps_left rules.how rules.maintain_order) c.args.columns.now fields rules) (sym c.in_ok-asked.ensures.same) c.requires.fit)
+    subst (λ (fields : List Field). FitSides (keeps_left rules.how rules.maintain_order) fields c.in_ok-others.others rules) (sym c.in_ok-columns.ensures)
+    (subst (λ (fields : List Field). FitSides (keeps_left rules.how rules.maintain_order) c.args.kept.now.schema fields rules) (sym c.in_ok-others.ensures) c.requires.fit)
 
 pub new-requires-clause-columns : goal.new-requires-clause-columns
-new-requires-clause-columns c = subst (λ (fields : List Field). All (λ (part : Table). part.schema ≡ fields) c.args.parts.items) (sym c.in_ok-columns.ensures.same) c.requires.columns
+new-requires-clause-columns c = subst (λ (fields : List Field). All (λ (part : Table). part.schema ≡ fields) c.args.parts.items) (sym c.in_ok-columns.ensures) c.requires.columns
