@@ -1,6 +1,6 @@
 //! Tables that are made of plain lists, what they are joined by, and the rows of a join as a plain list again. A function here owns two values
 //! that are dropped at most, since each is proved to be dropped at each exit.
-ghost use Rattle.std.specs.Prelude.{◌≡◌, ◌<◌, length, IfOk, IfSome};
+ghost use Rattle.std.specs.Prelude.{◌≡◌, ◌<◌, ◌∷◌, [], length, IfOk, IfSome};
 ghost use Rattle.morsel_join.specs.Rows.{FitRules};
 
 use morsel_frame::{Cell, Column, Frame, Schema};
@@ -95,7 +95,9 @@ fn word_column(alloc: Global, words: &[Option<&str>]) -> Result<Column, Fault> {
 }
 
 /// The schema of one column.
-fn schema_of_one(alloc: Global, name: &str, kind: ColType) -> Result<Schema, Fault> {
+fn schema_of_one(alloc: Global, name: &str, kind: ColType) -> Result<Schema, Fault>
+    ensures { IfOk result (λ schema. schema ≡ record { name = name.now; kind = kind } ∷ []) }
+{
     let name = Name::new(alloc, name)?;
     Schema::new(alloc, vec![in alloc; Field { name, kind }]?)
 }
