@@ -1,6 +1,6 @@
 //! Joins whose rows are looked up by morsels of so many, one after the other, each of which gives at most as many rows at a time. The kept rows
 //! come in two frames, and those that none finds come last.
-ghost use Rattle.std.specs.Prelude.{◌≡◌, ◌<◌, ◌^◌, ◌∷◌, [], true, false, length, IfOk};
+ghost use Rattle.std.specs.Prelude.{◌≡◌, ◌<◌, true, false, IfOk, OnOk};
 ghost use Rattle.std.specs.Arc.{arc_value};
 ghost use Rattle.std.specs.List.{All};
 ghost use Rattle.morsel_join.specs.BuildSides.{IsBuild};
@@ -11,7 +11,7 @@ ghost use Rattle.morsel_join.specs.Rows.{FitRules, keeps_left};
 ghost use Rattle.morsel_join.specs.Sides.{FitSides};
 
 use super::plain::are_joined;
-use super::tables::{ASKED, Asked, Found, asked_of, put_rows, rules_of, table_of};
+use super::tables::{ASKED, Asked, Found, Tables, asked_of, put_rows, rules_of, tables_of};
 use morsel_frame::{Frame, Schema};
 use morsel_join::{Build, Hits, JoinRules, LoneRows, Probing};
 use morsel_meaning::Fault;
@@ -22,51 +22,81 @@ use std::test::Fail;
 /// More calls than any test makes for one morsel.
 const CALLS: usize = 1000;
 
-/// Two frames as a list.
-fn both(alloc: Global, front: Frame, back: Frame) -> Result<Vec<Frame>, Fault>
-    ensures { IfOk result (λ parts. parts.items ≡ front ∷ back ∷ []) }
+/// Puts those of so many rows of a frame from one on that there are last.
+fn put_part(
+    alloc: Global,
+    frame: &Frame,
+    from: usize,
+    len: usize,
+    parts: &mut Vec<Frame>,
+) -> Result<(), Fault>
+    requires { All (λ part. part.schema ≡ frame.now.schema) parts.old.items }
+    ensures { OnOk result (All (λ part. part.schema ≡ frame.now.schema) parts.new.items) }
 {
-    Ok(vec![in alloc; front, back]?)
+    parts.push(frame.slice(alloc, from, len)?)?;
+    Ok(())
 }
 
 /// The first so many rows of a frame, and those that follow.
 fn parts_of(alloc: Global, frame: &Frame, size: usize) -> Result<Vec<Frame>, Fault>
     ensures { IfOk result (λ parts. All (λ part. part.schema ≡ frame.now.schema) parts.items) }
 {
-    let front = frame.slice(alloc, 0, size)?;
-    let back = frame.slice(alloc, size, frame.height())?;
-    let parts = both(alloc, front, back)?;
+    let mut parts = Vec::new(alloc);
+    put_part(alloc, frame, 0, size, &mut parts)?;
+    put_part(alloc, frame, size, frame.height(), &mut parts)?;
     Ok(parts)
 }
 
-/// The columns of a frame.
-fn columns_of(frame: &Frame) -> Result<Schema, Fault>
-    ensures { IfOk result (λ columns. columns ≡ frame.now.schema) }
-{
-    let columns = frame.schema().again()?;
-    Ok(columns)
+/// The columns of the kept and of the other table.
+#[derive(Drop)]
+struct Sides {
+    kept: Schema,
+    asked: Schema,
 }
 
-fn build_of_parts(
+fn sides_of(kept: &Frame, asked: &Frame) -> Result<Sides, Fault>
+    ensures kept { IfOk result (λ sides. sides.kept ≡ kept.now.schema) }
+    ensures asked { IfOk result (λ sides. sides.asked ≡ asked.now.schema) }
+{
+    let kept = kept.schema().again()?;
+    let asked = asked.schema().again()?;
+    Ok(Sides { kept, asked })
+}
+
+fn build_between(
     alloc: Global,
     rules: JoinRules,
-    parts: Vec<Frame>,
+    sides: Sides,
     kept: &Frame,
-    asked: &Frame,
-) -> Result<Arc<Build, Global>, Fault>
-    requires fit { FitSides (keeps_left rules.how rules.maintain_order) kept.now.schema asked.now.schema rules }
-    requires columns { All (λ part. part.schema ≡ kept.now.schema) parts.items }
-    ensures built { IfOk result (λ build. IsBuild (arc_value build)) }
-    ensures asked { IfOk result (λ build. (arc_value build).asked ≡ asked.now.schema) }
+    size: usize,
+) -> Result<Build, Fault>
+    requires fit { FitSides (keeps_left rules.how rules.maintain_order) sides.kept sides.asked rules }
+    requires columns { sides.kept ≡ kept.now.schema }
+    ensures built { IfOk result IsBuild }
+    ensures asked { IfOk result (λ build. build.asked ≡ sides.asked) }
 {
-    let columns = columns_of(kept)?;
-    let others = columns_of(asked)?;
-    let build = Build::new(alloc, rules, columns, parts, others)?;
-    Ok(Arc::new(alloc, build)?)
+    let parts = parts_of(alloc, kept, size)?;
+    Build::new(alloc, rules, sides.kept, parts, sides.asked)
 }
 
 /// The kept side of the rows of one frame, which come in two, for rows with the columns of another.
 fn build_of(
+    alloc: Global,
+    rules: JoinRules,
+    kept: &Frame,
+    asked: &Frame,
+    size: usize,
+) -> Result<Build, Fault>
+    requires { FitSides (keeps_left rules.how rules.maintain_order) kept.now.schema asked.now.schema rules }
+    ensures built { IfOk result IsBuild }
+    ensures asked { IfOk result (λ build. build.asked ≡ asked.now.schema) }
+{
+    let sides = sides_of(kept, asked)?;
+    build_between(alloc, rules, sides, kept, size)
+}
+
+/// The same, shared.
+fn shared_of(
     alloc: Global,
     rules: JoinRules,
     kept: &Frame,
@@ -77,8 +107,8 @@ fn build_of(
     ensures built { IfOk result (λ build. IsBuild (arc_value build)) }
     ensures asked { IfOk result (λ build. (arc_value build).asked ≡ asked.now.schema) }
 {
-    let parts = parts_of(alloc, kept, size)?;
-    build_of_parts(alloc, rules, parts, kept, asked)
+    let build = build_of(alloc, rules, kept, asked, size)?;
+    Ok(Arc::new(alloc, build)?)
 }
 
 /// Puts the next of the rows that are found last. The answer is whether there are no more.
@@ -127,25 +157,51 @@ fn join_marks(alloc: Global, probing: &Probing, hits: &mut Hits) -> Result<(), F
     Ok(())
 }
 
+/// A morsel that is looked up.
+fn looked_up(alloc: Global, build: Arc<Build, Global>, morsel: Frame) -> Result<Probing, Fault>
+    requires built { IsBuild (arc_value build) }
+    requires columns { morsel.schema ≡ (arc_value build).asked }
+    ensures probing { IfOk result IsProbing }
+    ensures build { IfOk result (λ probing. arc_value probing.build ≡ arc_value build) }
+{
+    if morsel.height() > 1000 {
+        return Err(Fault::Usage);
+    }
+    Probing::new(alloc, build, morsel)
+}
+
+/// So many of the rows from one on, which are looked up.
+fn probing_of(
+    alloc: Global,
+    build: &Arc<Build, Global>,
+    asked: &Frame,
+    from: usize,
+    size: usize,
+) -> Result<Probing, Fault>
+    requires built { IsBuild (arc_value build.now) }
+    requires columns { asked.now.schema ≡ (arc_value build.now).asked }
+    ensures probing { IfOk result IsProbing }
+    ensures build { IfOk result (λ probing. arc_value probing.build ≡ arc_value build.now) }
+{
+    let morsel = asked.slice(alloc, from, size)?;
+    looked_up(alloc, build.clone()?, morsel)
+}
+
 /// Puts what the rows of a morsel find last.
 fn put_morsel(
     alloc: Global,
-    build: Arc<Build, Global>,
-    morsel: Frame,
+    probing: &mut Probing,
     limit: usize,
     hits: &mut Hits,
     rows: &mut Vec<Found>,
 ) -> Result<(), Fault>
-    requires built { IsBuild (arc_value build) }
-    requires columns { morsel.schema ≡ (arc_value build).asked }
-    requires short { length morsel.rows < 2 ^ 32 }
+    requires probing { IsProbing probing.old }
     requires some { 0 < limit }
-    requires marks { AreMarks (arc_value build) hits.old.seen.items }
-    ensures marks { AreMarks (arc_value build) hits.new.seen.items }
+    requires marks { AreMarks (arc_value probing.old.build) hits.old.seen.items }
+    ensures marks { AreMarks (arc_value probing.old.build) hits.new.seen.items }
 {
-    let mut probing = Probing::new(alloc, build, morsel)?;
-    join_marks(alloc, &probing, hits)?;
-    put_found(alloc, &mut probing, limit, rows)
+    join_marks(alloc, probing, hits)?;
+    put_found(alloc, probing, limit, rows)
 }
 
 /// Puts what the rows find that begin with one, so many of them.
@@ -164,11 +220,8 @@ fn put_morsel_at(
     requires marks { AreMarks (arc_value build.now) hits.old.seen.items }
     ensures marks { AreMarks (arc_value build.now) hits.new.seen.items }
 {
-    let morsel = asked.slice(alloc, from, size)?;
-    if morsel.height() > 1000 {
-        return Err(Fault::Usage);
-    }
-    put_morsel(alloc, build.clone()?, morsel, size, hits, rows)
+    let mut probing = probing_of(alloc, build, asked, from, size)?;
+    put_morsel(alloc, &mut probing, size, hits, rows)
 }
 
 /// Puts what rows find last, by morsels of so many.
@@ -226,6 +279,41 @@ fn put_lone(
     Err(Fault::Usage)
 }
 
+/// Puts the rows that are found last. The answer is the marks of the kept rows that are.
+fn put_found_of(
+    alloc: Global,
+    build: &Arc<Build, Global>,
+    asked: &Frame,
+    size: usize,
+    rows: &mut Vec<Found>,
+) -> Result<Hits, Fault>
+    requires built { IsBuild (arc_value build.now) }
+    requires columns { asked.now.schema ≡ (arc_value build.now).asked }
+    requires some { 0 < size }
+    ensures { IfOk result (λ hits. AreMarks (arc_value build.now) hits.seen.items) }
+{
+    let mut hits = Hits::new(alloc, build)?;
+    put_morsels(alloc, build, asked, size, &mut hits, rows)?;
+    Ok(hits)
+}
+
+/// Puts the rows that are found last. The answer is the kept rows that none finds.
+fn lone_of(
+    alloc: Global,
+    build: Arc<Build, Global>,
+    asked: &Frame,
+    size: usize,
+    rows: &mut Vec<Found>,
+) -> Result<LoneRows, Fault>
+    requires built { IsBuild (arc_value build) }
+    requires columns { asked.now.schema ≡ (arc_value build).asked }
+    requires some { 0 < size }
+    ensures { IfOk result AreLone }
+{
+    let hits = put_found_of(alloc, &build, asked, size, rows)?;
+    LoneRows::new(alloc, build, hits)
+}
+
 /// Puts the rows of a join with a kept side last.
 fn put_all(
     alloc: Global,
@@ -238,9 +326,7 @@ fn put_all(
     requires columns { asked.now.schema ≡ (arc_value build).asked }
     requires some { 0 < size }
 {
-    let mut hits = Hits::new(alloc, &build)?;
-    put_morsels(alloc, &build, asked, size, &mut hits, rows)?;
-    let mut lone = LoneRows::new(alloc, build, hits)?;
+    let mut lone = lone_of(alloc, build, asked, size, rows)?;
     put_lone(alloc, &mut lone, size, rows)
 }
 
@@ -256,7 +342,7 @@ fn put_looked_up(
     requires fit { FitSides (keeps_left rules.how rules.maintain_order) kept.now.schema asked.now.schema rules }
     requires some { 0 < size }
 {
-    let build = build_of(alloc, rules, kept, asked, size)?;
+    let build = shared_of(alloc, rules, kept, asked, size)?;
     put_all(alloc, build, asked, size, rows)
 }
 
@@ -293,15 +379,23 @@ fn put_right_kept(
 /// Puts the rows of a join of two tables last.
 fn put_join(
     alloc: Global,
-    left: &Frame,
-    right: &Frame,
+    tables: &Tables,
     asked: Asked,
     size: usize,
     rows: &mut Vec<Found>,
 ) -> Result<(), Fault>
     requires some { 0 < size }
 {
-    let rules = rules_of(alloc, left, right, &[("k", "k")], asked, "_right")?;
+    let left = &tables.left;
+    let right = &tables.right;
+    let rules = rules_of(
+        alloc,
+        left.schema(),
+        right.schema(),
+        &[("k", "k")],
+        asked,
+        "_right",
+    )?;
     if rules.keeps_left() {
         put_left_kept(alloc, rules, left, right, size, rows)
     } else {
@@ -320,9 +414,8 @@ pub fn put_join_of(
 ) -> Result<(), Fault>
     requires some { 0 < size }
 {
-    let left = table_of(alloc, lefts, "l")?;
-    let right = table_of(alloc, rights, "r")?;
-    put_join(alloc, &left, &right, asked, size, rows)
+    let tables = tables_of(alloc, lefts, rights)?;
+    put_join(alloc, &tables, asked, size, rows)
 }
 
 const LEFTS: [Option<i64>; 5] = [Some(1), None, Some(2), Some(1), Some(3)];

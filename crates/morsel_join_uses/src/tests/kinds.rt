@@ -1,29 +1,30 @@
 //! Keys of two columns, of numbers and of texts.
 use super::plain::are_of;
-use super::tables::{Asked, has_names, has_text, joined, number_at, rows_of, table_of_two};
+use super::tables::{
+    Asked, Tables, has_names, has_text, joined, number_at, rows_of, tables_of_two,
+};
 use morsel_frame::Frame;
 use morsel_join::{JoinType, MaintainOrderJoin};
 use morsel_meaning::Fault;
 use std::alloc::Global;
 use std::test::Fail;
 
-fn left_table(alloc: Global) -> Result<Frame, Fault> {
-    let numbers = [Some(1), Some(1), Some(2), Some(2), None];
-    let words = [Some("a"), Some("b"), Some("a"), None, Some("a")];
-    table_of_two(alloc, &numbers, &words, "l")
-}
-
-fn right_table(alloc: Global) -> Result<Frame, Fault> {
-    let numbers = [Some(1), Some(2), Some(1), Some(1), Some(2), None];
-    let words = [Some("b"), Some("b"), Some("a"), Some("b"), None, Some("a")];
-    table_of_two(alloc, &numbers, &words, "r")
+fn tables(alloc: Global) -> Result<Tables, Fault> {
+    let left_numbers = [Some(1), Some(1), Some(2), Some(2), None];
+    let left_words = [Some("a"), Some("b"), Some("a"), None, Some("a")];
+    let right_numbers = [Some(1), Some(2), Some(1), Some(1), Some(2), None];
+    let right_words = [Some("b"), Some("b"), Some("a"), Some("b"), None, Some("a")];
+    tables_of_two(
+        alloc,
+        (&left_numbers, &left_words),
+        (&right_numbers, &right_words),
+    )
 }
 
 /// The join of the two tables by both columns.
 fn joined_by_both(alloc: Global, asked: Asked) -> Result<Frame, Fault> {
-    let left = left_table(alloc)?;
-    let right = right_table(alloc)?;
-    joined(alloc, &left, &right, &[("k", "k"), ("t", "t")], asked)
+    let tables = tables(alloc)?;
+    joined(alloc, &tables, &[("k", "k"), ("t", "t")], asked)
 }
 
 /// Whether a join has rows of these rows, in this order.

@@ -31,15 +31,20 @@ fn mark_pair(seen: &mut [bool], row: &Found) -> bool {
     true
 }
 
+/// Marks each pair. The answer is whether they are pairs, and none was marked.
+fn mark_pairs(seen: &mut [bool], rows: &[Found]) -> bool {
+    for row in rows {
+        if !mark_pair(seen, row) {
+            return false;
+        }
+    }
+    true
+}
+
 /// Whether each pair is there once, and no other row.
 fn has_each_pair(alloc: Global, rows: &[Found]) -> Result<bool, Fault> {
     let mut seen = vec![in alloc; false; PAIRS]?;
-    for row in rows {
-        if !mark_pair(&mut seen, row) {
-            return Ok(false);
-        }
-    }
-    Ok(rows.len() == PAIRS)
+    Ok(mark_pairs(&mut seen, rows) && rows.len() == PAIRS)
 }
 
 /// Puts the rows of the join last, by morsels of so many rows.

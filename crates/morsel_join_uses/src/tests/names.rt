@@ -1,6 +1,6 @@
 //! The names of a join's columns, and joins that are refused.
 use super::tables::{Asked, has_names, rules_of};
-use morsel_frame::{Frame, Schema};
+use morsel_frame::Schema;
 use morsel_join::{JoinRules, JoinType, MaintainOrderJoin};
 use morsel_meaning::{ColType, Fault, Field, Name};
 use std::alloc::Global;
@@ -19,17 +19,35 @@ fn field_of(alloc: Global, name: &str) -> Result<Field, Fault> {
     })
 }
 
+fn push_field(alloc: Global, fields: &mut Vec<Field>, name: &str) -> Result<(), Fault> {
+    fields.push(field_of(alloc, name)?)?;
+    Ok(())
+}
+
+fn push_fields(alloc: Global, fields: &mut Vec<Field>, names: &[&str]) -> Result<(), Fault> {
+    for name in names {
+        push_field(alloc, fields, *name)?;
+    }
+    Ok(())
+}
+
 fn schema_of(alloc: Global, names: &[&str]) -> Result<Schema, Fault> {
     let mut fields = Vec::new(alloc);
-    for name in names {
-        fields.push(field_of(alloc, *name)?)?;
-    }
+    push_fields(alloc, &mut fields, names)?;
     Schema::new(alloc, fields)
 }
 
-/// A table without rows.
-fn table_of(alloc: Global, names: &[&str]) -> Result<Frame, Fault> {
-    Ok(Frame::empty(alloc, schema_of(alloc, names)?))
+/// The rules of a join of tables with columns of these names, by pairs of them, where the left ones are made.
+fn rules_beside(
+    alloc: Global,
+    left: &Schema,
+    right: &[&str],
+    pairs: &[(&str, &str)],
+    asked: Asked,
+    suffix: &str,
+) -> Result<JoinRules, Fault> {
+    let right = schema_of(alloc, right)?;
+    rules_of(alloc, left, &right, pairs, asked, suffix)
 }
 
 /// The rules of a join of tables with columns of these names, by pairs of them.
@@ -37,13 +55,12 @@ fn rules_between(
     alloc: Global,
     left: &[&str],
     right: &[&str],
-    keys: &[(&str, &str)],
+    pairs: &[(&str, &str)],
     asked: Asked,
     suffix: &str,
 ) -> Result<JoinRules, Fault> {
-    let left = table_of(alloc, left)?;
-    let right = table_of(alloc, right)?;
-    rules_of(alloc, &left, &right, keys, asked, suffix)
+    let left = schema_of(alloc, left)?;
+    rules_beside(alloc, &left, right, pairs, asked, suffix)
 }
 
 fn asked_for(how: JoinType, coalesce: bool) -> Asked {

@@ -1,6 +1,6 @@
 //! Every kind with every promise, nulls and coalescing, over all pairs of tables of up to three rows.
 use super::plain::are_joined;
-use super::tables::{ASKED, Asked, asked_of, has_names, joined, rows_of, table_of};
+use super::tables::{ASKED, Asked, Tables, asked_of, has_names, joined, rows_of, tables_of};
 use morsel_frame::Frame;
 use morsel_join::JoinType;
 use morsel_meaning::Fault;
@@ -52,62 +52,50 @@ fn is_join(
 /// Whether two tables of these keys are joined as is asked.
 fn are_joined_so(
     alloc: Global,
-    left: &Frame,
-    right: &Frame,
+    tables: &Tables,
     lefts: &[Option<i64>],
     rights: &[Option<i64>],
     asked: Asked,
 ) -> Result<bool, Fault> {
-    let out = joined(alloc, left, right, &[("k", "k")], asked)?;
+    let out = joined(alloc, tables, &[("k", "k")], asked)?;
     is_join(alloc, &out, lefts, rights, asked)
 }
 
 /// The number of what is asked of the first join of two tables that is wrong.
 fn first_wrong(
     alloc: Global,
-    left: &Frame,
-    right: &Frame,
+    tables: &Tables,
     lefts: &[Option<i64>],
     rights: &[Option<i64>],
 ) -> Result<Option<usize>, Fault> {
     for number in 0..ASKED {
-        if !are_joined_so(alloc, left, right, lefts, rights, asked_of(number))? {
+        if !are_joined_so(alloc, tables, lefts, rights, asked_of(number))? {
             return Ok(Some(number));
         }
     }
     Ok(None)
 }
 
-/// The same, with the right table of this number.
-fn first_wrong_with(
-    alloc: Global,
-    left: &Frame,
-    lefts: &[Option<i64>],
-    table: usize,
-) -> Result<Option<usize>, Fault> {
-    let (keys, len) = keys_of(table);
-    let rights = &keys[..len.min(3)];
-    let right = table_of(alloc, rights, "r")?;
-    first_wrong(alloc, left, &right, lefts, rights)
-}
-
-/// The numbers of the first right table and of what is asked, where a join of the left table of this number is wrong.
-fn first_wrong_of(alloc: Global, table: usize) -> Result<Option<(usize, usize)>, Fault> {
-    let (keys, len) = keys_of(table);
-    let lefts = &keys[..len.min(3)];
-    let left = table_of(alloc, lefts, "l")?;
-    for right in 0..TABLES {
-        if let Some(number) = first_wrong_with(alloc, &left, lefts, right)? {
-            return Ok(Some((right, number)));
-        }
-    }
-    Ok(None)
+/// The same of the tables of these numbers.
+fn first_wrong_of(alloc: Global, left: usize, right: usize) -> Result<Option<usize>, Fault> {
+    let (left_keys, lefts) = keys_of(left);
+    let (right_keys, rights) = keys_of(right);
+    let lefts = &left_keys[..lefts.min(3)];
+    let rights = &right_keys[..rights.min(3)];
+    let tables = tables_of(alloc, lefts, rights)?;
+    first_wrong(alloc, &tables, lefts, rights)
 }
 
 #[test]
 fn joins_of_up_to_three_rows_are_those_of_the_definition(rt: HostRuntime) -> Result<(), Fail> {
     for left in 0..TABLES {
-        assert_eq!(rt; first_wrong_of(rt.alloc(), left)?, None, "table {left}");
+        for right in 0..TABLES {
+            assert_eq!(rt;
+                first_wrong_of(rt.alloc(), left, right)?,
+                None,
+                "table {left} with {right}"
+            );
+        }
     }
     Ok(())
 }

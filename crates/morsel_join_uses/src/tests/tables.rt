@@ -1,5 +1,5 @@
-//! Tables that are made of plain lists, what they are joined by, and the rows of a join as a plain list again. A function here owns two values
-//! that are dropped at most, since each is proved to be dropped at each exit.
+//! Tables that are made of plain lists, what they are joined by, and the rows of a join as a plain list again. A function here owns one value
+//! that is dropped at most, or hands it on, since each is proved to be dropped at each exit.
 ghost use Rattle.std.specs.Prelude.{◌≡◌, ◌<◌, ◌∷◌, [], length, IfOk, IfSome};
 ghost use Rattle.morsel_join.specs.Rows.{FitRules};
 
@@ -66,12 +66,19 @@ fn push_number(column: &mut Column, number: Option<i64>) -> Result<(), Fault>
     }
 }
 
+fn push_numbers(column: &mut Column, numbers: &[Option<i64>]) -> Result<(), Fault>
+    requires { column.old.kind ≡ ColType.Int }
+{
+    for number in numbers {
+        push_number(column, *number)?;
+    }
+    Ok(())
+}
+
 /// A column of numbers.
 fn number_column(alloc: Global, numbers: &[Option<i64>]) -> Result<Column, Fault> {
     let mut column = Column::new(alloc, ColType::Int);
-    for number in numbers {
-        push_number(&mut column, *number)?;
-    }
+    push_numbers(&mut column, numbers)?;
     Ok(column)
 }
 
@@ -85,12 +92,19 @@ fn push_word(column: &mut Column, word: Option<&str>) -> Result<(), Fault>
     }
 }
 
+fn push_words(column: &mut Column, words: &[Option<&str>]) -> Result<(), Fault>
+    requires { column.old.kind ≡ ColType.Text }
+{
+    for word in words {
+        push_word(column, *word)?;
+    }
+    Ok(())
+}
+
 /// A column of texts.
 fn word_column(alloc: Global, words: &[Option<&str>]) -> Result<Column, Fault> {
     let mut column = Column::new(alloc, ColType::Text);
-    for word in words {
-        push_word(&mut column, *word)?;
-    }
+    push_words(&mut column, words)?;
     Ok(column)
 }
 
@@ -133,48 +147,92 @@ fn beside(alloc: Global, frame: Frame, other: Frame) -> Result<Frame, Fault> {
 }
 
 /// A table of these keys in a column of this name, with the numbers of its rows under another name.
-pub fn table_by(
-    alloc: Global,
-    name: &str,
-    keys: &[Option<i64>],
-    rows: &str,
-) -> Result<Frame, Fault> {
+fn table_by(alloc: Global, name: &str, keys: &[Option<i64>], rows: &str) -> Result<Frame, Fault> {
     numbered(alloc, numbers_of(alloc, name, keys)?, rows)
 }
 
-/// The same, with the keys in the column `k`.
-pub fn table_of(alloc: Global, keys: &[Option<i64>], rows: &str) -> Result<Frame, Fault> {
-    table_by(alloc, "k", keys, rows)
-}
-
 /// A table of keys of two columns, `k` with numbers and `t` with texts, with the numbers of its rows under another name.
-pub fn table_of_two(
+fn table_of_two(
     alloc: Global,
     numbers: &[Option<i64>],
     words: &[Option<&str>],
     rows: &str,
 ) -> Result<Frame, Fault> {
     let first = numbers_of(alloc, "k", numbers)?;
-    let second = words_of(alloc, "t", words)?;
-    numbered(alloc, beside(alloc, first, second)?, rows)
+    let both = beside(alloc, first, words_of(alloc, "t", words)?)?;
+    numbered(alloc, both, rows)
 }
 
-/// The left names of pairs of keys.
-fn left_names(alloc: Global, keys: &[(&str, &str)]) -> Result<Vec<Name>, Fault> {
-    let mut names = Vec::new(alloc);
-    for (left, _) in keys {
-        names.push(Name::new(alloc, *left)?)?;
-    }
-    Ok(names)
+/// The left and the right table of a join.
+#[derive(Drop)]
+pub struct Tables {
+    pub left: Frame,
+    pub right: Frame,
 }
 
-/// The right names of pairs of keys.
-fn right_names(alloc: Global, keys: &[(&str, &str)]) -> Result<Vec<Name>, Fault> {
-    let mut names = Vec::new(alloc);
-    for (_, right) in keys {
-        names.push(Name::new(alloc, *right)?)?;
+/// Two tables of these keys, with the right ones in a column of this name.
+pub fn tables_by(
+    alloc: Global,
+    lefts: &[Option<i64>],
+    name: &str,
+    rights: &[Option<i64>],
+) -> Result<Tables, Fault> {
+    let left = table_by(alloc, "k", lefts, "l")?;
+    let right = table_by(alloc, name, rights, "r")?;
+    Ok(Tables { left, right })
+}
+
+/// Two tables of these keys.
+pub fn tables_of(
+    alloc: Global,
+    lefts: &[Option<i64>],
+    rights: &[Option<i64>],
+) -> Result<Tables, Fault> {
+    tables_by(alloc, lefts, "k", rights)
+}
+
+/// Two tables of these keys of two columns.
+pub fn tables_of_two(
+    alloc: Global,
+    lefts: (&[Option<i64>], &[Option<&str>]),
+    rights: (&[Option<i64>], &[Option<&str>]),
+) -> Result<Tables, Fault> {
+    let left = table_of_two(alloc, lefts.0, lefts.1, "l")?;
+    let right = table_of_two(alloc, rights.0, rights.1, "r")?;
+    Ok(Tables { left, right })
+}
+
+/// The names of pairs of keys.
+#[derive(Drop)]
+struct Keys {
+    left: Vec<Name>,
+    right: Vec<Name>,
+}
+
+fn push_name(alloc: Global, names: &mut Vec<Name>, name: &str) -> Result<(), Fault> {
+    names.push(Name::new(alloc, name)?)?;
+    Ok(())
+}
+
+fn push_pair(alloc: Global, keys: &mut Keys, left: &str, right: &str) -> Result<(), Fault> {
+    push_name(alloc, &mut keys.left, left)?;
+    push_name(alloc, &mut keys.right, right)
+}
+
+fn push_pairs(alloc: Global, keys: &mut Keys, pairs: &[(&str, &str)]) -> Result<(), Fault> {
+    for (left, right) in pairs {
+        push_pair(alloc, keys, *left, *right)?;
     }
-    Ok(names)
+    Ok(())
+}
+
+fn keys_of(alloc: Global, pairs: &[(&str, &str)]) -> Result<Keys, Fault> {
+    let mut keys = Keys {
+        left: Vec::new(alloc),
+        right: Vec::new(alloc),
+    };
+    push_pairs(alloc, &mut keys, pairs)?;
+    Ok(keys)
 }
 
 fn args_of(alloc: Global, asked: Asked, suffix: &str) -> Result<JoinArgs, Fault> {
@@ -210,54 +268,52 @@ fn rules_by(
 
 fn rules_with(
     alloc: Global,
-    left: &Frame,
-    right: &Frame,
-    keys: &[(&str, &str)],
+    left: &Schema,
+    right: &Schema,
+    pairs: &[(&str, &str)],
     args: &JoinArgs,
 ) -> Result<JoinRules, Fault>
-    ensures { IfOk result (λ rules. FitRules left.now.schema right.now.schema rules) }
+    ensures { IfOk result (λ rules. FitRules left.now right.now rules) }
 {
-    let left_keys = left_names(alloc, keys)?;
-    let right_keys = right_names(alloc, keys)?;
-    let rules = rules_by(
-        alloc,
-        left.schema(),
-        right.schema(),
-        &left_keys,
-        &right_keys,
-        args,
-    )?;
-    Ok(rules)
+    let keys = keys_of(alloc, pairs)?;
+    rules_by(alloc, left, right, &keys.left, &keys.right, args)
 }
 
-/// The rules of a join of two tables by pairs of columns of these names.
+/// The rules of a join of tables with these columns, by pairs of columns of these names.
 pub fn rules_of(
     alloc: Global,
-    left: &Frame,
-    right: &Frame,
-    keys: &[(&str, &str)],
+    left: &Schema,
+    right: &Schema,
+    pairs: &[(&str, &str)],
     asked: Asked,
     suffix: &str,
 ) -> Result<JoinRules, Fault>
-    ensures { IfOk result (λ rules. FitRules left.now.schema right.now.schema rules) }
+    ensures { IfOk result (λ rules. FitRules left.now right.now rules) }
 {
     let args = args_of(alloc, asked, suffix)?;
-    rules_with(alloc, left, right, keys, &args)
+    rules_with(alloc, left, right, pairs, &args)
+}
+
+fn join_by(alloc: Global, tables: &Tables, rules: &JoinRules) -> Result<Frame, Fault>
+    requires { FitRules tables.now.left.schema tables.now.right.schema rules.now }
+{
+    if tables.left.height() > 1000 || tables.right.height() > 1000 {
+        return Err(Fault::Usage);
+    }
+    join_frames(alloc, &tables.left, &tables.right, rules)
 }
 
 /// The join of two tables by pairs of columns of these names.
 pub fn joined(
     alloc: Global,
-    left: &Frame,
-    right: &Frame,
-    keys: &[(&str, &str)],
+    tables: &Tables,
+    pairs: &[(&str, &str)],
     asked: Asked,
 ) -> Result<Frame, Fault> {
-    if left.height() > 1000 || right.height() > 1000 {
-        return Err(Fault::Usage);
-    }
-    let rules = rules_of(alloc, left, right, keys, asked, "_right")?;
-    join_frames(alloc, left, right, &rules)
+    let left = tables.left.schema();
+    let right = tables.right.schema();
+    let rules = rules_of(alloc, left, right, pairs, asked, "_right")?;
+    join_by(alloc, tables, &rules)
 }
 
 /// The place of a column that is there.

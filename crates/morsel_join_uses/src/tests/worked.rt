@@ -2,7 +2,7 @@
 ghost use Rattle.std.specs.Prelude.{◌<◌};
 
 use super::cuts::put_join_of;
-use super::tables::{Asked, Found, has_names, joined, rows_of, table_by, table_of};
+use super::tables::{Asked, Found, has_names, joined, rows_of, tables_by};
 use morsel_frame::Frame;
 use morsel_join::{JoinType, MaintainOrderJoin};
 use morsel_meaning::Fault;
@@ -30,6 +30,18 @@ fn is_join(alloc: Global, out: &Frame, names: &[&str], wanted: &[Found]) -> Resu
     Ok(has_names(out.schema().fields(), names) && rows.as_slice() == wanted)
 }
 
+/// The join of tables of these keys, with the right ones in a column of this name.
+fn joined_of(
+    alloc: Global,
+    lefts: &[Option<i64>],
+    name: &str,
+    rights: &[Option<i64>],
+    asked: Asked,
+) -> Result<Frame, Fault> {
+    let tables = tables_by(alloc, lefts, name, rights)?;
+    joined(alloc, &tables, &[("k", name)], asked)
+}
+
 /// The full join by the left and then the right row, of which no columns become one.
 fn full(nulls: bool) -> Asked {
     Asked {
@@ -40,15 +52,11 @@ fn full(nulls: bool) -> Asked {
     }
 }
 
-/// The full join of keys 1, 1, null with 1, null, 2.
-fn full_joined(alloc: Global, nulls: bool) -> Result<Frame, Fault> {
-    let left = table_of(alloc, &[Some(1), Some(1), None], "l")?;
-    let right = table_of(alloc, &[Some(1), None, Some(2)], "r")?;
-    joined(alloc, &left, &right, &[("k", "k")], full(nulls))
-}
-
+/// Whether the full join of keys 1, 1, null with 1, null, 2 has these rows.
 fn is_full(alloc: Global, nulls: bool, wanted: &[Found]) -> Result<bool, Fault> {
-    let out = full_joined(alloc, nulls)?;
+    let lefts = [Some(1), Some(1), None];
+    let rights = [Some(1), None, Some(2)];
+    let out = joined_of(alloc, &lefts, "k", &rights, full(nulls))?;
     is_join(alloc, &out, &["l", "k", "r", "k_right"], wanted)
 }
 
@@ -77,30 +85,26 @@ fn equal_nulls_are_a_pair(rt: HostRuntime) -> Result<(), Fail> {
     Ok(())
 }
 
-/// The full join of keys 1, 2 with 2, 3, where the right ones have another name and become one column with the left ones.
-fn coalesced(alloc: Global) -> Result<Frame, Fault> {
-    let left = table_of(alloc, &[Some(1), Some(2)], "l")?;
-    let right = table_by(alloc, "a", &[Some(2), Some(3)], "r")?;
+/// Whether the full join of keys 1, 2 with 2, 3 has these rows, where the right ones have another name and become one column with the left ones.
+fn is_coalesced(alloc: Global, wanted: &[Found]) -> Result<bool, Fault> {
     let asked = Asked {
         coalesce: true,
         ..full(false)
     };
-    joined(alloc, &left, &right, &[("k", "a")], asked)
+    let lefts = [Some(1), Some(2)];
+    let rights = [Some(2), Some(3)];
+    let out = joined_of(alloc, &lefts, "a", &rights, asked)?;
+    is_join(alloc, &out, &["l", "k", "r"], wanted)
 }
 
-fn is_coalesced(alloc: Global) -> Result<bool, Fault> {
-    let out = coalesced(alloc)?;
+#[test]
+fn a_coalesced_key_is_that_of_either_side(rt: HostRuntime) -> Result<(), Fail> {
     let wanted = [
         row(Some(0), None, Some(1), None),
         row(Some(1), Some(0), Some(2), None),
         row(None, Some(1), Some(3), None),
     ];
-    is_join(alloc, &out, &["l", "k", "r"], &wanted)
-}
-
-#[test]
-fn a_coalesced_key_is_that_of_either_side(rt: HostRuntime) -> Result<(), Fail> {
-    assert!(rt; is_coalesced(rt.alloc())?);
+    assert!(rt; is_coalesced(rt.alloc(), &wanted)?);
     Ok(())
 }
 
@@ -114,32 +118,16 @@ fn right(order: MaintainOrderJoin) -> Asked {
     }
 }
 
-/// The right join of no row with one.
-fn right_joined(alloc: Global) -> Result<Frame, Fault> {
-    let left = table_of(alloc, &[], "l")?;
-    let other = table_of(alloc, &[Some(1)], "r")?;
-    joined(
-        alloc,
-        &left,
-        &other,
-        &[("k", "k")],
-        right(MaintainOrderJoin::None),
-    )
-}
-
-fn is_right(alloc: Global) -> Result<bool, Fault> {
-    let out = right_joined(alloc)?;
-    is_join(
-        alloc,
-        &out,
-        &["l", "r", "k"],
-        &[row(None, Some(0), Some(1), None)],
-    )
+/// Whether the right join of no row with one has these rows.
+fn is_right(alloc: Global, wanted: &[Found]) -> Result<bool, Fault> {
+    let asked = right(MaintainOrderJoin::None);
+    let out = joined_of(alloc, &[], "k", &[Some(1)], asked)?;
+    is_join(alloc, &out, &["l", "r", "k"], wanted)
 }
 
 #[test]
 fn a_right_join_of_no_left_row_has_the_right_keys(rt: HostRuntime) -> Result<(), Fail> {
-    assert!(rt; is_right(rt.alloc())?);
+    assert!(rt; is_right(rt.alloc(), &[row(None, Some(0), Some(1), None)])?);
     Ok(())
 }
 
