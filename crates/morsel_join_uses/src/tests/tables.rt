@@ -61,8 +61,14 @@ fn push_number(column: &mut Column, number: Option<i64>) -> Result<(), Fault>
     ensures { column.new.kind ≡ column.old.kind }
 {
     match number {
-        Some(number) => column.push_int(number),
-        None => column.push_null(),
+        Some(number) => {
+            column.push_int(number)?;
+            Ok(())
+        }
+        None => {
+            column.push_null()?;
+            Ok(())
+        }
     }
 }
 
@@ -87,8 +93,14 @@ fn push_word(column: &mut Column, word: Option<&str>) -> Result<(), Fault>
     ensures { column.new.kind ≡ column.old.kind }
 {
     match word {
-        Some(word) => column.push_text(word),
-        None => column.push_null(),
+        Some(word) => {
+            column.push_text(word)?;
+            Ok(())
+        }
+        None => {
+            column.push_null()?;
+            Ok(())
+        }
     }
 }
 
