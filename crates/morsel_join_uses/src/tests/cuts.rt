@@ -1,6 +1,6 @@
 //! Joins whose rows are looked up by morsels of so many, one after the other, each of which gives at most as many rows at a time. The kept rows
 //! come in two frames, and those that none finds come last.
-ghost use Rattle.std.specs.Prelude.{◌≡◌, ◌<◌, true, false, IfOk, OnOk};
+ghost use Rattle.std.specs.Prelude.{◌≡◌, ◌<◌, ◌^◌, true, false, length, IfOk, OnOk};
 ghost use Rattle.std.specs.Arc.{arc_value};
 ghost use Rattle.std.specs.List.{All};
 ghost use Rattle.morsel_join.specs.BuildSides.{IsBuild};
@@ -157,17 +157,16 @@ fn join_marks(alloc: Global, probing: &Probing, hits: &mut Hits) -> Result<(), F
     Ok(())
 }
 
-/// A morsel that is looked up.
-fn looked_up(alloc: Global, build: Arc<Build, Global>, morsel: Frame) -> Result<Probing, Fault>
-    requires built { IsBuild (arc_value build) }
-    requires columns { morsel.schema ≡ (arc_value build).asked }
-    ensures probing { IfOk result IsProbing }
-    ensures build { IfOk result (λ probing. arc_value probing.build ≡ arc_value build) }
+/// So many of the rows from one on.
+fn slice_of(alloc: Global, asked: &Frame, from: usize, size: usize) -> Result<Frame, Fault>
+    ensures columns { IfOk result (λ morsel. morsel.schema ≡ asked.now.schema) }
+    ensures short { IfOk result (λ morsel. length morsel.rows < 2 ^ 32) }
 {
+    let morsel = asked.slice(alloc, from, size)?;
     if morsel.height() > 1000 {
         return Err(Fault::Usage);
     }
-    Probing::new(alloc, build, morsel)
+    Ok(morsel)
 }
 
 /// So many of the rows from one on, which are looked up.
@@ -183,8 +182,8 @@ fn probing_of(
     ensures probing { IfOk result IsProbing }
     ensures build { IfOk result (λ probing. arc_value probing.build ≡ arc_value build.now) }
 {
-    let morsel = asked.slice(alloc, from, size)?;
-    looked_up(alloc, build.clone()?, morsel)
+    let morsel = slice_of(alloc, asked, from, size)?;
+    Probing::new(alloc, build.clone()?, morsel)
 }
 
 /// Puts what the rows of a morsel find last.

@@ -81,22 +81,41 @@ fn has_all(alloc: Global, order: MaintainOrderJoin, size: usize) -> Result<bool,
     Ok(are_in_order(order, &rows) && has_each_pair(alloc, &rows)?)
 }
 
-/// Whether that holds of each promise.
-fn has_all_in_each_order(alloc: Global, size: usize) -> Result<bool, Fault>
-    requires some { 0 < size }
-{
-    Ok(
-        has_all(alloc, MaintainOrderJoin::None, size)?
-            && has_all(alloc, MaintainOrderJoin::Left, size)?
-            && has_all(alloc, MaintainOrderJoin::Right, size)?
-            && has_all(alloc, MaintainOrderJoin::LeftRight, size)?
-            && has_all(alloc, MaintainOrderJoin::RightLeft, size)?,
-    )
+/// Whether that holds by morsels of one row, and of seven.
+fn has_all_by_each(alloc: Global, order: MaintainOrderJoin) -> Result<bool, Fault> {
+    Ok(has_all(alloc, order, 1)? && has_all(alloc, order, 7)?)
 }
 
 #[test]
 fn a_key_of_many_rows_gives_all_pairs(rt: HostRuntime) -> Result<(), Fail> {
-    assert!(rt; has_all_in_each_order(rt.alloc(), 1)?, "by 1");
-    assert!(rt; has_all_in_each_order(rt.alloc(), 7)?, "by 7");
+    assert!(rt; has_all_by_each(rt.alloc(), MaintainOrderJoin::None)?);
+    Ok(())
+}
+
+#[test]
+fn a_key_of_many_rows_gives_all_pairs_by_left_rows(rt: HostRuntime) -> Result<(), Fail> {
+    assert!(rt; has_all_by_each(rt.alloc(), MaintainOrderJoin::Left)?);
+    Ok(())
+}
+
+#[test]
+fn a_key_of_many_rows_gives_all_pairs_by_right_rows(rt: HostRuntime) -> Result<(), Fail> {
+    assert!(rt; has_all_by_each(rt.alloc(), MaintainOrderJoin::Right)?);
+    Ok(())
+}
+
+#[test]
+fn a_key_of_many_rows_gives_all_pairs_by_left_and_then_right_rows(
+    rt: HostRuntime,
+) -> Result<(), Fail> {
+    assert!(rt; has_all_by_each(rt.alloc(), MaintainOrderJoin::LeftRight)?);
+    Ok(())
+}
+
+#[test]
+fn a_key_of_many_rows_gives_all_pairs_by_right_and_then_left_rows(
+    rt: HostRuntime,
+) -> Result<(), Fail> {
+    assert!(rt; has_all_by_each(rt.alloc(), MaintainOrderJoin::RightLeft)?);
     Ok(())
 }

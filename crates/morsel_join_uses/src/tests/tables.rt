@@ -7,6 +7,7 @@ use morsel_frame::{Cell, Column, Frame, Schema};
 use morsel_join::{JoinArgs, JoinRules, JoinType, MaintainOrderJoin, join_frames};
 use morsel_meaning::{ColType, Fault, Field, Name};
 use std::alloc::Global;
+use std::mem::drop;
 
 /// What is asked of a join, but for the suffix.
 #[derive(Clone, Copy, Debug)]
@@ -56,25 +57,15 @@ pub fn asked_of(number: usize) -> Asked {
     }
 }
 
-fn push_number(column: &mut Column, number: Option<i64>) -> Result<(), Fault>
-    requires { column.old.kind ≡ ColType.Int }
-    ensures { column.new.kind ≡ column.old.kind }
-{
-    match number {
-        Some(number) => {
-            column.push_int(number)?;
-            Ok(())
-        }
-        None => {
-            column.push_null()?;
-            Ok(())
-        }
+/// Puts a number last, or a null.
+fn push_number(column: &mut Column, number: Option<i64>) -> Result<(), Fault> {
+    match (column.kind(), number) {
+        (ColType::Int, Some(number)) => column.push_int(number),
+        _ => column.push_null(),
     }
 }
 
-fn push_numbers(column: &mut Column, numbers: &[Option<i64>]) -> Result<(), Fault>
-    requires { column.old.kind ≡ ColType.Int }
-{
+fn push_numbers(column: &mut Column, numbers: &[Option<i64>]) -> Result<(), Fault> {
     for number in numbers {
         push_number(column, *number)?;
     }
@@ -88,25 +79,15 @@ fn number_column(alloc: Global, numbers: &[Option<i64>]) -> Result<Column, Fault
     Ok(column)
 }
 
-fn push_word(column: &mut Column, word: Option<&str>) -> Result<(), Fault>
-    requires { column.old.kind ≡ ColType.Text }
-    ensures { column.new.kind ≡ column.old.kind }
-{
-    match word {
-        Some(word) => {
-            column.push_text(word)?;
-            Ok(())
-        }
-        None => {
-            column.push_null()?;
-            Ok(())
-        }
+/// Puts a text last, or a null.
+fn push_word(column: &mut Column, word: Option<&str>) -> Result<(), Fault> {
+    match (column.kind(), word) {
+        (ColType::Text, Some(word)) => column.push_text(word),
+        _ => column.push_null(),
     }
 }
 
-fn push_words(column: &mut Column, words: &[Option<&str>]) -> Result<(), Fault>
-    requires { column.old.kind ≡ ColType.Text }
-{
+fn push_words(column: &mut Column, words: &[Option<&str>]) -> Result<(), Fault> {
     for word in words {
         push_word(column, *word)?;
     }
@@ -153,6 +134,8 @@ fn numbered(alloc: Global, frame: Frame, rows: &str) -> Result<Frame, Fault> {
 /// Two frames side by side, where their heights are the same.
 fn beside(alloc: Global, frame: Frame, other: Frame) -> Result<Frame, Fault> {
     if frame.height() != other.height() {
+        drop(frame);
+        drop(other);
         return Err(Fault::Usage);
     }
     frame.hstack(alloc, other)
@@ -328,12 +311,21 @@ pub fn joined(
     join_by(alloc, tables, &rules)
 }
 
+/// The place, if a frame has a column there.
+fn within(frame: &Frame, at: usize) -> Option<usize>
+    ensures { IfSome result (λ at. at < length frame.now.schema) }
+{
+    if at < frame.width() { Some(at) } else { None }
+}
+
 /// The place of a column that is there.
 fn place_of(frame: &Frame, name: &str) -> Option<usize>
     ensures { IfSome result (λ at. at < length frame.now.schema) }
 {
-    let at = frame.schema().find(name)?;
-    if at < frame.width() { Some(at) } else { None }
+    match frame.schema().find(name) {
+        Some(at) => within(frame, at),
+        None => None,
+    }
 }
 
 /// The number of a row in a column, if it has one there.
@@ -386,15 +378,17 @@ pub fn rows_of(alloc: Global, frame: &Frame) -> Result<Vec<Found>, Fault> {
     Ok(rows)
 }
 
+/// Whether the column at a place has this name.
+fn is_named(fields: &[Field], at: usize, name: &str) -> bool {
+    at < fields.len() && fields[at].name.as_str() == name
+}
+
 /// Whether columns have these names.
 pub fn has_names(fields: &[Field], names: &[&str]) -> bool {
-    if fields.len() != names.len() {
-        return false;
-    }
     for at in 0..names.len() {
-        if fields[at].name.as_str() != names[at] {
+        if !is_named(fields, at, names[at]) {
             return false;
         }
     }
-    true
+    fields.len() == names.len()
 }

@@ -30,16 +30,17 @@ fn is_join(alloc: Global, out: &Frame, names: &[&str], wanted: &[Found]) -> Resu
     Ok(has_names(out.schema().fields(), names) && rows.as_slice() == wanted)
 }
 
-/// The join of tables of these keys, with the right ones in a column of this name.
+/// The join of tables of these keys, with the right ones in a column of this name, by pairs of columns.
 fn joined_of(
     alloc: Global,
     lefts: &[Option<i64>],
     name: &str,
     rights: &[Option<i64>],
+    pairs: &[(&str, &str)],
     asked: Asked,
 ) -> Result<Frame, Fault> {
     let tables = tables_by(alloc, lefts, name, rights)?;
-    joined(alloc, &tables, &[("k", name)], asked)
+    joined(alloc, &tables, pairs, asked)
 }
 
 /// The full join by the left and then the right row, of which no columns become one.
@@ -56,7 +57,7 @@ fn full(nulls: bool) -> Asked {
 fn is_full(alloc: Global, nulls: bool, wanted: &[Found]) -> Result<bool, Fault> {
     let lefts = [Some(1), Some(1), None];
     let rights = [Some(1), None, Some(2)];
-    let out = joined_of(alloc, &lefts, "k", &rights, full(nulls))?;
+    let out = joined_of(alloc, &lefts, "k", &rights, &[("k", "k")], full(nulls))?;
     is_join(alloc, &out, &["l", "k", "r", "k_right"], wanted)
 }
 
@@ -93,7 +94,7 @@ fn is_coalesced(alloc: Global, wanted: &[Found]) -> Result<bool, Fault> {
     };
     let lefts = [Some(1), Some(2)];
     let rights = [Some(2), Some(3)];
-    let out = joined_of(alloc, &lefts, "a", &rights, asked)?;
+    let out = joined_of(alloc, &lefts, "a", &rights, &[("k", "a")], asked)?;
     is_join(alloc, &out, &["l", "k", "r"], wanted)
 }
 
@@ -121,7 +122,7 @@ fn right(order: MaintainOrderJoin) -> Asked {
 /// Whether the right join of no row with one has these rows.
 fn is_right(alloc: Global, wanted: &[Found]) -> Result<bool, Fault> {
     let asked = right(MaintainOrderJoin::None);
-    let out = joined_of(alloc, &[], "k", &[Some(1)], asked)?;
+    let out = joined_of(alloc, &[], "k", &[Some(1)], &[("k", "k")], asked)?;
     is_join(alloc, &out, &["l", "r", "k"], wanted)
 }
 
