@@ -16,6 +16,7 @@ use morsel_frame::{Frame, Schema};
 use morsel_join::{Build, Hits, JoinRules, LoneRows, Probing};
 use morsel_meaning::Fault;
 use std::alloc::Global;
+use std::mem::drop;
 use std::sync::Arc;
 use std::test::Fail;
 
@@ -164,6 +165,7 @@ fn slice_of(alloc: Global, asked: &Frame, from: usize, size: usize) -> Result<Fr
 {
     let morsel = asked.slice(alloc, from, size)?;
     if morsel.height() > 1000 {
+        drop(morsel);
         return Err(Fault::Usage);
     }
     Ok(morsel)

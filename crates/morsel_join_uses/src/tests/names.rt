@@ -109,70 +109,78 @@ fn is_refused(
     }
 }
 
+/// All kinds, and those that keep the left keys.
+const KINDS: &[JoinType] = &[
+    JoinType::Inner,
+    JoinType::Left,
+    JoinType::Full,
+    JoinType::Right,
+];
+
+const LEFT_KEEPING: &[JoinType] = &[JoinType::Inner, JoinType::Left, JoinType::Full];
+
+const A: &[&str] = &["a"];
+
+const AB: &[&str] = &["a", "b"];
+
+const ABC: &[&str] = &["a", "b", "c"];
+
+const ACD: &[&str] = &["a", "c", "d"];
+
+/// Pairs of the columns `a`.
+const BY_A: &[(&str, &str)] = &[("a", "a")];
+
+/// Pairs of the columns `a` and `k`.
+const A_BY_K: &[(&str, &str)] = &[("a", "k")];
+
+/// Whether the rows of a join by one of some kinds have these columns, whichever kind it is.
+fn each_gives(
+    alloc: Global,
+    kinds: &[JoinType],
+    left: &[&str],
+    right: &[&str],
+    pairs: &[(&str, &str)],
+    coalesce: bool,
+    wanted: &[&str],
+) -> bool {
+    for how in kinds {
+        if !gives(alloc, left, right, pairs, asked_for(*how, coalesce), wanted) {
+            return false;
+        }
+    }
+    true
+}
+
 #[test]
 fn a_suffix_is_put_only_where_a_name_clashes(rt: HostRuntime) -> Result<(), Fail> {
-    let left = ["a", "b", "c"];
-    let right = ["a", "c", "d"];
-    let keys = [("a", "a")];
-    for how in [JoinType::Inner, JoinType::Left, JoinType::Full] {
-        let asked = asked_for(how, true);
-        let wanted = ["a", "b", "c", "c_right", "d"];
-        assert!(rt; gives(rt.alloc(), &left, &right, &keys, asked, &wanted));
-    }
-    let asked = asked_for(JoinType::Right, true);
+    let alloc = rt.alloc();
+    let wanted = ["a", "b", "c", "c_right", "d"];
+    assert!(rt; each_gives(alloc, LEFT_KEEPING, ABC, ACD, BY_A, true, &wanted));
     let wanted = ["b", "c", "a", "c_right", "d"];
-    assert!(rt; gives(rt.alloc(), &left, &right, &keys, asked, &wanted));
-    for how in [
-        JoinType::Inner,
-        JoinType::Left,
-        JoinType::Right,
-        JoinType::Full,
-    ] {
-        let asked = asked_for(how, false);
-        let wanted = ["a", "b", "c", "a_right", "c_right", "d"];
-        assert!(rt; gives(rt.alloc(), &left, &right, &keys, asked, &wanted));
-    }
+    assert!(rt; each_gives(alloc, &[JoinType::Right], ABC, ACD, BY_A, true, &wanted));
+    let wanted = ["a", "b", "c", "a_right", "c_right", "d"];
+    assert!(rt; each_gives(alloc, KINDS, ABC, ACD, BY_A, false, &wanted));
     Ok(())
 }
 
 #[test]
 fn a_left_key_that_is_left_out_still_clashes(rt: HostRuntime) -> Result<(), Fail> {
-    let left = ["a", "b"];
+    let alloc = rt.alloc();
     let right = ["k", "a"];
-    let keys = [("a", "k")];
-    for how in [JoinType::Inner, JoinType::Left, JoinType::Full] {
-        let asked = asked_for(how, true);
-        assert!(rt;
-            gives(
-                rt.alloc(),
-                &left,
-                &right,
-                &keys,
-                asked,
-                &["a", "b", "a_right"]
-            )
-        );
-    }
-    let asked = asked_for(JoinType::Right, true);
+    let wanted = ["a", "b", "a_right"];
+    assert!(rt; each_gives(alloc, LEFT_KEEPING, AB, &right, A_BY_K, true, &wanted));
+    let wanted = ["b", "k", "a_right"];
+    assert!(rt; each_gives(alloc, &[JoinType::Right], AB, &right, A_BY_K, true, &wanted));
+    let wanted = ["a", "b", "k", "a_right"];
     assert!(rt;
-        gives(
-            rt.alloc(),
-            &left,
+        each_gives(
+            alloc,
+            &[JoinType::Right],
+            AB,
             &right,
-            &keys,
-            asked,
-            &["b", "k", "a_right"]
-        )
-    );
-    let asked = asked_for(JoinType::Right, false);
-    assert!(rt;
-        gives(
-            rt.alloc(),
-            &left,
-            &right,
-            &keys,
-            asked,
-            &["a", "b", "k", "a_right"]
+            A_BY_K,
+            false,
+            &wanted
         )
     );
     Ok(())
@@ -187,25 +195,31 @@ fn is_duplicate(
     suffix: &str,
     wanted: &str,
 ) -> Result<bool, Fault> {
-    is_refused(alloc, left, right, &[("a", "a")], asked, suffix, wanted)
+    is_refused(alloc, left, right, BY_A, asked, suffix, wanted)
+}
+
+/// Whether the coalesced join is refused, whichever kind it is of.
+fn each_is_duplicate(
+    alloc: Global,
+    left: &[&str],
+    right: &[&str],
+    wanted: &str,
+) -> Result<bool, Fault> {
+    for how in KINDS {
+        if !is_duplicate(alloc, left, right, asked_for(*how, true), "_right", wanted)? {
+            return Ok(false);
+        }
+    }
+    Ok(true)
 }
 
 #[test]
 fn a_suffixed_name_of_a_left_column_is_refused(rt: HostRuntime) -> Result<(), Fail> {
     let alloc = rt.alloc();
     let left = ["a", "b", "b_right"];
-    let right = ["a", "b"];
-    let told = "duplicate column: b_right";
-    for how in [
-        JoinType::Inner,
-        JoinType::Left,
-        JoinType::Right,
-        JoinType::Full,
-    ] {
-        assert!(rt; is_duplicate(alloc, &left, &right, asked_for(how, true), "_right", told)?);
-    }
+    assert!(rt; each_is_duplicate(alloc, &left, AB, "duplicate column: b_right")?);
     let asked = asked_for(JoinType::Inner, true);
-    assert!(rt; is_duplicate(alloc, &left[..2], &right, asked, "", "duplicate column: b")?);
+    assert!(rt; is_duplicate(alloc, AB, AB, asked, "", "duplicate column: b")?);
     Ok(())
 }
 
@@ -214,21 +228,24 @@ fn a_suffixed_key_of_a_left_column_is_refused(rt: HostRuntime) -> Result<(), Fai
     let alloc = rt.alloc();
     let left = ["a", "a_right"];
     let apart = asked_for(JoinType::Inner, false);
-    let told = "duplicate column: a_right";
-    assert!(rt; is_duplicate(alloc, &left, &["a"], apart, "_right", told)?);
-    let coalesced = asked_for(JoinType::Inner, true);
     assert!(rt;
-        gives(
+        is_duplicate(
             alloc,
             &left,
-            &["a"],
-            &[("a", "a")],
-            coalesced,
-            &["a", "a_right"]
-        )
+            A,
+            apart,
+            "_right",
+            "duplicate column: a_right"
+        )?
     );
+    let coalesced = asked_for(JoinType::Inner, true);
+    assert!(rt; gives(alloc, &left, A, BY_A, coalesced, &left));
     Ok(())
 }
+
+const K: &[&str] = &["k"];
+
+const AK: &[&str] = &["a", "k"];
 
 #[test]
 fn a_name_that_two_columns_would_have_is_refused(rt: HostRuntime) -> Result<(), Fail> {
@@ -236,13 +253,11 @@ fn a_name_that_two_columns_would_have_is_refused(rt: HostRuntime) -> Result<(), 
     let suffixed = ["a", "b", "b_right"];
     let asked = asked_for(JoinType::Left, true);
     let told = "duplicate column: b_right";
-    assert!(rt; is_duplicate(alloc, &["a", "b"], &suffixed, asked, "_right", told)?);
-    let left = ["a", "k"];
-    let keys = [("a", "k")];
-    assert!(rt; gives(alloc, &left, &["k"], &keys, asked, &["a", "k"]));
+    assert!(rt; is_duplicate(alloc, AB, &suffixed, asked, "_right", told)?);
+    assert!(rt; gives(alloc, AK, K, A_BY_K, asked, AK));
     let right_kept = asked_for(JoinType::Right, true);
     let told = "duplicate column: k";
-    assert!(rt; is_refused(alloc, &left, &["k"], &keys, right_kept, "_right", told)?);
+    assert!(rt; is_refused(alloc, AK, K, A_BY_K, right_kept, "_right", told)?);
     Ok(())
 }
 
@@ -265,15 +280,19 @@ fn is_refused_by(
     )
 }
 
+/// Pairs of which one column is absent, on either side, and of which one has another type.
+const LEFT_ABSENT: &[(&str, &str)] = &[("b", "y"), ("x", "a")];
+
+const RIGHT_ABSENT: &[(&str, &str)] = &[("t", "a"), ("b", "y")];
+
+const OTHER_TYPE: &[(&str, &str)] = &[("b", "a"), ("t", "a")];
+
 #[test]
 fn keys_are_columns_of_one_type(rt: HostRuntime) -> Result<(), Fail> {
     let alloc = rt.alloc();
-    let absent = [("b", "y"), ("x", "a")];
-    assert!(rt; is_refused_by(alloc, &absent, "_right", "column not found: x")?);
-    let right_absent = [("t", "a"), ("b", "y")];
-    assert!(rt; is_refused_by(alloc, &right_absent, "_right", "column not found: y")?);
-    let other_type = [("b", "a"), ("t", "a")];
-    assert!(rt; is_refused_by(alloc, &other_type, "_right", "schema mismatch: t")?);
-    assert!(rt; is_refused_by(alloc, &absent, "", "duplicate column: a")?);
+    assert!(rt; is_refused_by(alloc, LEFT_ABSENT, "_right", "column not found: x")?);
+    assert!(rt; is_refused_by(alloc, RIGHT_ABSENT, "_right", "column not found: y")?);
+    assert!(rt; is_refused_by(alloc, OTHER_TYPE, "_right", "schema mismatch: t")?);
+    assert!(rt; is_refused_by(alloc, LEFT_ABSENT, "", "duplicate column: a")?);
     Ok(())
 }

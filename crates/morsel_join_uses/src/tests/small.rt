@@ -10,14 +10,8 @@ use std::test::Fail;
 /// How many tables there are of up to three rows with three keys.
 const TABLES: usize = 40;
 
-/// One of three keys.
-fn key_of(number: usize) -> Option<i64> {
-    match number % 3 {
-        0 => None,
-        1 => Some(1),
-        _ => Some(2),
-    }
-}
+/// The keys.
+const KEYS: [Option<i64>; 3] = [None, Some(1), Some(2)];
 
 /// The keys of the table of this number, and how many it has: none for 0, one for 1 to 3, two for 4 to 12, and three for the others.
 fn keys_of(table: usize) -> ([Option<i64>; 3], usize) {
@@ -31,7 +25,7 @@ fn keys_of(table: usize) -> ([Option<i64>; 3], usize) {
         (3, table - 13)
     };
     (
-        [key_of(number), key_of(number / 3), key_of(number / 9)],
+        [KEYS[number % 3], KEYS[number / 3 % 3], KEYS[number / 9 % 3]],
         len,
     )
 }

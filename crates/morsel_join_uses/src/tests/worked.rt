@@ -53,12 +53,21 @@ fn full(nulls: bool) -> Asked {
     }
 }
 
+/// Pairs of the columns `k`.
+const BY_K: &[(&str, &str)] = &[("k", "k")];
+
+/// The keys of the two sides of a full join.
+const LEFTS: &[Option<i64>] = &[Some(1), Some(1), None];
+
+const RIGHTS: &[Option<i64>] = &[Some(1), None, Some(2)];
+
+/// The columns of a join of which no columns become one.
+const APART: &[&str] = &["l", "k", "r", "k_right"];
+
 /// Whether the full join of keys 1, 1, null with 1, null, 2 has these rows.
 fn is_full(alloc: Global, nulls: bool, wanted: &[Found]) -> Result<bool, Fault> {
-    let lefts = [Some(1), Some(1), None];
-    let rights = [Some(1), None, Some(2)];
-    let out = joined_of(alloc, &lefts, "k", &rights, &[("k", "k")], full(nulls))?;
-    is_join(alloc, &out, &["l", "k", "r", "k_right"], wanted)
+    let out = joined_of(alloc, LEFTS, "k", RIGHTS, BY_K, full(nulls))?;
+    is_join(alloc, &out, APART, wanted)
 }
 
 #[test]
@@ -86,16 +95,24 @@ fn equal_nulls_are_a_pair(rt: HostRuntime) -> Result<(), Fail> {
     Ok(())
 }
 
+/// Pairs of the columns `k` and `a`.
+const BY_A: &[(&str, &str)] = &[("k", "a")];
+
+const ONE_TWO: &[Option<i64>] = &[Some(1), Some(2)];
+
+const TWO_THREE: &[Option<i64>] = &[Some(2), Some(3)];
+
+/// The columns of a join that keeps the left keys.
+const LEFT_KEPT: &[&str] = &["l", "k", "r"];
+
 /// Whether the full join of keys 1, 2 with 2, 3 has these rows, where the right ones have another name and become one column with the left ones.
 fn is_coalesced(alloc: Global, wanted: &[Found]) -> Result<bool, Fault> {
     let asked = Asked {
         coalesce: true,
         ..full(false)
     };
-    let lefts = [Some(1), Some(2)];
-    let rights = [Some(2), Some(3)];
-    let out = joined_of(alloc, &lefts, "a", &rights, &[("k", "a")], asked)?;
-    is_join(alloc, &out, &["l", "k", "r"], wanted)
+    let out = joined_of(alloc, ONE_TWO, "a", TWO_THREE, BY_A, asked)?;
+    is_join(alloc, &out, LEFT_KEPT, wanted)
 }
 
 #[test]
@@ -119,11 +136,18 @@ fn right(order: MaintainOrderJoin) -> Asked {
     }
 }
 
+const NONE: &[Option<i64>] = &[];
+
+const ONE: &[Option<i64>] = &[Some(1)];
+
+/// The columns of a join that keeps the right keys.
+const RIGHT_KEPT: &[&str] = &["l", "r", "k"];
+
 /// Whether the right join of no row with one has these rows.
 fn is_right(alloc: Global, wanted: &[Found]) -> Result<bool, Fault> {
     let asked = right(MaintainOrderJoin::None);
-    let out = joined_of(alloc, &[], "k", &[Some(1)], &[("k", "k")], asked)?;
-    is_join(alloc, &out, &["l", "r", "k"], wanted)
+    let out = joined_of(alloc, NONE, "k", ONE, BY_K, asked)?;
+    is_join(alloc, &out, RIGHT_KEPT, wanted)
 }
 
 #[test]
