@@ -2,7 +2,7 @@
 ghost use Rattle.std.specs.Prelude.{◌<◌};
 
 use super::cuts::put_join_of;
-use super::tables::{Asked, Found, has_names, joined, rows_of, tables_by};
+use super::tables::{Asked, Found, Tables, has_names, joined, rows_of, tables_by, tables_of};
 use morsel_frame::Frame;
 use morsel_join::{JoinType, MaintainOrderJoin};
 use morsel_meaning::Fault;
@@ -30,17 +30,17 @@ fn is_join(alloc: Global, out: &Frame, names: &[&str], wanted: &[Found]) -> Resu
     Ok(has_names(out.schema().fields(), names) && rows.as_slice() == wanted)
 }
 
-/// The join of tables of these keys, with the right ones in a column of this name, by pairs of columns.
-fn joined_of(
+/// Whether the join of two tables has these columns and rows.
+fn joins_to(
     alloc: Global,
-    lefts: &[Option<i64>],
-    name: &str,
-    rights: &[Option<i64>],
+    tables: &Tables,
     pairs: &[(&str, &str)],
     asked: Asked,
-) -> Result<Frame, Fault> {
-    let tables = tables_by(alloc, lefts, name, rights)?;
-    joined(alloc, &tables, pairs, asked)
+    names: &[&str],
+    wanted: &[Found],
+) -> Result<bool, Fault> {
+    let out = joined(alloc, tables, pairs, asked)?;
+    is_join(alloc, &out, names, wanted)
 }
 
 /// The full join by the left and then the right row, of which no columns become one.
@@ -66,8 +66,8 @@ const APART: &[&str] = &["l", "k", "r", "k_right"];
 
 /// Whether the full join of keys 1, 1, null with 1, null, 2 has these rows.
 fn is_full(alloc: Global, nulls: bool, wanted: &[Found]) -> Result<bool, Fault> {
-    let out = joined_of(alloc, LEFTS, "k", RIGHTS, BY_K, full(nulls))?;
-    is_join(alloc, &out, APART, wanted)
+    let tables = tables_of(alloc, LEFTS, RIGHTS)?;
+    joins_to(alloc, &tables, BY_K, full(nulls), APART, wanted)
 }
 
 #[test]
@@ -111,8 +111,8 @@ fn is_coalesced(alloc: Global, wanted: &[Found]) -> Result<bool, Fault> {
         coalesce: true,
         ..full(false)
     };
-    let out = joined_of(alloc, ONE_TWO, "a", TWO_THREE, BY_A, asked)?;
-    is_join(alloc, &out, LEFT_KEPT, wanted)
+    let tables = tables_by(alloc, ONE_TWO, "a", TWO_THREE)?;
+    joins_to(alloc, &tables, BY_A, asked, LEFT_KEPT, wanted)
 }
 
 #[test]
@@ -146,8 +146,8 @@ const RIGHT_KEPT: &[&str] = &["l", "r", "k"];
 /// Whether the right join of no row with one has these rows.
 fn is_right(alloc: Global, wanted: &[Found]) -> Result<bool, Fault> {
     let asked = right(MaintainOrderJoin::None);
-    let out = joined_of(alloc, NONE, "k", ONE, BY_K, asked)?;
-    is_join(alloc, &out, RIGHT_KEPT, wanted)
+    let tables = tables_of(alloc, NONE, ONE)?;
+    joins_to(alloc, &tables, BY_K, asked, RIGHT_KEPT, wanted)
 }
 
 #[test]
