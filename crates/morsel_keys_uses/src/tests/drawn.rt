@@ -10,34 +10,71 @@ use rand_xoshiro::Xoshiro256PlusPlus;
 use std::alloc::Global;
 use std::test::Fail;
 
+/// A number below a bound, or null.
+fn drawn(rng: &mut Xoshiro256PlusPlus, bound: u32) -> Option<i64> {
+    let number = rng.next_u32() % bound.max(1);
+    if number == 0 {
+        None
+    } else {
+        Some(i64::from(number))
+    }
+}
+
+fn put_drawn(
+    rng: &mut Xoshiro256PlusPlus,
+    numbers: &mut Vec<Option<i64>>,
+    len: usize,
+    bound: u32,
+) -> Result<(), Fault> {
+    for _ in 0..len {
+        numbers.push(drawn(rng, bound))?;
+    }
+    Ok(())
+}
+
 /// As many numbers as are asked, each null or below a bound.
 pub fn draw(alloc: Global, seed: u64, len: usize, bound: u32) -> Result<Vec<Option<i64>>, Fault> {
     let mut rng = Xoshiro256PlusPlus::seed_from_u64(seed);
     let mut numbers = Vec::new(alloc);
-    for _ in 0..len {
-        let drawn = rng.next_u32() % bound.max(1);
-        numbers.push(if drawn == 0 {
-            None
-        } else {
-            Some(i64::from(drawn))
-        })?;
-    }
+    put_drawn(&mut rng, &mut numbers, len, bound)?;
     Ok(numbers)
 }
 
-/// Puts a number last, or the text that is made of it: of a few bytes or of more than sixteen.
+/// Puts the text that is made of a number last: of a few bytes or of more than sixteen.
+fn push_drawn_text(alloc: Global, column: &mut Column, number: i64) -> Result<(), Fault>
+    requires { column.old.kind ≡ ColType.Text }
+    ensures { column.new.kind ≡ column.old.kind }
+{
+    let cube = number.wrapping_mul(number).wrapping_mul(number);
+    let text = format!(in alloc; "{number}-{cube}")?;
+    column.push_text(text.as_str())?;
+    Ok(())
+}
+
+/// Puts a number last, or the text that is made of it.
 fn push_drawn(alloc: Global, column: &mut Column, number: Option<i64>) -> Result<(), Fault>
     ensures { column.new.kind ≡ column.old.kind }
 {
     match (column.kind(), number) {
-        (ColType::Int, Some(number)) => column.push_int(number),
-        (ColType::Text, Some(number)) => {
-            let cube = number.wrapping_mul(number).wrapping_mul(number);
-            let text = format!(in alloc; "{number}-{cube}")?;
-            column.push_text(text.as_str())
+        (ColType::Int, Some(number)) => {
+            column.push_int(number)?;
+            Ok(())
         }
-        _ => column.push_null(),
+        (ColType::Text, Some(number)) => push_drawn_text(alloc, column, number),
+        _ => {
+            column.push_null()?;
+            Ok(())
+        }
     }
+}
+
+fn push_each_drawn(alloc: Global, column: &mut Column, numbers: &[Option<i64>]) -> Result<(), Fault>
+    ensures { column.new.kind ≡ column.old.kind }
+{
+    for number in numbers {
+        push_drawn(alloc, column, *number)?;
+    }
+    Ok(())
 }
 
 /// The column of numbers, or of texts that are made of them.
@@ -45,9 +82,7 @@ pub fn drawn_column(alloc: Global, kind: ColType, numbers: &[Option<i64>]) -> Re
     ensures { IfOk result (λ column. column.kind ≡ kind) }
 {
     let mut column = Column::new(alloc, kind);
-    for number in numbers {
-        push_drawn(alloc, &mut column, *number)?;
-    }
+    push_each_drawn(alloc, &mut column, numbers)?;
     Ok(column)
 }
 
@@ -64,13 +99,22 @@ fn place_among(firsts: &mut Vec<Option<i64>>, number: Option<i64>) -> Result<u32
     Ok(at)
 }
 
+fn put_plain_numbers(
+    firsts: &mut Vec<Option<i64>>,
+    numbers: &mut Vec<u32>,
+    keys: &[Option<i64>],
+) -> Result<(), Fault> {
+    for key in keys {
+        numbers.push(place_among(firsts, *key)?)?;
+    }
+    Ok(())
+}
+
 /// The numbers of keys, in plain words.
 fn plain_numbers(alloc: Global, keys: &[Option<i64>]) -> Result<Vec<u32>, Fault> {
     let mut firsts = Vec::new(alloc);
     let mut numbers = Vec::new(alloc);
-    for key in keys {
-        numbers.push(place_among(&mut firsts, *key)?)?;
-    }
+    put_plain_numbers(&mut firsts, &mut numbers, keys)?;
     Ok(numbers)
 }
 
@@ -93,18 +137,23 @@ fn are_plain(alloc: Global, seed: u64, kind: ColType, keys: &[Option<i64>]) -> R
     have_numbers(alloc, seed, kind, keys, &wanted)
 }
 
+/// Whether keys that are drawn have the numbers that they have in plain words.
+fn drawn_are_plain(alloc: Global, seed: u64, kind: ColType, bound: u32) -> Result<bool, Fault> {
+    let keys = draw(alloc, seed, 200, bound)?;
+    are_plain(alloc, seed, kind, &keys)
+}
+
 #[test]
 fn drawn_keys_have_the_numbers_of_a_plain_list(rt: HostRuntime) -> Result<(), Fail> {
     let alloc = rt.alloc();
     for seed in 0..50 {
         for bound in [1, 2, 20, 300] {
-            let keys = draw(alloc, seed, 200, bound)?;
             assert!(rt;
-                are_plain(alloc, seed, ColType::Int, &keys)?,
+                drawn_are_plain(alloc, seed, ColType::Int, bound)?,
                 "seed {seed}, {bound} numbers"
             );
             assert!(rt;
-                are_plain(alloc, seed, ColType::Text, &keys)?,
+                drawn_are_plain(alloc, seed, ColType::Text, bound)?,
                 "seed {seed}, {bound} texts"
             );
         }
@@ -112,9 +161,7 @@ fn drawn_keys_have_the_numbers_of_a_plain_list(rt: HostRuntime) -> Result<(), Fa
     Ok(())
 }
 
-/// So many keys, of which all but the first are other numbers, and the first is null.
-fn count_up(alloc: Global, len: u32) -> Result<Vec<Option<i64>>, Fault> {
-    let mut keys = Vec::new(alloc);
+fn put_up(keys: &mut Vec<Option<i64>>, len: u32) -> Result<(), Fault> {
     for number in 0..len {
         keys.push(if number == 0 {
             None
@@ -122,23 +169,45 @@ fn count_up(alloc: Global, len: u32) -> Result<Vec<Option<i64>>, Fault> {
             Some(i64::from(number))
         })?;
     }
+    Ok(())
+}
+
+/// So many keys, of which all but the first are other numbers, and the first is null.
+fn count_up(alloc: Global, len: u32) -> Result<Vec<Option<i64>>, Fault> {
+    let mut keys = Vec::new(alloc);
+    put_up(&mut keys, len)?;
     Ok(keys)
+}
+
+fn put_numbers(numbers: &mut Vec<u32>, len: u32) -> Result<(), Fault> {
+    for number in 0..len {
+        numbers.push(number)?;
+    }
+    Ok(())
 }
 
 /// The numbers from 0 on.
 fn numbers_below(alloc: Global, len: u32) -> Result<Vec<u32>, Fault> {
     let mut numbers = Vec::new(alloc);
-    for number in 0..len {
-        numbers.push(number)?;
-    }
+    put_numbers(&mut numbers, len)?;
     Ok(numbers)
+}
+
+/// Whether so many keys have the numbers from 0 on.
+fn are_counted(
+    alloc: Global,
+    kind: ColType,
+    keys: &[Option<i64>],
+    len: u32,
+) -> Result<bool, Fault> {
+    let wanted = numbers_below(alloc, len)?;
+    have_numbers(alloc, 7, kind, keys, &wanted)
 }
 
 /// Whether so many keys, each another one, have the numbers from 0 on.
 fn count_up_is_numbered(alloc: Global, kind: ColType, len: u32) -> Result<bool, Fault> {
     let keys = count_up(alloc, len)?;
-    let wanted = numbers_below(alloc, len)?;
-    have_numbers(alloc, 7, kind, &keys, &wanted)
+    are_counted(alloc, kind, &keys, len)
 }
 
 #[test]

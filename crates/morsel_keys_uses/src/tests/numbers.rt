@@ -12,6 +12,9 @@ use morsel_meaning::{ColType, Fault, Value};
 use std::alloc::Global;
 use std::test::Fail;
 
+/// Seeds of tables of keys. None of them changes a number.
+const SEEDS: [u64; 3] = [0, 1, 11400714819323198485];
+
 /// Whether the rows get these numbers in a table, one after the other, and each is found by its own.
 fn numbers_rows(
     table: &mut KeyTable,
@@ -110,6 +113,22 @@ fn half(alloc: Global, column: &Column) -> Result<Column, Fault>
     Ok(half)
 }
 
+/// Whether a column has the first of these numbers.
+fn numbers_first(
+    alloc: Global,
+    keys: &mut ColumnKeys,
+    column: &Column,
+    wanted: &[u32],
+) -> Result<bool, Fault>
+    requires { column.now.kind ≡ keys.old.kind }
+    ensures { keys.new.kind ≡ keys.old.kind }
+{
+    if column.len() > wanted.len() {
+        return Ok(false);
+    }
+    numbers_column(alloc, keys, column, &wanted[..column.len()])
+}
+
 /// Whether the first half of a column has the first of these numbers.
 fn numbers_half(
     alloc: Global,
@@ -121,20 +140,29 @@ fn numbers_half(
     ensures { keys.new.kind ≡ keys.old.kind }
 {
     let half = half(alloc, column)?;
-    if half.len() > wanted.len() {
-        return Ok(false);
-    }
-    numbers_column(alloc, keys, &half, &wanted[..half.len()])
+    numbers_first(alloc, keys, &half, wanted)
 }
 
-/// Whether a column has these numbers among new keys, its first half first, and is found by them.
+/// Whether a column has these numbers, its first half first, and is found by them.
+fn by_keys(
+    alloc: Global,
+    keys: &mut ColumnKeys,
+    column: &Column,
+    wanted: &[u32],
+) -> Result<bool, Fault>
+    requires { column.now.kind ≡ keys.old.kind }
+{
+    Ok(
+        numbers_half(alloc, keys, column, wanted)?
+            && numbers_column(alloc, keys, column, wanted)?
+            && finds_column(alloc, keys, column, wanted)?,
+    )
+}
+
+/// The same among new keys.
 fn by_column(alloc: Global, seed: u64, column: &Column, wanted: &[u32]) -> Result<bool, Fault> {
     let mut keys = ColumnKeys::new(alloc, column.kind(), seed);
-    Ok(
-        numbers_half(alloc, &mut keys, column, wanted)?
-            && numbers_column(alloc, &mut keys, column, wanted)?
-            && finds_column(alloc, &keys, column, wanted)?,
-    )
+    by_keys(alloc, &mut keys, column, wanted)
 }
 
 /// Whether the rows of a frame of one column get these numbers: by row, by value, and by whole columns.
@@ -156,6 +184,24 @@ pub fn is_numbered(
     )
 }
 
+/// The same, whatever the seed.
+fn is_numbered_by_each(
+    alloc: Global,
+    frame: &Frame,
+    kind: ColType,
+    wanted: &[u32],
+) -> Result<bool, Fault>
+    requires within { 0 < length frame.now.schema }
+    requires kind { kinds_of (fields_at frame.now.schema (0 ∷ [])) ≡ kind ∷ [] }
+{
+    for seed in SEEDS {
+        if !is_numbered(alloc, seed, frame, kind, wanted)? {
+            return Ok(false);
+        }
+    }
+    Ok(true)
+}
+
 /// Whether cells of one type get these numbers, whatever the seed.
 fn are_numbered(
     alloc: Global,
@@ -164,12 +210,7 @@ fn are_numbered(
     wanted: &[u32],
 ) -> Result<bool, Fault> {
     let frame = frame_of(alloc, "a", kind, cells)?;
-    for seed in [0, 1, 11400714819323198485] {
-        if !is_numbered(alloc, seed, &frame, kind, wanted)? {
-            return Ok(false);
-        }
-    }
-    Ok(true)
+    is_numbered_by_each(alloc, &frame, kind, wanted)
 }
 
 #[test]
@@ -237,15 +278,22 @@ fn equal_hashes_are_no_equal_keys(rt: HostRuntime) -> Result<(), Fail> {
     Ok(())
 }
 
-/// Whether pairs of texts get these numbers, whatever the seed.
+/// Whether pairs of texts get these numbers in a new table.
+fn pairs_by_row(alloc: Global, seed: u64, pairs: &Frame, wanted: &[u32]) -> Result<bool, Fault>
+    requires columns { All (λ at. at < length pairs.now.schema) (0 ∷ 1 ∷ []) }
+    requires kinds { kinds_of (fields_at pairs.now.schema (0 ∷ 1 ∷ [])) ≡ ColType.Text ∷ ColType.Text ∷ [] }
+{
+    let mut table = KeyTable::with_seed(vec![in alloc; ColType::Text, ColType::Text]?, seed);
+    numbers_rows(&mut table, pairs, &[0, 1], wanted)
+}
+
+/// Whether pairs of texts get these numbers, by row and by whole columns, whatever the seed.
 fn pairs_are_numbered(alloc: Global, pairs: &Frame, wanted: &[u32]) -> Result<bool, Fault>
     requires columns { All (λ at. at < length pairs.now.schema) (0 ∷ 1 ∷ []) }
     requires kinds { kinds_of (fields_at pairs.now.schema (0 ∷ 1 ∷ [])) ≡ ColType.Text ∷ ColType.Text ∷ [] }
 {
-    for seed in [0, 1, 11400714819323198485] {
-        let kinds = vec![in alloc; ColType::Text, ColType::Text]?;
-        let mut table = KeyTable::with_seed(kinds, seed);
-        if !numbers_rows(&mut table, pairs, &[0, 1], wanted)?
+    for seed in SEEDS {
+        if !pairs_by_row(alloc, seed, pairs, wanted)?
             || !by_columns(alloc, seed, &[ColType::Text, ColType::Text], pairs, wanted)?
         {
             return Ok(false);
@@ -300,6 +348,18 @@ fn keys_of_two_columns_do_not_run_into_each_other(rt: HostRuntime) -> Result<(),
     Ok(())
 }
 
+/// Puts the keys of a frame of one column into a table.
+fn put_keys(table: &mut KeyTable, frame: &Frame) -> Result<(), Fault>
+    requires within { 0 < length frame.now.schema }
+    requires kind { kinds_of (fields_at frame.now.schema (0 ∷ [])) ≡ table.old.kinds }
+    ensures { table.new.kinds ≡ table.old.kinds }
+{
+    for row in 0..frame.height() {
+        table.insert(frame, &[0], row)?;
+    }
+    Ok(())
+}
+
 /// A table of the keys of a frame of one column of numbers.
 fn table_of(alloc: Global, frame: &Frame) -> Result<KeyTable, Fault>
     requires within { 0 < length frame.now.schema }
@@ -307,23 +367,28 @@ fn table_of(alloc: Global, frame: &Frame) -> Result<KeyTable, Fault>
     ensures { IfOk result (λ table. table.kinds ≡ ColType.Int ∷ []) }
 {
     let mut table = KeyTable::new(vec![in alloc; ColType::Int]?);
-    for row in 0..frame.height() {
-        table.insert(frame, &[0], row)?;
-    }
+    put_keys(&mut table, frame)?;
     Ok(table)
+}
+
+/// The number that a table gives another's key of number 1, where it was empty and then has the key 8 alone.
+fn moved_into(empty: &mut KeyTable, table: &KeyTable) -> Result<Option<u32>, Fault>
+    requires kinds { table.now.kinds ≡ empty.old.kinds }
+{
+    if table.len() < 2 {
+        return Ok(None);
+    }
+    let at = empty.insert_from(table, 1)?;
+    let is_held = empty.len() == 1 && matches!(empty.key(0), [Value::Int(8)]);
+    Ok(if is_held { Some(at) } else { None })
 }
 
 /// The number that an empty table gives another's key of number 1.
 fn moved(alloc: Global, table: &KeyTable) -> Result<Option<u32>, Fault>
     requires { table.now.kinds ≡ ColType.Int ∷ [] }
 {
-    if table.len() < 2 {
-        return Ok(None);
-    }
     let mut empty = KeyTable::new(vec![in alloc; ColType::Int]?);
-    let at = empty.insert_from(table, 1)?;
-    let is_held = empty.len() == 1 && matches!(empty.key(0), [Value::Int(8)]);
-    Ok(if is_held { Some(at) } else { None })
+    moved_into(&mut empty, table)
 }
 
 /// A table of the keys 7, 8, 7.
@@ -335,19 +400,34 @@ fn worked_table(alloc: Global) -> Result<KeyTable, Fault>
     table_of(alloc, &frame)
 }
 
+/// Whether of two rows the first is found by 1, and the second not at all.
+fn finds_the_first_alone(table: &KeyTable, others: &Frame) -> bool
+    requires { 0 < length others.now.schema }
+{
+    if others.height() != 2 {
+        return false;
+    }
+    table.find(others, &[0], 0) == Some(1) && table.find(others, &[0], 1) == None
+}
+
 /// Whether 8 is found by 1, and 9 not at all.
 fn finds_eight_alone(alloc: Global, table: &KeyTable) -> Result<bool, Fault> {
     let others = frame_of(alloc, "a", ColType::Int, &[Cell::Int(8), Cell::Int(9)])?;
-    if others.height() != 2 {
-        return Ok(false);
+    Ok(finds_the_first_alone(table, &others))
+}
+
+/// The number that an empty table gives the key 8 of the keys 7, 8, 7, where that is found in theirs by 1, and 9 not at all.
+fn found_and_moved(alloc: Global) -> Result<Option<u32>, Fault> {
+    let table = worked_table(alloc)?;
+    if finds_eight_alone(alloc, &table)? {
+        moved(alloc, &table)
+    } else {
+        Ok(None)
     }
-    Ok(table.find(&others, &[0], 0) == Some(1) && table.find(&others, &[0], 1) == None)
 }
 
 #[test]
 fn a_key_is_found_and_put_into_another_table(rt: HostRuntime) -> Result<(), Fail> {
-    let table = worked_table(rt.alloc())?;
-    assert!(rt; finds_eight_alone(rt.alloc(), &table)?);
-    assert_eq!(rt; moved(rt.alloc(), &table)?, Some(0));
+    assert_eq!(rt; found_and_moved(rt.alloc())?, Some(0));
     Ok(())
 }

@@ -62,14 +62,30 @@ fn join_part(
     all.combine(acc)
 }
 
+/// Puts all parts, each kept by itself, to an accumulator.
+fn join_parts(
+    alloc: Global,
+    op: Reduction,
+    all: &mut Acc,
+    column: &Column,
+    step: usize,
+) -> Result<(), Fault>
+    requires kind { column.now.kind ≡ all.old.kind }
+    requires op { op ≡ all.old.op }
+    requires sum { op ≡ Reduction.Sum → column.now.kind ≡ ColType.Int }
+{
+    for part in 0..PARTS {
+        join_part(alloc, op, all, column, step, part)?;
+    }
+    Ok(())
+}
+
 /// What a reduction says of a column, whose rows come so many on from one to the next, in parts.
 fn reduced(alloc: Global, op: Reduction, column: &Column, step: usize) -> Result<Value, Fault>
     requires { op ≡ Reduction.Sum → column.now.kind ≡ ColType.Int }
 {
     let mut all = Acc::new(alloc, op, column.kind());
-    for part in 0..PARTS {
-        join_part(alloc, op, &mut all, column, step, part)?;
-    }
+    join_parts(alloc, op, &mut all, column, step)?;
     all.finish()
 }
 
@@ -97,6 +113,19 @@ fn says_by(
     Ok(is_value(&value, wanted))
 }
 
+/// Whether a reduction says this of a column, whose rows come in their order, and from the last to the first.
+fn says_both_ways(
+    alloc: Global,
+    op: Reduction,
+    column: &Column,
+    wanted: Cell<'_>,
+) -> Result<bool, Fault>
+    requires { op ≡ Reduction.Sum → column.now.kind ≡ ColType.Int }
+{
+    let back = column.len().saturating_sub(1);
+    Ok(says_by(alloc, op, column, 1, wanted)? && says_by(alloc, op, column, back, wanted)?)
+}
+
 /// Whether a reduction says this of cells that come in their order, and from the last to the first. A sum is of numbers alone.
 fn says(
     alloc: Global,
@@ -109,8 +138,7 @@ fn says(
         return Ok(false);
     }
     let column = column_of(alloc, kind, cells)?;
-    let back = column.len().saturating_sub(1);
-    Ok(says_by(alloc, op, &column, 1, wanted)? && says_by(alloc, op, &column, back, wanted)?)
+    says_both_ways(alloc, op, &column, wanted)
 }
 
 /// Whether this is the sum of three cells.
@@ -142,16 +170,23 @@ fn sums_skip_nulls_and_may_pass_64_bits_on_the_way(rt: HostRuntime) -> Result<()
     Ok(())
 }
 
-/// Whether the total of two numbers is refused.
-fn is_refused(alloc: Global, first: i64, second: i64) -> Result<bool, Fault> {
-    let column = column_of(alloc, ColType::Int, &[Cell::Int(first), Cell::Int(second)])?;
-    Ok(matches!(
-        reduced(alloc, Reduction::Sum, &column, 1),
+/// Whether the total of a column of numbers is refused.
+fn is_total_refused(alloc: Global, column: &Column) -> bool
+    requires { column.now.kind ≡ ColType.Int }
+{
+    matches!(
+        reduced(alloc, Reduction::Sum, column, 1),
         Err(Fault::ComputeError {
             kind: ComputeKind::SumTooLarge,
             ..
         })
-    ))
+    )
+}
+
+/// Whether the total of two numbers is refused.
+fn is_refused(alloc: Global, first: i64, second: i64) -> Result<bool, Fault> {
+    let column = column_of(alloc, ColType::Int, &[Cell::Int(first), Cell::Int(second)])?;
+    Ok(is_total_refused(alloc, &column))
 }
 
 #[test]
@@ -269,26 +304,41 @@ fn number_cell(number: Option<i64>) -> Cell<'static> {
     }
 }
 
-/// Whether each reduction says of numbers, which come so many on from one to the next, what it says in plain words.
-fn says_plainly(alloc: Global, numbers: &[Option<i64>], step: usize) -> Result<bool, Fault> {
-    let column = drawn_column(alloc, ColType::Int, numbers)?;
+/// Whether each reduction says of a column of numbers, which come so many on from one to the next, what it says in plain words.
+fn each_says_plainly(
+    alloc: Global,
+    column: &Column,
+    numbers: &[Option<i64>],
+    step: usize,
+) -> Result<bool, Fault>
+    requires { column.now.kind ≡ ColType.Int }
+{
     for op in REDUCTIONS {
-        if !says_by(alloc, op, &column, step, number_cell(plainly(op, numbers)))? {
+        if !says_by(alloc, op, column, step, number_cell(plainly(op, numbers)))? {
             return Ok(false);
         }
     }
     Ok(true)
 }
 
-/// As many rows as a prime, so that each step takes each row once.
+/// The same of numbers.
+fn says_plainly(alloc: Global, numbers: &[Option<i64>], step: usize) -> Result<bool, Fault> {
+    let column = drawn_column(alloc, ColType::Int, numbers)?;
+    each_says_plainly(alloc, &column, numbers, step)
+}
+
+/// The same of numbers that are drawn, as many as a prime, so that each step takes each row once.
+fn says_plainly_of_drawn(alloc: Global, seed: u64, step: usize) -> Result<bool, Fault> {
+    let numbers = draw(alloc, seed, 61, 40)?;
+    says_plainly(alloc, &numbers, step)
+}
+
 #[test]
 fn drawn_numbers_are_reduced_as_in_plain_words(rt: HostRuntime) -> Result<(), Fail> {
-    let alloc = rt.alloc();
     for seed in 0..40 {
-        let numbers = draw(alloc, seed, 61, 40)?;
         for step in [1, 2, 30, 60] {
             assert!(rt;
-                says_plainly(alloc, &numbers, step)?,
+                says_plainly_of_drawn(rt.alloc(), seed, step)?,
                 "seed {seed}, step {step}"
             );
         }

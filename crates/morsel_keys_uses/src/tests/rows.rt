@@ -6,7 +6,7 @@ ghost use Rattle.morsel_frame.specs.Tables.{fields_at};
 
 use super::drawn::{draw, drawn_column};
 use super::samples::{beside, framed};
-use morsel_frame::Frame;
+use morsel_frame::{Column, Frame};
 use morsel_keys::KeyTable;
 use morsel_meaning::{ColType, Fault};
 use morsel_row_keys::RowKeys;
@@ -46,6 +46,18 @@ fn finds_frame(
     Ok(out.as_slice() == wanted)
 }
 
+/// Whether rows of two columns get these numbers among new keys, and again, and are found by them.
+fn by_keys(alloc: Global, keys: &mut RowKeys, frame: &Frame, wanted: &[u32]) -> Result<bool, Fault>
+    requires columns { All (λ at. at < length frame.now.schema) (0 ∷ 1 ∷ []) }
+    requires kinds { kinds_of (fields_at frame.now.schema (0 ∷ 1 ∷ [])) ≡ keys.old.kinds }
+{
+    Ok(
+        numbers_frame(alloc, keys, frame, &[0, 1], wanted)?
+            && numbers_frame(alloc, keys, frame, &[0, 1], wanted)?
+            && finds_frame(alloc, keys, frame, &[0, 1], wanted)?,
+    )
+}
+
 /// Whether rows of two columns get these numbers by whole columns, and again, and are found by them.
 pub fn by_columns(
     alloc: Global,
@@ -59,19 +71,22 @@ pub fn by_columns(
     requires kinds { kinds_of (fields_at frame.now.schema (0 ∷ 1 ∷ [])) ≡ kinds.now }
 {
     let mut keys = RowKeys::new(alloc, kinds, seed)?;
-    Ok(
-        numbers_frame(alloc, &mut keys, frame, &[0, 1], wanted)?
-            && numbers_frame(alloc, &mut keys, frame, &[0, 1], wanted)?
-            && finds_frame(alloc, &keys, frame, &[0, 1], wanted)?,
-    )
+    by_keys(alloc, &mut keys, frame, wanted)
+}
+
+/// A column that is drawn.
+fn drawn_by(alloc: Global, kind: ColType, seed: u64) -> Result<Column, Fault>
+    ensures { IfOk result (λ column. column.kind ≡ kind) }
+{
+    let numbers = draw(alloc, seed, 300, 12)?;
+    drawn_column(alloc, kind, &numbers)
 }
 
 /// A frame of one column that is drawn.
 fn drawn_frame(alloc: Global, name: &str, kind: ColType, seed: u64) -> Result<Frame, Fault>
     ensures { IfOk result (λ frame. frame.schema ≡ record { name = name.now; kind = kind } ∷ []) }
 {
-    let numbers = draw(alloc, seed, 300, 12)?;
-    framed(alloc, name, drawn_column(alloc, kind, &numbers)?)
+    framed(alloc, name, drawn_by(alloc, kind, seed)?)
 }
 
 /// Rows of a number and a text that are drawn.
@@ -87,24 +102,48 @@ fn drawn_pairs(alloc: Global, seed: u64) -> Result<Frame, Fault>
     )
 }
 
+fn put_row_numbers(table: &mut KeyTable, pairs: &Frame, numbers: &mut Vec<u32>) -> Result<(), Fault>
+    requires columns { All (λ at. at < length pairs.now.schema) (0 ∷ 1 ∷ []) }
+    requires kinds { kinds_of (fields_at pairs.now.schema (0 ∷ 1 ∷ [])) ≡ table.old.kinds }
+{
+    for row in 0..pairs.height() {
+        numbers.push(table.insert(pairs, &[0, 1], row)?)?;
+    }
+    Ok(())
+}
+
 /// The numbers of rows in a table, one after the other.
 fn row_numbers(alloc: Global, table: &mut KeyTable, pairs: &Frame) -> Result<Vec<u32>, Fault>
     requires columns { All (λ at. at < length pairs.now.schema) (0 ∷ 1 ∷ []) }
     requires kinds { kinds_of (fields_at pairs.now.schema (0 ∷ 1 ∷ [])) ≡ table.old.kinds }
 {
     let mut numbers = Vec::new(alloc);
-    for row in 0..pairs.height() {
-        numbers.push(table.insert(pairs, &[0, 1], row)?)?;
-    }
+    put_row_numbers(table, pairs, &mut numbers)?;
     Ok(numbers)
+}
+
+/// The numbers of rows in a new table, one after the other.
+fn new_row_numbers(alloc: Global, pairs: &Frame) -> Result<Vec<u32>, Fault>
+    requires columns { All (λ at. at < length pairs.now.schema) (0 ∷ 1 ∷ []) }
+    requires kinds { kinds_of (fields_at pairs.now.schema (0 ∷ 1 ∷ [])) ≡ ColType.Int ∷ ColType.Text ∷ [] }
+{
+    let mut table = KeyTable::new(vec![in alloc; ColType::Int, ColType::Text]?);
+    row_numbers(alloc, &mut table, pairs)
+}
+
+/// Whether rows have the numbers by whole columns that they have one after the other.
+fn rows_agree(alloc: Global, seed: u64, pairs: &Frame) -> Result<bool, Fault>
+    requires columns { All (λ at. at < length pairs.now.schema) (0 ∷ 1 ∷ []) }
+    requires kinds { kinds_of (fields_at pairs.now.schema (0 ∷ 1 ∷ [])) ≡ ColType.Int ∷ ColType.Text ∷ [] }
+{
+    let wanted = new_row_numbers(alloc, pairs)?;
+    by_columns(alloc, seed, &[ColType::Int, ColType::Text], pairs, &wanted)
 }
 
 /// Whether rows that are drawn have the numbers by whole columns that they have one after the other.
 fn drawn_rows_agree(alloc: Global, seed: u64) -> Result<bool, Fault> {
     let pairs = drawn_pairs(alloc, seed)?;
-    let mut table = KeyTable::new(vec![in alloc; ColType::Int, ColType::Text]?);
-    let wanted = row_numbers(alloc, &mut table, &pairs)?;
-    by_columns(alloc, seed, &[ColType::Int, ColType::Text], &pairs, &wanted)
+    rows_agree(alloc, seed, &pairs)
 }
 
 #[test]

@@ -5,16 +5,29 @@ ghost use Rattle.std.specs.Prelude.{◌≡◌, ◌++◌, ◌∷◌, [], IfOk};
 use morsel_frame::{Cell, Column, Frame, Schema};
 use morsel_meaning::{ColType, Fault, Field, Name};
 use std::alloc::Global;
+use std::mem::drop;
 
 /// Puts a cell last; a null in place of one of another type.
 fn push_cell(column: &mut Column, cell: Cell<'_>) -> Result<(), Fault>
     ensures { column.new.kind ≡ column.old.kind }
 {
     match (column.kind(), cell) {
-        (ColType::Int, Cell::Int(number)) => column.push_int(number),
-        (ColType::Bool, Cell::Bool(flag)) => column.push_bool(flag),
-        (ColType::Text, Cell::Text(text)) => column.push_text(text),
-        _ => column.push_null(),
+        (ColType::Int, Cell::Int(number)) => {
+            column.push_int(number)?;
+            Ok(())
+        }
+        (ColType::Bool, Cell::Bool(flag)) => {
+            column.push_bool(flag)?;
+            Ok(())
+        }
+        (ColType::Text, Cell::Text(text)) => {
+            column.push_text(text)?;
+            Ok(())
+        }
+        _ => {
+            column.push_null()?;
+            Ok(())
+        }
     }
 }
 
@@ -70,6 +83,8 @@ pub fn beside(alloc: Global, frame: Frame, other: Frame) -> Result<Frame, Fault>
     ensures { IfOk result (λ both. both.schema ≡ frame.schema ++ other.schema) }
 {
     if frame.height() != other.height() {
+        drop(frame);
+        drop(other);
         return Err(Fault::Usage);
     }
     frame.hstack(alloc, other)
