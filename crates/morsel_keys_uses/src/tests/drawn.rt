@@ -40,6 +40,14 @@ pub fn draw(alloc: Global, seed: u64, len: usize, bound: u32) -> Result<Vec<Opti
     Ok(numbers)
 }
 
+fn push_text(column: &mut Column, text: &str) -> Result<(), Fault>
+    requires { column.old.kind ≡ ColType.Text }
+    ensures { column.new.kind ≡ column.old.kind }
+{
+    column.push_text(text)?;
+    Ok(())
+}
+
 /// Puts the text that is made of a number last: of a few bytes or of more than sixteen.
 fn push_drawn_text(alloc: Global, column: &mut Column, number: i64) -> Result<(), Fault>
     requires { column.old.kind ≡ ColType.Text }
@@ -47,8 +55,7 @@ fn push_drawn_text(alloc: Global, column: &mut Column, number: i64) -> Result<()
 {
     let cube = number.wrapping_mul(number).wrapping_mul(number);
     let text = format!(in alloc; "{number}-{cube}")?;
-    column.push_text(text.as_str())?;
-    Ok(())
+    push_text(column, text.as_str())
 }
 
 /// Puts a number last, or the text that is made of it.

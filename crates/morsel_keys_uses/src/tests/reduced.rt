@@ -13,7 +13,7 @@ use std::test::Fail;
 const PARTS: usize = 3;
 
 /// All reductions.
-const REDUCTIONS: [Reduction; 6] = [
+const REDUCTIONS: &[Reduction] = &[
     Reduction::Len,
     Reduction::Sum,
     Reduction::Min,
@@ -24,7 +24,8 @@ const REDUCTIONS: [Reduction; 6] = [
 
 /// The place of a row: four rows are a morsel.
 fn place_of(row: usize) -> (u64, u64) {
-    (row as u64 / 4, row as u64 % 4)
+    let row = row as u64;
+    (row / 4, row % 4)
 }
 
 /// Puts the rows of one part to an accumulator, so many rows on from one to the next.
@@ -217,8 +218,8 @@ fn says_of_nulls(alloc: Global, op: Reduction, kind: ColType) -> Result<bool, Fa
 fn nulls_count_and_are_nothing_else(rt: HostRuntime) -> Result<(), Fail> {
     for kind in [ColType::Int, ColType::Bool, ColType::Text] {
         for op in REDUCTIONS {
-            if op != Reduction::Sum || kind == ColType::Int {
-                assert!(rt; says_of_nulls(rt.alloc(), op, kind)?, "{op:?} of {kind:?}");
+            if *op != Reduction::Sum || kind == ColType::Int {
+                assert!(rt; says_of_nulls(rt.alloc(), *op, kind)?, "{op:?} of {kind:?}");
             }
         }
     }
@@ -314,7 +315,7 @@ fn each_says_plainly(
     requires { column.now.kind ≡ ColType.Int }
 {
     for op in REDUCTIONS {
-        if !says_by(alloc, op, column, step, number_cell(plainly(op, numbers)))? {
+        if !says_by(alloc, *op, column, step, number_cell(plainly(*op, numbers)))? {
             return Ok(false);
         }
     }

@@ -87,5 +87,6 @@ pub fn beside(alloc: Global, frame: Frame, other: Frame) -> Result<Frame, Fault>
         drop(other);
         return Err(Fault::Usage);
     }
-    frame.hstack(alloc, other)
+    let both = frame.hstack(alloc, other)?;
+    Ok(both)
 }
