@@ -18,7 +18,7 @@ StopsWritesFor broke actions fault = IsWriteStop actions fault ⊎ broke fault
 
 -- what a run answers and what it wrote, given what the one place gives: all its rows, or a fault that is due; the text is a front of the rows' before the first fault. Nothing is read, so within any bound each read is in time
 abbrev pub PoursAxis : Axis → (Fault → Type 0) → List Action → Result ℕ Fault → Type 0
-PoursAxis axis is_due actions result = (w chunk : ℕ) → DrivesAxis axis is_due IsOnePlace (Unit {0}) w chunk actions result
+PoursAxis axis is_due actions result = (w chunk : ℕ) → DrivesAxis axis is_due IsOnePlace 1 (Unit {0}) w chunk actions result
 
 -- a whole run: it made writes and did nothing else; why it has a fault, that where it has none no write failed, and, where the line serves a job, what was written
 pub record Pours (broke : Fault → Type 0) (told : List Action → Type 0) (before : Outside) (result : Result ℕ Fault) (now : Outside) : Type 0 where

@@ -180,12 +180,11 @@ written_to axis w chunk actions written sound k =
 -- where all that was given is written, and no more, the text is that of the rows which it gives
 pub writes_all : (axis : Axis) (is_piece : Piece → Type 0) (is_end : ℕ → ℕ → Type 0) (w chunk : ℕ) (actions : List Action) (given asked : ℕ) (input : Input) (written : Written) (result : Result ℕ Fault)
     → KeepsText axis w chunk actions written → asked_up_to axis 0 (flat_map event_of actions) ≡ asked → FitsInput is_piece is_end given asked input → EndsWith given input written result
-    → WritesRows axis is_end actions result
+    → WritesRows axis is_end given actions result
 writes_all axis is_piece is_end w chunk actions given asked Ended written (Ok n) k asked_is rest (count, all, begun, ended) =
     let front = gives_front axis.gives written.next k.done k.gives in
     let number : written.rows ≡ length k.done = sym begun ∙ k.begun in
     let rows : take written.rows (before_fault axis.gives) ≡ k.done = ap (take written.rows) front.1 ∙ ap (λ m. take m (k.done ++ front.0)) number ∙ take-append_seam k.done front.0 in (
-      given,
       k.done,
       subst (λ (to : ℕ). Gives axis.gives 0 to k.done) all k.gives,
       subst (is_end given) (sym asked_is) rest,

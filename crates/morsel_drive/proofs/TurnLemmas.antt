@@ -125,10 +125,10 @@ ToldMidst {J} axis is_piece is_end begun_reading begun_serving reads serves boun
     → InMidst (axis job) (is_piece job) (is_end job) (reads job) (serves job) (bound + (axis job).longest) chunk given asked input written actions
 
 -- what is told of a whole run
-abbrev pub ToldRun : {J : Type 0} → (J → Axis) → (J → Fault → Type 0) → (J → ℕ → ℕ → Type 0) → (J → Type 0) → (J → Type 0) → (J → Type 0) → ℕ → ℕ → Result ℕ Fault → List Action → Type 0
-ToldRun {J} axis is_due is_end on begun_reading begun_serving bound chunk result actions = (job : J)
+abbrev pub ToldRun : {J : Type 0} → (J → Axis) → (J → Fault → Type 0) → (J → ℕ → ℕ → Type 0) → ℕ → (J → Type 0) → (J → Type 0) → (J → Type 0) → ℕ → ℕ → Result ℕ Fault → List Action → Type 0
+ToldRun {J} axis is_due is_end given on begun_reading begun_serving bound chunk result actions = (job : J)
     → begun_reading job → begun_serving job → IsSoundAxis (axis job)
-    → DrivesAxis (axis job) (is_due job) (is_end job) (on job) (bound + (axis job).longest) chunk actions result
+    → DrivesAxis (axis job) (is_due job) (is_end job) given (on job) (bound + (axis job).longest) chunk actions result
 
 pub stands_begun : {J : Type 0} (axis : J → Axis) (is_piece : J → Piece → Type 0) (is_end : J → ℕ → ℕ → Type 0) (reads serves : J → Type 0) (bound chunk given asked : ℕ) (written : Written) (did : List Action → Type 0) (before : Outside)
     → did [] → asked ≡ 0 → written.next ≡ 0 → written.begun ≡ 0 → written.rows ≡ 0
@@ -201,7 +201,7 @@ pub read_failed : {J : Type 0} (axis : J → Axis) (is_piece : J → Piece → T
     → ReadsFor call (λ events. (job : J) → reads job → EndsEachRow (axis job) → ReadsInTime (axis job) (bound + (axis job).longest) here asked written.next (Err fault) later events) old new
     → ((xs ys : List Action) → did xs → call ys → more (xs ++ ys))
     → ((job : J) → reads job → FitsInput (is_piece job) (is_end job) given asked input → GivesInput (is_piece job) (is_due job) (is_end job) (on job) now later (Err fault))
-    → failed fault → Drives more failed broke ended (ToldRun axis is_due is_end on begun_reading begun_serving bound chunk (Err fault)) before (Err fault) new
+    → failed fault → Drives more failed broke ended (ToldRun axis is_due is_end now on begun_reading begun_serving bound chunk (Err fault)) before (Err fault) new
 read_failed axis is_piece is_end is_due begun_reading begun_serving reads serves on bound chunk here given now asked later input fault written did call more failed broke ended before old new same s r join gives is = record {
   actions = s.actions ++ r.reads;
   transfers = transfers-read did more before old new s.actions r.reads s.transfers r.does r.are (λ xs h. join xs r.reads h r.did_them);
@@ -242,7 +242,7 @@ pub step_failed : {J : Type 0} (axis : J → Axis) (is_piece : J → Piece → T
     (fault : Fault) (written : Written) (did : List Action → Type 0) (failed broke : Fault → Type 0) (ended : Type 0) (before now : Outside)
     → Stands did (ToldMidst axis is_piece is_end begun_reading begun_serving reads serves bound chunk given asked input written) before now
     → ((job : J) → serves job → IsDue (is_due job) fault) → broke fault
-    → Drives did failed broke ended (ToldRun axis is_due is_end on begun_reading begun_serving bound chunk (Err fault)) before (Err fault) now
+    → Drives did failed broke ended (ToldRun axis is_due is_end given on begun_reading begun_serving bound chunk (Err fault)) before (Err fault) now
 step_failed axis is_piece is_end is_due begun_reading begun_serving reads serves on bound chunk given asked input fault written did failed broke ended before now s due is = record {
   actions = s.actions;
   transfers = s.transfers;
@@ -291,7 +291,7 @@ pub write_failed : {J T : Type 0} (axis : J → Axis) (is_piece : J → Piece �
     (input : Input) (fault : Fault) (was now : Written) (did : List Action → Type 0) (failed broke : Fault → Type 0) (ended : Type 0) (before old new : Outside)
     → Stands did (ToldMidst axis is_piece is_end begun_reading begun_serving reads serves bound chunk given asked input was) before old
     → WritesOn {T = T} (ToldStop {T = T} axis serves later was (Err fault) now) old (Err fault) new
-    → Drives did failed broke ended (ToldRun axis is_due is_end on begun_reading begun_serving bound chunk (Err fault)) before (Err fault) new
+    → Drives did failed broke ended (ToldRun axis is_due is_end given on begun_reading begun_serving bound chunk (Err fault)) before (Err fault) new
 write_failed axis is_piece is_end is_due begun_reading begun_serving reads serves later on bound chunk given asked input fault was now did failed broke ended before old new s w = record {
   actions = s.actions ++ w.writes;
   transfers = transfers-written did before old new s.actions w.writes s.transfers w.does w.are;
@@ -322,7 +322,7 @@ ended_due due given input written (Err fault) ends = absurd ends
 pub run_ended : {J : Type 0} (axis : J → Axis) (is_piece : J → Piece → Type 0) (is_end : J → ℕ → ℕ → Type 0) (is_due : J → Fault → Type 0) (begun_reading begun_serving reads serves : J → Type 0) (bound chunk given asked : ℕ)
     (input : Input) (written : Written) (result : Result ℕ Fault) (did : List Action → Type 0) (failed broke : Fault → Type 0) (ended : Type 0) (before now : Outside)
     → Stands did (ToldMidst axis is_piece is_end begun_reading begun_serving reads serves bound chunk given asked input written) before now → EndsWith given input written result → (HasEnded input → ended)
-    → Drives did failed broke ended (ToldRun axis is_due is_end reads begun_reading begun_serving bound chunk result) before result now
+    → Drives did failed broke ended (ToldRun axis is_due is_end given reads begun_reading begun_serving bound chunk result) before result now
 run_ended axis is_piece is_end is_due begun_reading begun_serving reads serves bound chunk given asked input written result did failed broke ended before now s ends at_end = record {
   actions = s.actions;
   transfers = s.transfers;

@@ -126,15 +126,15 @@ EndsWith given input written (Err fault) = ⊥
 abbrev pub StopsFor : (Fault → Type 0) → (Fault → Type 0) → List Action → Fault → Type 0
 StopsFor failed broke actions fault = IsWriteStop actions fault ⊎ failed fault ⊎ broke fault
 
--- rows are answered where the places before one give them, after which no place gives a row, and their text was written
-abbrev pub WritesRows : Axis → (ℕ → ℕ → Type 0) → List Action → Result ℕ Fault → Type 0
-WritesRows axis is_end actions (Ok n) = (given : ℕ) × (rows : List Row) × Gives axis.gives 0 given rows × is_end given (asked_up_to axis 0 (flat_map event_of actions))
+-- rows are answered where the places before this one give them, after which no place gives a row, and their text was written
+abbrev pub WritesRows : Axis → (ℕ → ℕ → Type 0) → ℕ → List Action → Result ℕ Fault → Type 0
+WritesRows axis is_end given actions (Ok n) = (rows : List Row) × Gives axis.gives 0 given rows × is_end given (asked_up_to axis 0 (flat_map event_of actions))
     × (flat_map text_by actions ≡ axis.text_of rows) × (n ≡ length rows)
-WritesRows axis is_end actions (Err fault) = Unit {0}
+WritesRows axis is_end given actions (Err fault) = Unit {0}
 
--- what a run answers and what it wrote, given what each place gives: all rows, or a fault that is due; the text is a front of the rows' before the first fault, and each read in time
-pub record DrivesAxis (axis : Axis) (is_due : Fault → Type 0) (is_end : ℕ → ℕ → Type 0) (reads : Type 0) (w chunk : ℕ) (actions : List Action) (result : Result ℕ Fault) : Type 0 where
-  pub writes : WritesRows axis is_end actions result
+-- what a run answers and what it wrote, given what each place gives: all rows of the places before the one up to which the input was given, or a fault that is due; the text is a front of the rows' before the first fault, and each read in time
+pub record DrivesAxis (axis : Axis) (is_due : Fault → Type 0) (is_end : ℕ → ℕ → Type 0) (given : ℕ) (reads : Type 0) (w chunk : ℕ) (actions : List Action) (result : Result ℕ Fault) : Type 0 where
+  pub writes : WritesRows axis is_end given actions result
   pub reads_on : OnOk result reads
   pub due : IfErr result (IsDue is_due)
   pub front : Stops axis w chunk actions

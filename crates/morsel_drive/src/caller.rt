@@ -226,7 +226,7 @@ pub fn drive<H: Io, L: Line, S: PieceSource<H, <L as Line>::Job>, G: Gate, Y: Le
     ensures stays { (begun : L) → L.stays begun line.old → L.stays begun line.new }
     ensures drives { Drives (S.did reader.old reader.new (H.seen io.old).sizes) (S.failed reader.new) (L.broke line.new) (S.ended reader.new × S.suits reader.new (H.seen io.new)) (λ actions. (job : L.Job)
         → S.reads reader.old job (H.seen io.old) → L.serves line.old job → IsSoundAxis (L.Job.axis job)
-        → DrivesAxis (L.Job.axis job) (L.Job.is_due job) (L.Job.is_end job) (S.reads reader.new job (H.seen io.new)) (bound + (L.Job.axis job).longest) (S.chunk reader.old) actions result)
+        → DrivesAxis (L.Job.axis job) (L.Job.is_due job) (L.Job.is_end job) (S.given reader.new) (S.reads reader.new job (H.seen io.new)) (bound + (L.Job.axis job).longest) (S.chunk reader.old) actions result)
         (H.seen io.old) result (H.seen io.new) }
 {
     let mut written = Written {

@@ -84,6 +84,7 @@ where
     requires last_tokens { All (λ job. HoldsTokensOf J.holds L.token_home job (L.Board.id board.old).group_table) jobs.last.recv.now.items }
     ensures first { IfOk result (λ line. AreTasksOf ⟦<NodeTasks<L, J, A> as Stage<L::Board>>⟧.owes ⟦<NodeTasks<L, J, A> as Stage<L::Board>>⟧.fails (A.Unit.can_poll (L.Board.id board.old)) (A.fails nodes.first jobs.entry.first.recv.now.items) line.first.stage line.first.tasks.items) }
     ensures last { IfOk result (λ line. AreTasksOf ⟦<NodeTasks<L, J, M> as Stage<L::Board>>⟧.owes ⟦<NodeTasks<L, J, M> as Stage<L::Board>>⟧.fails (M.Unit.can_poll (L.Board.id board.old)) (M.fails nodes.last jobs.entry.last.recv.now.items) line.last.stage line.last.tasks.items) }
+    ensures stays { IfOk result (λ line. (begun : M) → M.stays begun nodes.last → M.stays begun line.last.stage.node) }
     ensures feed { IfOk result (λ line. IsNewSender L.Sender.home L.Sender.job L.Sender.room L.Sender.sent (L.Board.id board.old).lane_table jobs.entry.fed.now (L.room_of LANE_ROOM) line.feed) }
     ensures fed_stage { IfOk result (λ line. stage_of line.fed ≡ ToSpread) }
     ensures fed_pipelines { IfOk result (λ line. pipelines_of line.fed ≡ pipelines) }

@@ -105,6 +105,7 @@ where
     ensures first { IfOk result (λ line. AreTasksOf ⟦<NodeTasks<L, J, A> as Stage<L::Board>>⟧.owes ⟦<NodeTasks<L, J, A> as Stage<L::Board>>⟧.fails (A.Unit.can_poll (L.Board.id board.old)) (A.fails nodes.first jobs.entry.first.recv.now.items) line.first.stage line.first.tasks.items) }
     ensures middle { IfOk result (λ line. AreTasksOf ⟦<NodeTasks<L, J, M> as Stage<L::Board>>⟧.owes ⟦<NodeTasks<L, J, M> as Stage<L::Board>>⟧.fails (M.Unit.can_poll (L.Board.id board.old)) (M.fails nodes.middle jobs.entry.middle.recv.now.items) line.middle.stage line.middle.tasks.items) }
     ensures last { IfOk result (λ line. AreTasksOf ⟦<NodeTasks<L, J, Z> as Stage<L::Board>>⟧.owes ⟦<NodeTasks<L, J, Z> as Stage<L::Board>>⟧.fails (Z.Unit.can_poll (L.Board.id board.old)) (Z.fails nodes.last jobs.entry.last.recv.now.items) line.last.stage line.last.tasks.items) }
+    ensures stays { IfOk result (λ line. (begun : M) → M.stays begun nodes.middle → M.stays begun line.middle.stage.node) }
     ensures feed { IfOk result (λ line. IsNewSender L.Sender.home L.Sender.job L.Sender.room L.Sender.sent (L.Board.id board.old).lane_table jobs.entry.fed.now (L.room_of LANE_ROOM) line.feed) }
     ensures take { IfOk result (λ line. IsNewReceiver L.Receiver.home L.Receiver.job L.Receiver.taken L.Receiver.is_whole L.Receiver.is_cut (L.Board.id board.old).lane_table jobs.entry.given.now line.take) }
     ensures fed_stage { IfOk result (λ line. stage_of line.fed ≡ ToSpread) }

@@ -98,6 +98,7 @@ where
     requires from { All (IsNewReceiver L.Receiver.home L.Receiver.job L.Receiver.taken L.Receiver.is_whole L.Receiver.is_cut (L.Board.id board.old).lane_table job.now) from.items }
     requires tokens { All (λ job. HoldsTokensOf J.holds L.token_home job (L.Board.id board.old).group_table) jobs.recv.now.items }
     ensures tasks { IfOk result (λ opened. AreTasksOf ⟦<NodeTasks<L, J, N> as Stage<L::Board>>⟧.owes ⟦<NodeTasks<L, J, N> as Stage<L::Board>>⟧.fails (N.Unit.can_poll (L.Board.id board.old)) (N.fails node jobs.entry.recv.now.items) opened.stage opened.tasks.items) }
+    ensures stays { IfOk result (λ opened. (begun : N) → N.stays begun node → N.stays begun opened.stage.node) }
     ensures out_of_memory { IsOkUnless result OutOfMemory }
     ensures same_board { L.Board.id board.new ≡ L.Board.id board.old }
 {
@@ -131,6 +132,7 @@ where
     requires to { All (λ end. (room : ℕ) × IsNewSender L.Sender.home L.Sender.job L.Sender.room L.Sender.sent (L.Board.id board.old).lane_table to_job.now room end) to.items }
     requires tokens { All (λ job. HoldsTokensOf J.holds L.token_home job (L.Board.id board.old).group_table) jobs.recv.now.items }
     ensures tasks { IfOk result (λ opened. AreTasksOf ⟦<NodeTasks<L, J, N> as Stage<L::Board>>⟧.owes ⟦<NodeTasks<L, J, N> as Stage<L::Board>>⟧.fails (N.Unit.can_poll (L.Board.id board.old)) (N.fails node jobs.entry.recv.now.items) opened.stage opened.tasks.items) }
+    ensures stays { IfOk result (λ opened. (begun : N) → N.stays begun node → N.stays begun opened.stage.node) }
     ensures out_of_memory { IsOkUnless result OutOfMemory }
     ensures same_board { L.Board.id board.new ≡ L.Board.id board.old }
 {

@@ -45,25 +45,25 @@ kind_again kinds.Text = refl
 abbrev coded_kind : Coded ColType
 coded_kind = code_by ℕ coded_ℕ number_of_kind kind_of_number kind_again
 
-abbrev parts_of_value : Value → ℕ ⊎ (ℤ ⊎ (Bool ⊎ List ℕ))
+abbrev pub parts_of_value : Value → ℕ ⊎ (ℤ ⊎ (Bool ⊎ List ℕ))
 parts_of_value values.Null = inl 0
 parts_of_value (values.Int n) = inr (inl n)
 parts_of_value (values.Bool b) = inr (inr (inl b))
 parts_of_value (values.Text t) = inr (inr (inr t))
 
-abbrev value_of_parts : ℕ ⊎ (ℤ ⊎ (Bool ⊎ List ℕ)) → Value
+abbrev pub value_of_parts : ℕ ⊎ (ℤ ⊎ (Bool ⊎ List ℕ)) → Value
 value_of_parts (inl n) = values.Null
 value_of_parts (inr (inl n)) = values.Int n
 value_of_parts (inr (inr (inl b))) = values.Bool b
 value_of_parts (inr (inr (inr t))) = values.Text t
 
-value_again : (value : Value) → value_of_parts (parts_of_value value) ≡ value
+pub value_again : (value : Value) → value_of_parts (parts_of_value value) ≡ value
 value_again values.Null = refl
 value_again (values.Int n) = refl
 value_again (values.Bool b) = refl
 value_again (values.Text t) = refl
 
-abbrev coded_value : Coded Value
+abbrev pub coded_value : Coded Value
 coded_value = code_by (ℕ ⊎ (ℤ ⊎ (Bool ⊎ List ℕ))) (coded⊎ coded_ℕ (coded⊎ coded_ℤ (coded⊎ coded_bool (coded_list coded_ℕ)))) parts_of_value value_of_parts value_again
 
 -- a column

@@ -1,3 +1,4 @@
-mod BuildFacts
+pub mod BuildFacts
 mod PhaseLemmas
 mod PortLemmas
+pub mod StayLemmas

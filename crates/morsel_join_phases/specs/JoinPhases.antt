@@ -1,5 +1,5 @@
 -- What a join has in its phases.
-use Rattle.std.specs.Prelude.{◌≡◌, ◌≢◌, ℕ, Bool, true, false, if◌then◌else◌, Option, None, Some, List, [], ◌∷◌}
+use Rattle.std.specs.Prelude.{◌≡◌, ◌≢◌, ◌⊎◌, ℕ, Bool, true, false, if◌then◌else◌, Option, None, Some, List, [], ◌∷◌}
 use Rattle.std.specs.Arc.{arc_value}
 use Rattle.morsel_meaning.specs.declared.value.Field.{Field}
 use Rattle.morsel_meaning.specs.Values.{Row}
@@ -147,6 +147,12 @@ pub record HadKept {K J : Type 0} {a b : _} (before now : JoinPhase K J a b) : T
   pub marks : Had (marks_of before) (marks_of now)
   pub kept_to : Had (kept_to_of before) (kept_to_of now)
 
+-- what stays of a join while its units work: it is where it was, or done; its rules stay, and the kept rows that it has it had before
+pub record StaysJoin {K J : Type 0} {a b : _} (before now : JoinPhase K J a b) : Type 0 where
+  pub at : (at_of now ≡ at_of before) ⊎ (at_of now ≡ at.Done)
+  pub rules : HadRules before now
+  pub build : Had (build_of before) (build_of now)
+
 -- what stays of a join where it moves on; where the kept rows are put by their keys, no mark is set
 pub record KeepsJoin {K J : Type 0} {a b : _} (before now : JoinPhase K J a b) : Type 0 where
   pub rules : HadRules before now
@@ -158,11 +164,11 @@ pub record MovesJoin {K J : Type 0} {a b : _} (before : JoinPhase K J a b) (recv
   pub moves : MovesAt (at_of before) (alone_in before) (given_in before) recv send (at_of now) recv_now send_now
   pub keeps : KeepsJoin before now
 
--- lanes may be those of its ports in this phase: of the rows that are kept, of those that are looked up, and of what it gives; once all rows were looked up, the places up to which they were are all
+-- lanes may be those of its ports in this phase: of the rows that are kept, of those that are looked up, and of what it gives; once all rows were looked up, the rows of the places up to which they were are all those of the lane
 abbrev pub FitsJoin : {K J : Type 0} {a b : _} (gives_rows : J → List Field → Type 0) (gives : J → ℕ → ℕ → List Row → Type 0) (is_all : J → List Row → Type 0) (finds is_alone : KeptSide → J → J → Type 0) → JoinPhase K J a b → J → J → J → Type 0
 FitsJoin gives_rows gives is_all finds is_alone (phases.Build build) kept asked sent = (kept ≡ build.job.value) × gives_rows kept build.columns
 FitsJoin gives_rows gives is_all finds is_alone (phases.Probe probe) kept asked sent = (asked ≡ probe.asked_job.value) × gives_rows asked (arc_value probe.build).asked × finds (kept_side (arc_value probe.build)) asked sent
-FitsJoin gives_rows gives is_all finds is_alone (phases.Emit emit) kept asked sent = (asked ≡ emit.asked_job.value) × ((rows : List Row) → ∥ gives asked 0 emit.asked_to rows ∥₁ → is_all asked rows) × is_alone (kept_side (arc_value emit.build)) asked sent
+FitsJoin gives_rows gives is_all finds is_alone (phases.Emit emit) kept asked sent = ((rows : List Row) → ∥ gives emit.asked_job.value 0 emit.asked_to rows ∥₁ → is_all asked rows) × is_alone (kept_side (arc_value emit.build)) asked sent
 FitsJoin gives_rows gives is_all finds is_alone (phases.Giving build) kept asked sent = Unit {0}
 FitsJoin gives_rows gives is_all finds is_alone (phases.Given build) kept asked sent = Unit {0}
 FitsJoin gives_rows gives is_all finds is_alone phases.Done kept asked sent = Unit {0}

@@ -44,10 +44,11 @@ pub enum JoinPhase<K, J: RowsJob<K>> {
 }
 
 impl<K, J: RowsJob<K>> JoinPhase<K, J> {
-    ghost use Rattle.std.specs.Prelude.{◌≡◌, ◌⊎◌, ◌<◌, [], List, Some, Bool, IfOk, IfSome, OnOk, IsOkUnless};
+    ghost use Rattle.std.specs.Prelude.{◌≡◌, ◌⊎◌, ◌<◌, [], List, Some, Bool, IfOk, IfSome, OnErr, OnOk, IsOkUnless};
     ghost use Rattle.std.specs.Arc.{arc_value};
     ghost use Rattle.std.specs.List.{All};
     ghost use Rattle.morsel_meaning.specs.declared.fault.Fault.TheVariants.{OutOfMemory};
+    ghost use Rattle.morsel_meaning.specs.declared.value.Field.{Field};
     ghost use Rattle.morsel_meaning.specs.Values.{Row};
     ghost use Rattle.morsel_join.specs.declared.build_side.Build.{Build};
     ghost use Rattle.morsel_join.specs.BuildSides.{IsBuild, kept_side};
@@ -57,7 +58,7 @@ impl<K, J: RowsJob<K>> JoinPhase<K, J> {
     ghost use Rattle.morsel_join_units.specs.RowKeepers.{AreKeptOf};
     ghost use Rattle.morsel_join_phases.specs.JoinTables.{after_asked, after_given, after_kept, moved_at};
     ghost use Rattle.morsel_join_units.specs.LookedUps.{AreLookedUpOf, rows_looked_up};
-    ghost use Rattle.morsel_join_phases.specs.JoinPhases.{FitsJoin, HadKept, HadRules, KeepsJoin, alone_in, asked_job_of, asked_rows_of, asked_to_of, at_of, build_of, given_in, kept_job_of, kept_to_of, marks_of};
+    ghost use Rattle.morsel_join_phases.specs.JoinPhases.{FitsJoin, HadKept, HadRules, KeepsJoin, StaysJoin, alone_in, asked_job_of, asked_of, asked_rows_of, asked_to_of, at_of, build_of, given_in, kept_job_of, kept_to_of, marks_of, rules_of};
 
     /// Where the join is.
     pub fn at(&self) -> JoinAt
@@ -165,6 +166,7 @@ impl<K, J: RowsJob<K>> JoinPhase<K, J> {
     pub fn keep(&mut self, keeper: Option<RowKeeper>)
         requires kept_of { IfSome keeper (λ keeper. (job : J) → kept_job_of self.old ≡ Some job → All (AreKeptOf J.suits job) keeper.kept.items) }
         ensures same { (at_of self.new ≡ at_of self.old) × (kept_job_of self.new ≡ kept_job_of self.old) × (asked_job_of self.new ≡ asked_job_of self.old) × (build_of self.new ≡ build_of self.old) }
+        ensures stays { StaysJoin self.old self.new }
     {
         match self {
             JoinPhase::Build(build) => match keeper {
@@ -180,6 +182,7 @@ impl<K, J: RowsJob<K>> JoinPhase<K, J> {
         requires looked_of { IfSome maker (λ maker. (job : J) → asked_job_of self.old ≡ Some job → All (AreLookedUpOf J.suits job) maker.looked.items) }
         requires hit { IfSome maker (λ maker. (build : Build) → build_of self.old ≡ Some build → HaveHit build maker.hits.seen.items (rows_looked_up maker.looked.items)) }
         ensures same { (at_of self.new ≡ at_of self.old) × (kept_job_of self.new ≡ kept_job_of self.old) × (asked_job_of self.new ≡ asked_job_of self.old) × (build_of self.new ≡ build_of self.old) }
+        ensures stays { StaysJoin self.old self.new }
     {
         match self {
             JoinPhase::Probe(probe) => match maker {
@@ -190,10 +193,26 @@ impl<K, J: RowsJob<K>> JoinPhase<K, J> {
         }
     }
 
+    /// From now on the rows that are looked up are those of lanes for this job. None was looked up yet.
+    ///
+    /// It answers that there is no memory where the join does not look rows up, or has looked some up.
+    pub fn look_up_in(&mut self, job: &J) -> Result<(), Fault>
+        requires rows { (columns : List Field) → asked_of self.old ≡ Some columns → J.gives_rows job.now columns }
+        ensures looks { OnOk result ((at_of self.new ≡ JoinAt.Probe) × (asked_job_of self.new ≡ Some job.now)) }
+        ensures same { OnOk result ((rules_of self.new ≡ rules_of self.old) × (asked_of self.new ≡ asked_of self.old) × (kept_job_of self.new ≡ kept_job_of self.old) × (build_of self.new ≡ build_of self.old) × (marks_of self.new ≡ marks_of self.old) × (kept_to_of self.new ≡ kept_to_of self.old)) }
+        ensures err { OnErr result (self.new ≡ self.old) }
+        ensures out_of_memory { IsOkUnless result OutOfMemory }
+    {
+        match self {
+            JoinPhase::Probe(probe) => probe.look_up_in(job),
+            _ => Err(Fault::OutOfMemory),
+        }
+    }
+
     /// What gives the kept rows that none found, in loads of so many rows at most. It has them from then on.
     pub fn take_giver(&mut self, alloc: Global, rows: usize) -> Result<LoneGiver, Fault>
         requires some { 0 < rows }
-        ensures at { (at_of self.new ≡ at_of self.old) ⊎ (at_of self.new ≡ JoinAt.Done) }
+        ensures stays { StaysJoin self.old self.new }
         ensures same { OnOk result ((at_of self.new ≡ at_of self.old) × (build_of self.new ≡ build_of self.old)) }
         ensures build { IfOk result (λ giver. build_of self.old ≡ Some (arc_value giver.lone.build)) }
         ensures giver { IfOk result IsLoneGiver }
@@ -215,6 +234,7 @@ impl<K, J: RowsJob<K>> JoinPhase<K, J> {
     /// The kept rows that none found were given, where their unit ended whole.
     pub fn end(&mut self, giver: Option<LoneGiver>)
         ensures same { (at_of self.new ≡ at_of self.old) × (kept_job_of self.new ≡ kept_job_of self.old) × (asked_job_of self.new ≡ asked_job_of self.old) × (build_of self.new ≡ build_of self.old) }
+        ensures stays { StaysJoin self.old self.new }
     {
         if giver.is_none() {
             return;

@@ -43,7 +43,7 @@ pub struct ProbePhase<K, J: RowsJob<K>> {
 }
 
 impl<K, J: RowsJob<K>> ProbePhase<K, J> {
-    ghost use Rattle.std.specs.Prelude.{◌≡◌, ◌++◌, All, IfOk, IsOkUnless, false};
+    ghost use Rattle.std.specs.Prelude.{◌≡◌, ◌++◌, All, IfOk, IsOkUnless, OnErr, OnOk, false};
     ghost use Rattle.std.specs.Arc.{arc_value};
     ghost use Rattle.morsel_meaning.specs.declared.fault.Fault.TheVariants.{OutOfMemory};
     ghost use Rattle.morsel_join.specs.BuildSides.{IsBuild};
@@ -59,6 +59,22 @@ impl<K, J: RowsJob<K>> ProbePhase<K, J> {
     {
         let build = self.build.clone()?;
         Ok(build)
+    }
+
+    /// From now on the rows that are looked up are those of lanes for this job. It answers that there is no memory where some were looked
+    /// up already.
+    pub fn look_up_in(&mut self, job: &J) -> Result<(), Fault>
+        requires rows { J.gives_rows job.now (arc_value self.old.build).asked }
+        ensures same { (self.new.build ≡ self.old.build) × (self.new.hits ≡ self.old.hits) × (self.new.kept_to ≡ self.old.kept_to) × (self.new.job ≡ self.old.job) }
+        ensures asked_job { OnOk result (self.new.asked_job.value ≡ job.now) }
+        ensures err { OnErr result (self.new ≡ self.old) }
+        ensures out_of_memory { IsOkUnless result OutOfMemory }
+    {
+        if !self.looked.is_empty() {
+            return Err(Fault::OutOfMemory);
+        }
+        self.asked_job = Snapshot::of(job);
+        Ok(())
     }
 
     /// Marks the kept rows that a unit's rows found. Where memory is out, that is told later.

@@ -1,17 +1,17 @@
--- What the reader of a scan has asked at its end, and what the rows mean that its places give.
-use Rattle.std.proofs.Common.{◌≡◌, ℕ, ◌+◌, ◌≤◌, ap, subst, refl, ◌∙◌, inl, inr, arith, append-nil}
-use Rattle.std.proofs.lemmas.List.{take_all}
-use Rattle.std.specs.Prelude.{◌⊎◌, Option, Some, None, Result, Ok, Err, List, [], length}
+-- What the reader of a scan has asked at its end, and what the rows mean that its places give, which are all before a fault.
+use Rattle.std.proofs.Common.{◌≡◌, ℕ, ◌+◌, ◌≤◌, ap, sym, subst, refl, ◌∙◌, inl, inr, arith, append-nil}
+use Rattle.std.proofs.lemmas.List.{take-append-drop, take_all}
+use Rattle.std.specs.Prelude.{◌⊎◌, Option, Some, None, Result, Ok, Err, List, [], ◌++◌, length, drop, slice_range}
 use Rattle.std.specs.List.{sum_by}
 use Rattle.morsel_meaning.specs.Values.{Row}
 use Rattle.morsel_grammar.specs.Dialect.{IsDialect}
 use Rattle.morsel_outside.specs.Outside.{Outside}
 use Rattle.morsel_scan.specs.CsvScans.{csv_scan_rows, csv_sources}
 use Rattle.morsel_scan.specs.ScanRows.{total_rows}
-use Rattle.morsel_scan.specs.StretchRows.{Gives}
+use Rattle.morsel_scan.specs.StretchRows.{Gives, before_fault}
 use Rattle.morsel_scan.specs.RowBlocks.{RowsRead}
-use Rattle.morsel_scan.proofs.StretchLemmas.{gives_on, gives_all}
-use Rattle.morsel_scan.proofs.AxisEndLemmas.{gives_nothing_past_slice}
+use Rattle.morsel_scan.proofs.StretchLemmas.{Places, before_fault-append, from_front, gives_on, gives_all}
+use Rattle.morsel_scan.proofs.AxisEndLemmas.{gives_nothing_past_slice, none_past_slice}
 use Rattle.morsel_scan.proofs.AxisFileLemmas.{gives_scan_rows}
 use Rattle.morsel_read.specs.ScanReads.{FilesAsked, PiecesRead, sizes_in, asked_to, asked_within, IsCurrent, AreOpen, CountsFromFirst}
 use Rattle.morsel_read.specs.PieceReads.{HasGivenAll}
@@ -47,6 +47,21 @@ means_asked job given asked rows fit from one_each gives (inr end) = inr (
       (λ position low. keeps_no_more job.scan.scan.asked.slice end.slice (total_rows (csv_sources job.scan job.first job.names job.files)) end.rows position from end.is end.past low)
       (no_fault_between (scan_axis job).gives given asked (length (scan_axis job).gives) (end.faultless job.first job.names one_each) none)),
 )
+
+-- where no row after them comes before a fault, the rows that places give are all before one
+all_there : (gives : Places) (given : ℕ) (rows : List Row) → Gives gives 0 given rows → before_fault (drop given gives) ≡ [] → before_fault gives ≡ rows
+all_there gives given rows first none =
+    let cut : slice_range gives 0 given ++ drop given gives ≡ gives = ap (λ (x : Places). x ++ drop given gives) (from_front gives given) ∙ take-append-drop given gives in
+    ap before_fault (sym cut) ∙ before_fault-append (slice_range gives 0 given) (drop given gives) rows first.all ∙ ap (λ (later : List Row). rows ++ later) none ∙ append-nil rows
+
+-- the rows that the places before the end give are all before a fault
+pub all_given : (job : Job) (given asked : ℕ) (rows : List Row) → IsDialect job.scan.options → CountsFromFirst job.scan.scan.asked.slice → length job.names ≡ length job.files
+    → Gives (scan_axis job).gives 0 given rows → IsJobEnd job given asked → before_fault (scan_axis job).gives ≡ rows
+all_given job given asked rows fit from one_each gives (inl (all, nothing, few)) =
+    let every = gives_all (scan_axis job).gives rows in every.1 (every.0.0 (all_give job given rows gives nothing))
+all_given job given asked rows fit from one_each gives (inr end) =
+    all_there (scan_axis job).gives given rows gives (none_past_slice job.scan job.first given end.rows job.names job.files fit one_each end.begins
+    (λ position low. keeps_no_more job.scan.scan.asked.slice end.slice (total_rows (csv_sources job.scan job.first job.names job.files)) end.rows position from end.is end.past low))
 
 -- a reader that has come to its end has asked for all, but where a slice has an end
 pub asked_all : (after : Outside) (old new : PiecesRead) (sizes : List ℕ) → new.sources ≡ old.sources → after.sizes ≡ sizes → HasGivenAll new → AreOpen after new

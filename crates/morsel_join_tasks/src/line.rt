@@ -53,6 +53,7 @@ where
     requires tasks { IfSome parts.old (λ parts. AreTasksOf S.owes S.fails (S.Task.can_poll (L.Board.id parts.board)) (IsUnitFault lane.now) parts.tasks.stage parts.tasks.tasks.items) }
     ensures lane { IfOk result (λ line. line.lane ≡ lane.now) }
     ensures none_left { IfOk result (λ line. line.left ≡ 0) }
+    ensures stage { IfSome parts.old (λ parts. IfOk result (λ line. line.stage ≡ parts.tasks.stage)) }
     ensures out_of_memory { IsOkUnless result OutOfMemory }
 {
     let Some(

@@ -33,6 +33,7 @@ where
     requires first { AreTasksOf S.owes S.fails (S.Task.can_poll (B.id board.now)) (IsUnitFault lane.now) first.stage first.tasks.items }
     requires second { AreTasksOf T.owes T.fails (T.Task.can_poll (B.id board.now)) (IsUnitFault lane.now) second.stage second.tasks.items }
     ensures both { IfOk result (λ both. AreTasksOf ⟦<PairStage<S, T> as Stage<B>>⟧.owes ⟦<PairStage<S, T> as Stage<B>>⟧.fails (λ task. ByEither task (S.Task.can_poll (B.id board.now)) (T.Task.can_poll (B.id board.now))) (IsUnitFault lane.now) both.stage both.tasks.items) }
+    ensures stages { IfOk result (λ both. (both.stage.first ≡ first.stage) × (both.stage.second ≡ second.stage)) }
     ensures out_of_memory { IsOkUnless result OutOfMemory }
 {
     let both = pair_tasks(alloc, first, second)?;

@@ -1,12 +1,12 @@
 //! A line of lanes and tasks whose last node keeps what it takes.
-ghost use Rattle.std.specs.Prelude.{◌≡◌};
+ghost use Rattle.std.specs.Prelude.{◌≡◌, Ok, Err, IfOk, IsOk};
 ghost use Rattle.morsel_meaning.specs.declared.fault.Fault.{Fault};
 ghost use Rattle.morsel_load.specs.declared.load.LoadKind.TheVariants.{Pieces};
 ghost use Rattle.morsel_stage.specs.Joined.{outputs_left};
 ghost use Rattle.morsel_stage.specs.Unjoined.{unjoined};
 ghost use Rattle.morsel_scan_units.specs.LaneJobs.{IsUnitFault};
 
-use crate::lane_line::Feed;
+use crate::lane_line::{Feed, made};
 use morsel_drive::{Line, Taken};
 use morsel_line::ScanJob;
 use morsel_load::Load;
@@ -125,6 +125,52 @@ where
             feed,
             ..
         } = self;
+        if let Feed::Open(to) = feed {
+            to.cut(local.cx());
+        }
+        local.abandon();
+    }
+}
+
+/// Whose the tasks were of a line that was made. The line is lent, and taken.
+pub fn take_keep_stage<L, K, H, S>(
+    line: &mut Result<KeepLine<L, K, H, S>, Fault>,
+) -> Result<S, Fault>
+where
+    L: Tokens + Lanes<Load<<L as Tokens>::Token, LaneJob<K, H>>>,
+    <L as Tokens>::Token: AtHome,
+    K: AtHome,
+    H: Io,
+    S: Stage<<L as Tokens>::Board> + Drop,
+    ensures ok { IsOk line.old → IsOk result }
+    ensures stage { IfOk line.old (λ line. result ≡ Ok line.stage) }
+    ensures taken { line.new ≡ Err Fault.OutOfMemory }
+{
+    match made(line) {
+        Ok(KeepLine { stage, .. }) => Ok(stage),
+        Err(fault) => Err(fault),
+    }
+}
+
+/// Ends what has not ended of a line that was made: the caller's end is cut, and all tasks are abandoned. The line is lent, and
+/// taken.
+pub fn abandon_keep<L, K, H, S>(line: &mut Result<KeepLine<L, K, H, S>, Fault>)
+where
+    L: Tokens + Lanes<Load<<L as Tokens>::Token, LaneJob<K, H>>>,
+    <L as Tokens>::Token: AtHome,
+    K: AtHome,
+    H: Io,
+    S: Stage<<L as Tokens>::Board> + Drop,
+    ensures taken { line.new ≡ Err Fault.OutOfMemory }
+{
+    if let Ok(
+        KeepLine {
+            mut local,
+            feed,
+            ..
+        },
+    ) = made(line)
+    {
         if let Feed::Open(to) = feed {
             to.cut(local.cx());
         }

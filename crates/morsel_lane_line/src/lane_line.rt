@@ -1,5 +1,5 @@
 //! A line of lanes and tasks, from the pieces of a scan to the text of its rows.
-ghost use Rattle.std.specs.Prelude.{◌≡◌, Err};
+ghost use Rattle.std.specs.Prelude.{◌≡◌, Ok, Err, IfOk, IsOk};
 ghost use Rattle.morsel_meaning.specs.declared.fault.Fault.{Fault};
 ghost use Rattle.morsel_load.specs.Loads.{load_kind, load_seen};
 ghost use Rattle.morsel_load.specs.declared.load.LoadKind.TheVariants.{Pieces, Parts};
@@ -184,6 +184,26 @@ where
         }
         parts.cut(local.cx());
         local.abandon();
+    }
+}
+
+/// Whose the tasks were of a line that was made. The line is lent, and taken.
+pub fn take_lane_stage<L, K, H, S>(
+    line: &mut Result<LaneLine<L, K, H, S>, Fault>,
+) -> Result<S, Fault>
+where
+    L: Tokens + Lanes<Load<<L as Tokens>::Token, LaneJob<K, H>>>,
+    <L as Tokens>::Token: AtHome,
+    K: AtHome,
+    H: Io,
+    S: Stage<<L as Tokens>::Board> + Drop,
+    ensures ok { IsOk line.old → IsOk result }
+    ensures stage { IfOk line.old (λ line. result ≡ Ok line.stage) }
+    ensures taken { line.new ≡ Err Fault.OutOfMemory }
+{
+    match made(line) {
+        Ok(LaneLine { stage, .. }) => Ok(stage),
+        Err(fault) => Err(fault),
     }
 }
 

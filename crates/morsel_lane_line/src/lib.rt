@@ -4,5 +4,5 @@
 mod keep_line;
 mod lane_line;
 
-pub use keep_line::KeepLine;
-pub use lane_line::{Feed, LaneLine, abandon_line, made};
+pub use keep_line::{KeepLine, abandon_keep, take_keep_stage};
+pub use lane_line::{Feed, LaneLine, abandon_line, made, take_lane_stage};

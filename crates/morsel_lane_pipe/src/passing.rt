@@ -1,5 +1,5 @@
 //! Loads on their way from one lane to the next.
-ghost use Rattle.std.specs.Prelude.{◌≡◌, true, false, None, IsSome, IfSome, ◌++◌, OnOk, OnErr, IfErr};
+ghost use Rattle.std.specs.Prelude.{◌≡◌, true, false, None, Some, IsSome, IfSome, ◌++◌, OnOk, OnErr, IfErr};
 ghost use Rattle.morsel_prims.specs.Polled.{ByEnd, IfReady, OnPending, held_list};
 ghost use Rattle.morsel_prims.specs.Waiting.{KeepsOthersWaiting, KeepsWaiting};
 ghost use Rattle.morsel_prims.specs.Woken.{KeepsWakes};
@@ -49,7 +49,7 @@ impl<K: Drop, J: LoadJob<K>, R, S> Passing<K, J, R, S> {
             Poll::Pending => Poll::Pending,
             Poll::Ready(Err(end)) => Poll::Ready(Err(end)),
             Poll::Ready(Ok(load)) => {
-                self.held = Some(load);
+                keep(&mut self.held, load);
                 Poll::Ready(Ok(()))
             }
         }
@@ -82,7 +82,7 @@ impl<K: Drop, J: LoadJob<K>, R, S> Passing<K, J, R, S> {
             Poll::Pending => Poll::Pending,
             Poll::Ready(Ok(())) => Poll::Ready(Ok(())),
             Poll::Ready(Err(refused)) => {
-                self.held = Some(refused);
+                keep(&mut self.held, refused);
                 Poll::Ready(Err(()))
             }
         }
@@ -105,4 +105,11 @@ impl<K: Drop, J: LoadJob<K>, R, S> Passing<K, J, R, S> {
         from.cut(cx);
         to.cut(cx);
     }
+}
+
+/// Holds this value, in place of what was held.
+pub(crate) fn keep<T: Drop>(held: &mut Option<T>, value: T)
+    ensures { held.new ≡ Some value }
+{
+    *held = Some(value);
 }

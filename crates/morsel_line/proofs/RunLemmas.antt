@@ -74,11 +74,11 @@ whole_asked after old new sizes same sized (inl end) opened = inl (by new.curren
     by (Some c) is = absurd (let less = get_less new.sources.files new.source _ is.1 in omega (arith, less, end))
 whole_asked after old new sizes same sized (inr past) opened = inr (let few = opened.few in let e : new.sources.stop ≡ old.sources.stop = ap (λ (x : FilesAsked). x.stop) same in omega (arith, past, few, e))
 
-answers_rows : (job : Job) (actions : List Action) (result : Result ℕ Fault) → IsDialect job.scan.options → CountsFromFirst job.scan.scan.asked.slice → length job.names ≡ length job.files
-    → WritesRows (scan_axis job) (IsJobEnd job) actions result → AnswersRows job actions result
-answers_rows job actions (Ok n) fit from one_each (given, rows, gives, ends, text, count) =
+answers_rows : (job : Job) (given : ℕ) (actions : List Action) (result : Result ℕ Fault) → IsDialect job.scan.options → CountsFromFirst job.scan.scan.asked.slice → length job.names ≡ length job.files
+    → WritesRows (scan_axis job) (IsJobEnd job) given actions result → AnswersRows job actions result
+answers_rows job given actions (Ok n) fit from one_each (rows, gives, ends, text, count) =
     (rows, text, count, means_rows job given (asked_up_to (scan_axis job) 0 (flat_map event_of actions)) rows fit from one_each gives ends)
-answers_rows job actions (Err fault) fit from one_each writes = tt
+answers_rows job given actions (Err fault) fit from one_each writes = tt
 
 -- why a run of a scan has a fault
 stops_for : (old new : PiecesRead) (actions : List Action) (result : Result ℕ Fault) → new.sources ≡ old.sources
@@ -98,7 +98,7 @@ AtEnd after new = (HasGivenAll new × (new.fault ≡ None)) × SuitsPieces after
 pub scan_written : (s : CsvScan) (old new : PiecesRead) (bound : ℕ) (before after : Outside) (result : Result ℕ Fault) → asked_to old ≡ 0 → old.fault ≡ None
     → Drives (DidRead old new before.sizes) (λ fault. (new.fault ≡ Some fault) × IsPiecesFaultOf new.sources fault) IsPieceKind (AtEnd after new)
     (λ actions. (job : Job) → ReadsJob old job before → (job.scan ≡ s) × (job.stage ≡ ScannedRows) × IsDialect job.scan.options → IsSoundAxis (job_axis job)
-    → DrivesAxis (job_axis job) (IsJobFault job) (IsJobEnd job) (ReadsJob new job after) (bound + (job_axis job).longest) old.sources.chunk actions result) before result after
+    → DrivesAxis (job_axis job) (IsJobFault job) (IsJobEnd job) new.given (ReadsJob new job after) (bound + (job_axis job).longest) old.sources.chunk actions result) before result after
     → WritesScan s old bound before result after
 scan_written s old new bound before after result none start d =
     let did = d.transfers.reads in
@@ -115,7 +115,7 @@ scan_written s old new bound before after result none start d =
           let job : Job = job_of s old files in
           let reads : ReadsJob old job before = record { given = had; names = refl; first = refl; opened = refl } in
           let axis = d.told_them job reads (refl, refl, had.fit) (sound job had.fit) in record {
-            answers = answers_rows job d.actions result had.fit had.from_first had.one_each axis.writes;
+            answers = answers_rows job new.given d.actions result had.fit had.from_first had.one_each axis.writes;
             due = axis.due;
             front = axis.front;
           };

@@ -24,7 +24,8 @@ impl<B: Board, S: Stage<B>, T: Stage<B>> Stage<B> for PairStage<S, T> {
 
     ghost fails = { λ pair fault. S.fails pair.first fault ⊎ T.fails pair.second fault };
 
-    ghost stays = { λ begun pair. S.stays begun.first pair.first × T.stays begun.second pair.second };
+    // What stayed of either stage goes on to stay, whatever it was.
+    ghost stays = { λ begun pair. ((from : S) → S.stays from begun.first → S.stays from pair.first) × ((from : T) → T.stays from begun.second → T.stays from pair.second) };
 
     ghost tells = { λ out told. ByEither out (λ out. S.tells out told) (λ out. T.tells out told) };
 

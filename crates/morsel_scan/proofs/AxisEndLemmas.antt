@@ -3,6 +3,7 @@ use Rattle.std.proofs.Common.{◌≡◌, ℕ, zero, suc, ◌+◌, ◌-◌, ◌�
 use Rattle.std.specs.Prelude.{Bool, true, false, ◌&&◌, if◌then◌else◌, nat_le, Option, Some, None, Result, Ok, Err, List, [], ◌∷◌, ◌++◌, length, take, drop, slice_range, IsUtf8}
 use Rattle.std.specs.List.{sum_by}
 use Rattle.std.specs.Str.{is_utf8}
+use Rattle.std.proofs.lemmas.List.{length-drop, take_all}
 use Rattle.std.proofs.lemmas.List.Sums.{sum_by-append}
 use Rattle.morsel_meaning.specs.declared.fault.ComputeKind.TheVariants as kinds
 use Rattle.morsel_meaning.specs.declared.fault.Fault.{Fault}
@@ -19,9 +20,9 @@ use Rattle.morsel_scan.specs.Scans.{CsvScan}
 use Rattle.morsel_scan.specs.ScanColumns.{used_columns}
 use Rattle.morsel_scan.specs.ScanRows.{Placed, followed_by, row_of_values, scanned, total_rows}
 use Rattle.morsel_scan.specs.CsvScans.{csv_sources, csv_scan_rows, piece_keeps, piece_rows}
-use Rattle.morsel_scan.specs.CsvPieces.{HaveRows, HasRowsUpTo, bytes_between, IsPieceOf}
+use Rattle.morsel_scan.specs.CsvPieces.{HaveRows, HasRowsUpTo, BeginsStretch, bytes_between, IsPieceOf}
 use Rattle.morsel_scan.specs.ScanLaws.{rows_of_pieces}
-use Rattle.morsel_scan.specs.StretchRows.{collected, Gives, HasFaultWithin}
+use Rattle.morsel_scan.specs.StretchRows.{collected, before_fault, Gives, HasFaultWithin}
 use Rattle.morsel_scan.specs.CsvAxis.{TextPart, text_parts, PartStart, start_after, scanned_within, rows_made, record_gives, part_gives, AxisPart, text_axis, file_axis, rows_counted, files_axis, last_of, gives_of, csv_keeps}
 use Rattle.morsel_scan.specs.CsvAxisLaws.{GivesPieces, AreChained, ScansChained, IsAfterPieces, GivesNothingAtEnd, GivesNothingPastSlice}
 use Rattle.morsel_scan.proofs.GatherLemmas.{followed_by-nothing, followed_by-end}
@@ -215,6 +216,13 @@ files_no_rows s make file position (name ∷ names) (bytes ∷ files) none =
     (no_rows-append (gives_of here) (gives_of rest) (file_no_rows s make file name position bytes none)
     (files_no_rows s make (file + 1) (position + rows_counted here) names files (makes_later make position (position + rows_counted here) (omega arith) none)))
 
+-- of rows that the slice does not keep nothing is made
+kept_nothing : (s : CsvScan) (first : ℕ) (names files : List (List ℕ)) (rows : ℕ) → ((position : ℕ) → rows ≤ position → csv_keeps s first names files position ≡ false)
+    → MakesNothing (scanned_within s.scan (csv_keeps s first names files)) (0 + rows)
+kept_nothing s first names files rows keeps_none = λ row from.
+    ap (λ t. if t && nat_le 4294967295 row.position then Err (faults.ComputeError kinds.TooManyRows 4294967295 0) else (if t then row_of_values s.scan row (used_values (used_columns s.scan) row.cells) else Ok None))
+    (keeps_none row.position (omega arith))
+
 -- the last places give no rows
 record GivesNoMore (gives : Places) (from : ℕ) : Type 0 where
   mid : Places
@@ -304,6 +312,26 @@ no_more_given s make file position (name ∷ names) (bytes ∷ files) (suc i) fr
     (no_more_given s make (file + 1) (position + rows_counted here) names files i later more fit (omega (arith, same)) stands
     (makes_later make (position + rows) (position + rows_counted here + more) (omega (arith, count, all)) none)))
 
+-- places without rows have none before a fault
+none_before_fault : (xs : Places) → GiveNoRows xs → before_fault xs ≡ []
+none_before_fault [] none = refl
+none_before_fault (Err fault ∷ xs) none = refl
+none_before_fault (Ok rows ∷ xs) (empty, none) = ap (λ (r : List Row). r ++ before_fault xs) empty ∙ none_before_fault xs none
+
+-- what comes after the places before one is what lies from it to the end
+slice_to_end : (gives : Places) (from : ℕ) → slice_range gives from (length gives) ≡ drop from gives
+slice_to_end gives from = take_all (length gives - from) (drop from gives) (let size = length-drop from gives in omega (arith, size))
+
+-- from where a slice keeps no row, no row comes before a fault
+pub none_past_slice : (s : CsvScan) (first given rows : ℕ) (names files : List (List ℕ)) → IsDialect s.options → length names ≡ length files → BeginsStretch s files given rows
+    → ((position : ℕ) → rows ≤ position → csv_keeps s first names files position ≡ false)
+    → before_fault (drop given (gives_of (files_axis s (scanned_within s.scan (csv_keeps s first names files)) first 0 names files))) ≡ []
+none_past_slice s first given rows names files fit same begins keeps_none =
+    let gives : Places = gives_of (files_axis s (scanned_within s.scan (csv_keeps s first names files)) first 0 names files) in
+    let begin = begin_stands s files given rows begins in
+    let more = no_more_given s (scanned_within s.scan (csv_keeps s first names files)) first 0 names files begin.0 given rows fit same begin.1 (kept_nothing s first names files rows keeps_none) in
+    ap before_fault (sym (slice_to_end gives given) ∙ midst-slice more.is) ∙ none_before_fault more.mid more.none
+
 -- places without rows and without a fault give nothing
 no_fault_left : (xs : Places) → GiveNoRows xs → ((fault : Fault) (before after : Places) → xs ≡ before ++ Err fault ∷ after → ⊥) → collected xs ≡ Ok []
 no_fault_left [] none sound = refl
@@ -330,7 +358,4 @@ past_slice s make first given rows names files fit same none (inl begins) sound 
 
 pub gives_nothing_past_slice : (s : CsvScan) → IsDialect s.options → GivesNothingPastSlice s
 gives_nothing_past_slice s fit = λ first head given rows names files opened text_of same ends keeps_none sound.
-    let none : MakesNothing (scanned_within s.scan (csv_keeps s first names files)) (0 + rows) = λ row from.
-    ap (λ t. if t && nat_le 4294967295 row.position then Err (faults.ComputeError kinds.TooManyRows 4294967295 0) else (if t then row_of_values s.scan row (used_values (used_columns s.scan) row.cells) else Ok None))
-    (keeps_none row.position (omega arith)) in
-    past_slice s (scanned_within s.scan (csv_keeps s first names files)) first given rows names files fit same none ends sound
+    past_slice s (scanned_within s.scan (csv_keeps s first names files)) first given rows names files fit same (kept_nothing s first names files rows keeps_none) ends sound

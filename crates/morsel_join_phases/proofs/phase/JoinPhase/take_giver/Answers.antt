@@ -19,8 +19,8 @@ returns-clause-gives_for g c kept asked sent fits =
     record {
       from = asked;
       asked = rows;
-      alone = subst (λ (b : Build). g.J.RowsJob.is_alone (kept_side b) asked sent) (sym built) there.2;
-      all = there.1 rows (subst (λ (job : g.row.J.Denot). ∥ g.J.RowsJob.gives job 0 emit.asked_to rows ∥₁) (sym there.0) emit.asked);
+      alone = subst (λ (b : Build). g.J.RowsJob.is_alone (kept_side b) asked sent) (sym built) there.1;
+      all = there.0 rows emit.asked;
       giver_is = c.in_ok-giver.ensures.giver;
       left = subst (λ (b : Build). HasLeft (rows_alone (kept_side b) rows) c.in_ok-giver.giver) (sym built) c.in_ok-giver.ensures.left_of_looked;
     }

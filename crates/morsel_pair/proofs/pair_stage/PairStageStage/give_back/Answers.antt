@@ -14,3 +14,9 @@ returns-in-First-clause-owed g c before after task owed gave =
 pub returns-in-Second-clause-owed : goal.returns-in-Second-clause-owed
 returns-in-Second-clause-owed g c before after task owed gave =
     two_second_back g.S.Task.Task.gives g.T.Task.Task.gives (g.S.Stage.owes c.args.self.now.first) (g.T.Stage.owes c.args.self.now.second) (g.T.Stage.owes c.give_back-in-Second.new.self) before after task c.args.out c.in-Second.out c.in-Second.is owed.0 owed.1 gave c.give_back-in-Second.ensures.owed
+
+pub returns-in-First-clause-stays : goal.returns-in-First-clause-stays
+returns-in-First-clause-stays g c begun was = (λ from at. c.give_back.ensures.stays from (was.0 from at), was.1)
+
+pub returns-in-Second-clause-stays : goal.returns-in-Second-clause-stays
+returns-in-Second-clause-stays g c begun was = (was.0, λ from at. c.give_back-in-Second.ensures.stays from (was.1 from at))
