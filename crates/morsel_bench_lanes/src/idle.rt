@@ -9,6 +9,7 @@ use morsel_prims::{Board, Cx, PlainBoard, Poll, Task};
 use morsel_timing::{Best, Timing, now, tell};
 use std::alloc::Global;
 use std::marker::Brand;
+use std::mem::drop;
 use std::rt::Clock;
 use std::sync::ledger::{Blank, Ledger};
 
@@ -90,20 +91,11 @@ pub fn run<R: Clock + Print + AllocGlobal>(
     run_tasks::<R, Brand>(rt, timing, polls, Blank::new(1))
 }
 
-/// As many tasks as there may be.
-fn idle_tasks<Y: Ledger>(
-    alloc: Global,
-    blank: Blank,
-) -> Result<IdleTasks<PlainBoard<Carried>, Y>, Fault>
-    requires name { blank.name ≡ Y.name }
-    requires parts { blank.parts ≡ Y.parts }
-    requires one { blank.parts ≡ 1 }
-{
-    let mut tasks = IdleTasks::new(alloc, PlainBoard::new(alloc)?, blank)?;
+/// Puts in as many tasks as there may be.
+fn spawn_idle<B: Board + Drop, Y: Ledger>(tasks: &mut IdleTasks<B, Y>) {
     for _ in 0..TASKS {
         tasks.spawn();
     }
-    Ok(tasks)
 }
 
 /// Wakes all tasks and polls them, so many times.
@@ -114,6 +106,42 @@ fn poll_all<B: Board + Drop, Y: Ledger>(tasks: &mut IdleTasks<B, Y>, turns: usiz
         }
         tasks.sweep();
     }
+}
+
+/// Polls all tasks, so many times in each run.
+fn time_polls<R: Clock, B: Board + Drop, Y: Ledger>(
+    rt: &R,
+    timing: Timing,
+    turns: usize,
+    tasks: &mut IdleTasks<B, Y>,
+) -> Result<Best, Fault> {
+    let polled = turns.saturating_mul(TASKS as usize);
+    let mut best = Best::new();
+    for _ in 0..timing.runs {
+        let begun = now(rt)?;
+        poll_all(tasks, turns);
+        best.take_in(rt, begun, polled)?;
+    }
+    Ok(best)
+}
+
+/// Tells how tasks are polled.
+fn tell_polls<R: Clock + Print, B: Board + Drop, Y: Ledger>(
+    rt: &R,
+    timing: Timing,
+    polls: usize,
+    mut tasks: IdleTasks<B, Y>,
+) -> Result<(), Fault> {
+    spawn_idle(&mut tasks);
+    let best = time_polls(rt, timing, polls / TASKS as usize, &mut tasks);
+    drop(tasks);
+    tell(
+        rt,
+        timing,
+        "poll of a task that does nothing, polls",
+        best?,
+        polls,
+    )
 }
 
 /// Runs the part, with the count of its sweeps.
@@ -127,20 +155,7 @@ fn run_tasks<R: Clock + Print + AllocGlobal, Y: Ledger>(
     requires parts { blank.parts ≡ Y.parts }
     requires one { blank.parts ≡ 1 }
 {
-    let mut tasks = idle_tasks::<Y>(rt.alloc(), blank)?;
-    let turns = polls / TASKS as usize;
-    let polled = turns.saturating_mul(TASKS as usize);
-    let mut best = Best::new();
-    for _ in 0..timing.runs {
-        let begun = now(rt)?;
-        poll_all(&mut tasks, turns);
-        best.take_in(rt, begun, polled)?;
-    }
-    tell(
-        rt,
-        timing,
-        "poll of a task that does nothing, polls",
-        best,
-        polls,
-    )
+    let board: PlainBoard<Carried> = PlainBoard::new(rt.alloc())?;
+    let tasks: IdleTasks<PlainBoard<Carried>, Y> = IdleTasks::new(rt.alloc(), board, blank)?;
+    tell_polls(rt, timing, polls, tasks)
 }

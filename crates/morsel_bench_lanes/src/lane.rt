@@ -9,6 +9,7 @@ use morsel_prims::{
 use morsel_timing::{Best, Timing, now, tell};
 use morsel_word_lanes::WordLanes;
 use std::alloc::Global;
+use std::mem::drop;
 use std::rt::Clock;
 
 /// For how many values a lane has room.
@@ -69,19 +70,59 @@ pub fn run<R: Clock + Print + AllocGlobal>(
     timing: Timing,
     values: usize,
 ) -> Result<(), Fault> {
+    run_lane(rt, timing, values)?;
+    let connector: Passage<WordLanes> = Passage::new(rt.alloc(), ())?;
+    tell_connector(rt, timing, values, connector)
+}
+
+/// Runs the parts on a lane of one thread.
+fn run_lane<R: Clock + Print + AllocGlobal>(
+    rt: &R,
+    timing: Timing,
+    values: usize,
+) -> Result<(), Fault> {
     let board = PlainBoard::new(rt.alloc())?;
-    let mut passage: Passage<PlainLanes<Carried>> = Passage::new(rt.alloc(), board)?;
-    let one = time_one(rt, timing, values, &mut passage)?;
+    let passage: Passage<PlainLanes<Carried>> = Passage::new(rt.alloc(), board)?;
+    tell_lane(rt, timing, values, passage)
+}
+
+/// Tells how values go through a lane, one by one and many at once.
+fn tell_lane<R: Clock + Print, L: Tokens + Lanes<Carried>>(
+    rt: &R,
+    timing: Timing,
+    values: usize,
+    mut passage: Passage<L>,
+) -> Result<(), Fault> {
+    tell_both(rt, timing, values, &mut passage)
+}
+
+/// The same of a lane that is lent.
+fn tell_both<R: Clock + Print, L: Tokens + Lanes<Carried>>(
+    rt: &R,
+    timing: Timing,
+    values: usize,
+    passage: &mut Passage<L>,
+) -> Result<(), Fault> {
+    let one = time_one(rt, timing, values, passage)?;
     tell(rt, timing, "one value through a lane, values", one, values)?;
-    let many = time_many(rt, timing, values, &mut passage)?;
-    tell(rt, timing, "64 values through a lane, values", many, values)?;
-    let mut connector: Passage<WordLanes> = Passage::new(rt.alloc(), ())?;
-    let word = time_one(rt, timing, values, &mut connector)?;
+    let many = time_many(rt, timing, values, passage)?;
+    tell(rt, timing, "64 values through a lane, values", many, values)
+}
+
+/// Tells how values go through a connector, one by one.
+fn tell_connector<R: Clock + Print, L: Tokens + Lanes<Carried>>(
+    rt: &R,
+    timing: Timing,
+    values: usize,
+    mut passage: Passage<L>,
+) -> Result<(), Fault> {
+    let word = time_one(rt, timing, values, &mut passage);
+    drop(passage);
     tell(
         rt,
         timing,
         "one value through a connector, values",
-        word,
+        word?,
         values,
     )
 }

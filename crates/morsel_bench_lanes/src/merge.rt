@@ -8,6 +8,7 @@ use morsel_prims::{Cx, Lanes, Message, PlainBoard, PlainLanes, Poll, Tokens, Wak
 use morsel_timing::{Best, Timing, now, tell};
 use std::alloc::Global;
 use std::cmp::Reverse;
+use std::mem::drop;
 use std::rt::Clock;
 
 /// How many lanes are merged.
@@ -84,23 +85,45 @@ pub fn run<R: Clock + Print + AllocGlobal>(
     values: usize,
 ) -> Result<(), Fault> {
     let board = PlainBoard::new(rt.alloc())?;
-    let mut merge: MergePassage<PlainLanes<Numbered>> = MergePassage::new(rt.alloc(), board)?;
+    let merge: MergePassage<PlainLanes<Numbered>> = MergePassage::new(rt.alloc(), board)?;
+    tell_merge(rt, timing, values, merge)
+}
+
+/// Tells how values go through lanes that are merged.
+fn tell_merge<R: Clock + Print, M: Tokens + Lanes<Numbered>>(
+    rt: &R,
+    timing: Timing,
+    values: usize,
+    mut merge: MergePassage<M>,
+) -> Result<(), Fault> {
+    let best = time_merge(rt, timing, values, &mut merge);
+    drop(merge);
+    tell(
+        rt,
+        timing,
+        "one value through a linearizer of 4 lanes, values",
+        best?,
+        values,
+    )
+}
+
+/// Each lane has a value, and then each value is sent and one is given.
+fn time_merge<R: Clock, M: Tokens + Lanes<Numbered>>(
+    rt: &R,
+    timing: Timing,
+    values: usize,
+    merge: &mut MergePassage<M>,
+) -> Result<Best, Fault> {
     for _ in 0..LANES {
         let _ = merge.send();
     }
     let mut best = Best::new();
     for _ in 0..timing.runs {
         let begun = now(rt)?;
-        let given = merge_each(values, &mut merge);
+        let given = merge_each(values, merge);
         best.take_in(rt, begun, given)?;
     }
-    tell(
-        rt,
-        timing,
-        "one value through a linearizer of 4 lanes, values",
-        best,
-        values,
-    )
+    Ok(best)
 }
 
 /// Sends each value, and gives one. How many were given.

@@ -9,6 +9,7 @@ use morsel_timing::{Best, Timing, now, tell};
 use rand_core::SeedableRng;
 use rand_xoshiro::Xoshiro256PlusPlus;
 use std::alloc::Global;
+use std::mem::drop;
 use std::rt::Clock;
 
 /// Over how many lanes values are spread.
@@ -65,23 +66,45 @@ pub fn run<R: Clock + Print + AllocGlobal>(
     values: usize,
 ) -> Result<(), Fault> {
     let board = PlainBoard::new(rt.alloc())?;
-    let mut spread: SpreadPassage<PlainLanes<Carried>> = SpreadPassage::new(rt.alloc(), board)?;
+    let spread: SpreadPassage<PlainLanes<Carried>> = SpreadPassage::new(rt.alloc(), board)?;
+    tell_spread(rt, timing, values, spread)
+}
+
+/// Tells how values go through a distributor.
+fn tell_spread<R: Clock + Print, M: Tokens + Lanes<Carried>>(
+    rt: &R,
+    timing: Timing,
+    values: usize,
+    mut spread: SpreadPassage<M>,
+) -> Result<(), Fault> {
+    let best = time_spread(rt, timing, values, &mut spread);
+    drop(spread);
+    tell(
+        rt,
+        timing,
+        "one value through a distributor of 4 lanes, values",
+        best?,
+        values,
+    )
+}
+
+/// Values are sent and taken, some at a time.
+fn time_spread<R: Clock, M: Tokens + Lanes<Carried>>(
+    rt: &R,
+    timing: Timing,
+    values: usize,
+    spread: &mut SpreadPassage<M>,
+) -> Result<Best, Fault> {
     let mut best = Best::new();
     for _ in 0..timing.runs {
         let begun = now(rt)?;
         let mut taken = 0usize;
         for _ in 0..values / BATCH {
-            taken = taken.saturating_add(spread_batch(&mut spread));
+            taken = taken.saturating_add(spread_batch(spread));
         }
         best.take_in(rt, begun, taken)?;
     }
-    tell(
-        rt,
-        timing,
-        "one value through a distributor of 4 lanes, values",
-        best,
-        values,
-    )
+    Ok(best)
 }
 
 /// Sends some values, and takes what each lane has. How many were taken.

@@ -4,6 +4,7 @@ mod between;
 mod cases;
 mod cut;
 mod jobs;
+mod made;
 mod numbered;
 mod pairing;
 mod pipe;

@@ -1,21 +1,22 @@
 //! A pipe: the board that it works on, its open ends, and the tasks between them, over any lanes.
-ghost use Rattle.std.specs.Prelude.{◌≡◌, ◌≤◌, [], All, IfOk, IfSome};
+ghost use Rattle.std.specs.Prelude.{◌≡◌, ◌≤◌, [], All, IfOk};
 ghost use Rattle.morsel_merge.specs.Ends.{IsNewReceiver, IsNewSender};
 ghost use Rattle.morsel_load.specs.Loads.{LoadSeen};
 ghost use Rattle.morsel_lane_pipe.specs.Tasks.{HoldsTokensOf};
 ghost use Rattle.morsel_lane_pipe_uses.specs.Sites.{HoldsTokenAt, IsEndAt};
 
-use crate::tests::between::{distributing, merging, poll_once, take_from};
-use crate::tests::numbered::{morsel_of, number_of};
+use crate::tests::between::{consume_held, poll_once, send_through, take_into, token_of};
+use crate::tests::made::MakesTasks;
+use crate::tests::numbered::{counted_load, load_of};
 use crate::tests::piped::{Ends, Piped, SendAnswer};
-use morsel_lane_pipe::{HandingOn, Inserting, LoadOf, PipeOut, ReceiptsOf, Stepping};
+use morsel_lane_pipe::{LoadOf, PipeOut, ReceiptsOf};
 use morsel_load::{Load, LoadJob};
 use morsel_meaning::{Fault, TaskNo};
 use morsel_merge::Inserter;
-use morsel_pipe_task::{PipeTask, PipeWork};
 use morsel_prims::{Cx, LaneReceiver, LaneSender, Lanes, Poll, RecvError, Task, Tokens, Wakes};
 use std::alloc::Global;
 use std::marker::Model;
+use std::mem::drop;
 use std::snapshot::Snapshot;
 
 /// How many tasks may be woken.
@@ -145,76 +146,6 @@ where
         Ok(())
     }
 
-    /// The task behind the two lanes of a linearizer, and the sending ends of the lanes.
-    pub fn merging(
-        &mut self,
-        alloc: Global,
-        job: &J,
-        to: L::Sender,
-    ) -> Result<(PipeTask<L, J>, Vec<Inserter<LoadOf<L, J>, L>>), Fault>
-        requires same_job { job.now ≡ self.old.job }
-        requires of_site { IsEndAt self.old (L.Sender.home to) (L.Sender.job to) }
-        requires fresh { L.Sender.sent to ≡ [] }
-        ensures may_poll { IfOk result (λ made. ⟦<PipeTask<L, J> as Task<L::Board>>⟧.can_poll (self.old.board) made.0) }
-        ensures inserters { IfOk result (λ made. All (λ inserter. IsNewSender L.Sender.home L.Sender.job L.Sender.room L.Sender.sent self.old.board.lane_table job.now (L.room_of self.old.room) inserter.sender) made.1.items) }
-        ensures same { self.new ≡ self.old }
-    {
-        merging::<L, J>(alloc, &mut self.cx.board, self.room, job, to)
-    }
-
-    /// The task before the two lanes of a distributor, and the receiving ends of the lanes. The seed says which lanes are drawn.
-    pub fn distributing(
-        &mut self,
-        alloc: Global,
-        job: &J,
-        from: L::Receiver,
-        seed: u64,
-    ) -> Result<(PipeTask<L, J>, Vec<L::Receiver>), Fault>
-        requires same_job { job.now ≡ self.old.job }
-        requires of_site { IsEndAt self.old (L.Receiver.home from) (L.Receiver.job from) }
-        requires fresh { L.Receiver.taken from ≡ [] }
-        ensures may_poll { IfOk result (λ made. ⟦<PipeTask<L, J> as Task<L::Board>>⟧.can_poll (self.old.board) made.0) }
-        ensures receivers { IfOk result (λ made. All (IsNewReceiver L.Receiver.home L.Receiver.job L.Receiver.taken L.Receiver.is_whole L.Receiver.is_cut self.old.board.lane_table job.now) made.1.items) }
-        ensures same { self.new ≡ self.old }
-    {
-        distributing::<L, J>(alloc, &mut self.cx.board, self.room, job, from, seed)
-    }
-
-    /// The task before a lane of a linearizer.
-    pub fn inserting(
-        &self,
-        alloc: Global,
-        from: L::Receiver,
-        to: Inserter<LoadOf<L, J>, L>,
-    ) -> Result<PipeTask<L, J>, Fault>
-        requires from_site { IsEndAt self.now (L.Receiver.home from) (L.Receiver.job from) }
-        requires to_site { IsEndAt self.now (L.Sender.home to.sender) (L.Sender.job to.sender) }
-        requires fresh { (L.Receiver.taken from ≡ []) × (L.Sender.sent to.sender ≡ []) }
-        ensures may_poll { IfOk result (⟦<PipeTask<L, J> as Task<L::Board>>⟧.can_poll (self.now.board)) }
-    {
-        // The board's tokens are those that the loads of its lanes may have.
-        let _room = self.room;
-        let task = Inserting::new(alloc, from, to)?;
-        Ok(Stepping::new(PipeWork::Inserting(task)))
-    }
-
-    /// The task behind a lane of a distributor.
-    pub fn handing_on(
-        &mut self,
-        alloc: Global,
-        from: L::Receiver,
-        to: L::Sender,
-    ) -> Result<PipeTask<L, J>, Fault>
-        requires from_site { IsEndAt self.old (L.Receiver.home from) (L.Receiver.job from) }
-        requires to_site { IsEndAt self.old (L.Sender.home to) (L.Sender.job to) }
-        requires fresh { (L.Receiver.taken from ≡ []) × (L.Sender.sent to ≡ []) }
-        ensures may_poll { IfOk result (⟦<PipeTask<L, J> as Task<L::Board>>⟧.can_poll (self.old.board)) }
-        ensures same { self.new ≡ self.old }
-    {
-        let task = HandingOn::new(alloc, &mut self.cx.board, from, to)?;
-        Ok(Stepping::new(PipeWork::HandingOn(task)))
-    }
-
     /// Puts a task last, and makes it ready.
     pub fn push(&mut self, task: T) -> Result<(), Fault>
         requires may_poll { T.can_poll (self.old.board) task }
@@ -235,20 +166,10 @@ where
         ensures same { self.new ≡ self.old }
     {
         if self.entries.len() <= at {
+            drop(load);
             return None;
         }
-        Some(SendAnswer::of(self.entries[at].try_send(&mut self.cx, load)))
-    }
-
-    /// Takes a load through an end that is open.
-    fn take_load(&mut self, at: usize) -> Option<Result<LoadOf<L, J>, RecvError>>
-        ensures token { IfSome result (λ answer. IfOk answer (HoldsTokenAt L.token_home self.old)) }
-        ensures same { self.new ≡ self.old }
-    {
-        if self.exits.len() <= at {
-            return None;
-        }
-        Some(take_from::<L, J>(&mut self.exits[at], &mut self.cx, &self.job))
+        Some(send_through::<L, J>(&mut self.entries[at], &mut self.cx, load))
     }
 
     /// The one token of a new group, which is kept.
@@ -256,21 +177,7 @@ where
         ensures token { IfOk result (λ token. L.token_home token ≡ self.old.board.group_table) }
         ensures same { self.new ≡ self.old }
     {
-        let mut group = L::group(alloc, &mut self.cx.board)?;
-        let token = L::token(&mut self.cx, &mut group)?;
-        self.group = Some(group);
-        Ok(token)
-    }
-
-    /// Releases the token of the load that is held, if it has one.
-    fn release(&mut self)
-        ensures same { self.new ≡ self.old }
-    {
-        if let Some(load) = &mut self.held {
-            if let Some(token) = load.take_consume_token() {
-                L::release(&mut self.cx, token);
-            }
-        }
+        token_of::<L>(alloc, &mut self.cx, &mut self.group)
     }
 
     /// Polls the task of this number, unless it has ended.
@@ -301,7 +208,7 @@ where
     }
 
     fn send(&mut self, alloc: Global, at: usize, number: u32) -> Result<Option<SendAnswer>, Fault> {
-        let load = Load::Morsel(morsel_of(alloc, number)?);
+        let load = load_of(alloc, number)?;
         Ok(self.send_load(at, load))
     }
 
@@ -311,9 +218,8 @@ where
         at: usize,
         number: u32,
     ) -> Result<Option<SendAnswer>, Fault> {
-        let mut morsel = morsel_of(alloc, number)?;
-        morsel.set_consume_token(self.token(alloc)?);
-        let load = Load::Morsel(morsel);
+        let token = self.token(alloc)?;
+        let load = counted_load(alloc, number, token)?;
         Ok(self.send_load(at, load))
     }
 
@@ -325,19 +231,14 @@ where
     }
 
     fn take(&mut self, at: usize) -> Option<Result<(), RecvError>> {
-        match self.take_load(at)? {
-            Ok(load) => {
-                self.held = Some(load);
-                Some(Ok(()))
-            }
-            Err(why) => Some(Err(why)),
+        if self.exits.len() <= at {
+            return None;
         }
+        Some(take_into::<L, J>(&mut self.exits[at], &mut self.cx, &self.job, &mut self.held))
     }
 
     fn consume(&mut self) -> Option<u64> {
-        self.release();
-        let load = self.held.take()?;
-        Some(number_of(&load))
+        consume_held::<L, J>(&mut self.cx, &mut self.held)
     }
 
     fn finish(&mut self) {
@@ -371,4 +272,87 @@ where
     fn ends(&self) -> Ends {
         self.ended
     }
+}
+
+/// The task behind the two lanes of a linearizer, and the sending ends of the lanes.
+pub fn merging<L, J, M>(
+    alloc: Global,
+    pipe: &mut Pipe<L, J, M::Made>,
+    job: &J,
+    to: L::Sender,
+) -> Result<(M::Made, Vec<Inserter<LoadOf<L, J>, L>>), Fault>
+where
+    L: Tokens + Lanes<Load<<L as Tokens>::Token, J>>,
+    J: LoadJob<<L as Tokens>::Token>,
+    M: MakesTasks<L, J>,
+    requires same_job { job.now ≡ pipe.old.job }
+    requires of_site { IsEndAt pipe.old (L.Sender.home to) (L.Sender.job to) }
+    requires fresh { L.Sender.sent to ≡ [] }
+    ensures may_poll { IfOk result (λ made. M.Made.can_poll (pipe.old.board) made.0) }
+    ensures inserters { IfOk result (λ made. All (λ inserter. IsNewSender L.Sender.home L.Sender.job L.Sender.room L.Sender.sent pipe.old.board.lane_table job.now (L.room_of pipe.old.room) inserter.sender) made.1.items) }
+    ensures same { pipe.new ≡ pipe.old }
+{
+    M::merging(alloc, &mut pipe.cx.board, pipe.room, job, to)
+}
+
+/// The task before the two lanes of a distributor, and the receiving ends of the lanes. The seed says which lanes are drawn.
+pub fn distributing<L, J, M>(
+    alloc: Global,
+    pipe: &mut Pipe<L, J, M::Made>,
+    job: &J,
+    from: L::Receiver,
+    seed: u64,
+) -> Result<(M::Made, Vec<L::Receiver>), Fault>
+where
+    L: Tokens + Lanes<Load<<L as Tokens>::Token, J>>,
+    J: LoadJob<<L as Tokens>::Token>,
+    M: MakesTasks<L, J>,
+    requires same_job { job.now ≡ pipe.old.job }
+    requires of_site { IsEndAt pipe.old (L.Receiver.home from) (L.Receiver.job from) }
+    requires fresh { L.Receiver.taken from ≡ [] }
+    ensures may_poll { IfOk result (λ made. M.Made.can_poll (pipe.old.board) made.0) }
+    ensures receivers { IfOk result (λ made. All (IsNewReceiver L.Receiver.home L.Receiver.job L.Receiver.taken L.Receiver.is_whole L.Receiver.is_cut pipe.old.board.lane_table job.now) made.1.items) }
+    ensures same { pipe.new ≡ pipe.old }
+{
+    M::distributing(alloc, &mut pipe.cx.board, pipe.room, job, from, seed)
+}
+
+/// The task before a lane of a linearizer.
+pub fn inserting<L, J, M>(
+    alloc: Global,
+    pipe: &mut Pipe<L, J, M::Made>,
+    from: L::Receiver,
+    to: L::Sender,
+) -> Result<M::Made, Fault>
+where
+    L: Tokens + Lanes<Load<<L as Tokens>::Token, J>>,
+    J: LoadJob<<L as Tokens>::Token>,
+    M: MakesTasks<L, J>,
+    requires from_site { IsEndAt pipe.old (L.Receiver.home from) (L.Receiver.job from) }
+    requires to_site { IsEndAt pipe.old (L.Sender.home to) (L.Sender.job to) }
+    requires fresh { (L.Receiver.taken from ≡ []) × (L.Sender.sent to ≡ []) }
+    ensures may_poll { IfOk result (M.Made.can_poll (pipe.old.board)) }
+    ensures same { pipe.new ≡ pipe.old }
+{
+    M::inserting(alloc, &mut pipe.cx.board, from, to)
+}
+
+/// The task behind a lane of a distributor.
+pub fn handing_on<L, J, M>(
+    alloc: Global,
+    pipe: &mut Pipe<L, J, M::Made>,
+    from: L::Receiver,
+    to: L::Sender,
+) -> Result<M::Made, Fault>
+where
+    L: Tokens + Lanes<Load<<L as Tokens>::Token, J>>,
+    J: LoadJob<<L as Tokens>::Token>,
+    M: MakesTasks<L, J>,
+    requires from_site { IsEndAt pipe.old (L.Receiver.home from) (L.Receiver.job from) }
+    requires to_site { IsEndAt pipe.old (L.Sender.home to) (L.Sender.job to) }
+    requires fresh { (L.Receiver.taken from ≡ []) × (L.Sender.sent to ≡ []) }
+    ensures may_poll { IfOk result (M.Made.can_poll (pipe.old.board)) }
+    ensures same { pipe.new ≡ pipe.old }
+{
+    M::handing_on(alloc, &mut pipe.cx.board, from, to)
 }

@@ -19,9 +19,16 @@ impl SendAnswer {
     /// The answer of a lane.
     pub fn of<T: Drop>(answer: Result<(), SendError<T>>) -> SendAnswer {
         match answer {
-            Ok(()) => SendAnswer::Sent,
-            Err(SendError::Full(_)) => SendAnswer::Full,
-            Err(SendError::Closed(_)) => SendAnswer::Closed,
+            Ok(_) => SendAnswer::Sent,
+            Err(refusal) => SendAnswer::of_refusal(refusal),
+        }
+    }
+
+    /// The answer of a lane that refused a load.
+    fn of_refusal<T: Drop>(refusal: SendError<T>) -> SendAnswer {
+        match refusal {
+            SendError::Full(_) => SendAnswer::Full,
+            SendError::Closed(_) => SendAnswer::Closed,
         }
     }
 }

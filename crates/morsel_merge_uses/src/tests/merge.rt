@@ -1,7 +1,7 @@
 //! A linearizer with the board that it works on, over any lanes.
 ghost use Rattle.std.specs.Prelude.{◌≡◌, ◌≤◌, All, IfOk};
 
-use crate::least::Least;
+use crate::tests::least::Least;
 use morsel_meaning::{Fault, TaskNo};
 use morsel_merge::{Got, Inserter, Linearizer};
 use morsel_prims::{Cx, Lanes, Poll, Tokens, Wakes};

@@ -1,5 +1,5 @@
 use Rattle.std.proofs.Common.{ap, sym, ◌∙◌}
-use Rattle.morsel_merge_uses.proofs.merge.Merge.new.Goals as goal
+use Rattle.morsel_merge_uses.proofs.tests.merge.Merge.new.Goals as goal
 
 pub invariant_of-result : goal.invariant_of-result
 invariant_of-result g c =

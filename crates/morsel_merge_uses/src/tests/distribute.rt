@@ -1,7 +1,7 @@
 //! A distributor with the board that it works on, over any lanes.
 ghost use Rattle.std.specs.Prelude.{◌≡◌, ◌≤◌, All};
 
-use crate::least::Least;
+use crate::tests::least::Least;
 use morsel_meaning::{Fault, TaskNo};
 use morsel_merge::{DistSender, distributor_channel};
 use morsel_prims::{

@@ -1,0 +1,4 @@
+use Rattle.morsel_lane_pipe_uses.proofs.tests.made.PipeTasksMakesTasks.handing_on.Goals as goal
+
+pub returns-clause-may_poll : goal.returns-clause-may_poll
+returns-clause-may_poll g c = rw c.new-2.ensures c.in_ok-task.ensures.can_step
