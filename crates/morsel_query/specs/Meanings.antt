@@ -1,19 +1,19 @@
 -- What a query means: the rows that its files allow, and the text of rows in its sink.
-use Rattle.std.specs.Prelude.{◌≡◌, ℕ, ◌≤◌, Option, Some, None, Result, Ok, List, length, take, drop}
+use Rattle.std.specs.Prelude.{◌≡◌, ℕ, ◌≤◌, Option, Some, None, Result, Ok, List, length, map, take, drop}
 use Rattle.std.specs.List.{All}
-use Rattle.morsel_meaning.specs.declared.value.Field.{Field}
 use Rattle.morsel_meaning.specs.declared.fault.Fault.{Fault}
-use Rattle.morsel_meaning.specs.Values.{Row, Table, kinds_of, names_of}
+use Rattle.morsel_meaning.specs.Values.{Row, kinds_of, names_of}
 use Rattle.morsel_grammar.specs.Dialect.{Dialect}
 use Rattle.morsel_grammar.specs.Rows.{IsOfGrammar}
-use Rattle.morsel_join.specs.declared.rules.JoinRules.{JoinRules}
-use Rattle.morsel_join.specs.Rows.{IsJoin}
+use Rattle.morsel_join.specs.Items.{JoinItem, JoinItems, IsPromised}
+use Rattle.morsel_join.specs.Payloads.{key_places}
+use Rattle.morsel_join.specs.Rows.{item_row, join_columns, rows_match}
 use Rattle.morsel_scan.specs.Scans.{CsvScan}
 use Rattle.morsel_scan.specs.ScanRows.{total_rows}
 use Rattle.morsel_scan.specs.CsvScans.{csv_sources, csv_scan_rows}
 use Rattle.morsel_sink.specs.Sinks.{text_by_format}
 use Rattle.morsel_query.specs.Queries.{FileFormat, CsvFiles, FileScan, JoinPart, QueryParts, scan_asked}
-use Rattle.morsel_query.specs.Plans.{planned, output_of, fields_of_scan, AreRulesOf, query_fault}
+use Rattle.morsel_query.specs.Plans.{planned, output_of, fields_of_scan, query_fault}
 
 -- how the files of a format are written
 abbrev pub dialect_of : FileFormat → Dialect
@@ -51,15 +51,12 @@ left_files left files = take (length left.sources) files
 abbrev pub right_files : FileScan → List (List ℕ) → List (List ℕ)
 right_files left files = drop (length left.sources) files
 
--- a table of columns and rows
-abbrev pub table_of : List Field → List Row → Table
-table_of fields rows = record { schema = fields; rows = rows }
-
--- rows that a join may give of these rows of its sides
+-- rows that a join may give of these rows of its sides: those of a list that has each of its pairs and of its lone rows once, in the promised order
 pub record AreJoinRows (left : FileScan) (join : JoinPart) (lefts rights rows : List Row) : Type 0 where
-  pub rules : JoinRules
-  pub are_rules : AreRulesOf (fields_of_scan left) (fields_of_scan join.right) join rules
-  pub is_join : IsJoin rules (table_of (fields_of_scan left) lefts) (table_of (fields_of_scan join.right) rights) (table_of rules.output rows)
+  pub items : List JoinItem
+  pub once : JoinItems join.args.how (rows_match join.args.join_nulls (key_places (fields_of_scan left) join.left_keys) (key_places (fields_of_scan join.right) join.right_keys)) lefts rights items
+  pub promised : IsPromised join.args.maintain_order items
+  pub rows_are : rows ≡ map (item_row (join_columns join.args (fields_of_scan left) (fields_of_scan join.right) join.left_keys join.right_keys) lefts rights) items
 
 -- rows that a join of scans may give, where their sources have these bytes, those of the left one first
 pub record JoinMeans (left : FileScan) (join : JoinPart) (files : List (List ℕ)) (rows : List Row) : Type 0 where
