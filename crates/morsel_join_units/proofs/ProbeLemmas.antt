@@ -45,8 +45,8 @@ joins-later suits gives_rows finds maker later from to same is all joins = (
 
 -- of a load that is looked up nothing was given
 pub finds-begun : {J : Type 0} (suits : J → LoadSeen → Type 0) (finds : KeptSide → J → J → Type 0) (build now : Build) (from to : J) (frame given : Table) (seq : ℕ) (source : SourceSeen) (stretch : Stretch) (probed : Probed) → now ≡ build → given ≡ frame → finds (kept_side build) from to
-    → suits from (SeenMorsel frame seq source stretch) → probed.cutter.seq ≡ seq → probed.cutter.from ≡ stretch.from → probed.cutter.to ≡ stretch.to → probed.cutter.given ≡ 0 → IsLookedUp build given probed.probing → FindsOf suits finds (kept_side now) to probed
-finds-begun suits finds build now from to frame given seq source stretch probed same frame_is found suited seq_is from_is to_is none is =
+    → suits from (SeenMorsel frame seq source stretch) → probed.cutter.seq ≡ seq → probed.cutter.source.source ≡ source.source → probed.cutter.from ≡ stretch.from → probed.cutter.to ≡ stretch.to → probed.cutter.given ≡ 0 → IsLookedUp build given probed.probing → FindsOf suits finds (kept_side now) to probed
+finds-begun suits finds build now from to frame given seq source stretch probed same frame_is found suited seq_is source_is from_is to_is none is =
     let looked : IsLookedUp build frame probed.probing = subst (λ (t : Table). IsLookedUp build t probed.probing) frame_is is in
     subst (λ (b : Build). FindsOf suits finds (kept_side b) to probed) (sym same)
     (record {
@@ -58,6 +58,7 @@ finds-begun suits finds build now from to frame given seq source stretch probed 
       found = found;
       suited = suited;
       seq_is = seq_is;
+      source_is = source_is;
       from_is = from_is;
       to_is = to_is;
       side_is = ap kept_side looked.build_is;
@@ -87,9 +88,9 @@ did-begun maker later probed taken made seen frame given seq source stretch seen
     }
 
 -- more loads are to be made for the same job, unless the last one was
-pub finds-more : {J : Type 0} (suits : J → LoadSeen → Type 0) (finds : KeptSide → J → J → Type 0) (side : KeptSide) (to : J) (probed now : Probed) (last : Bool) (left : Option Probed) → left ≡ (if last then None else Some now) → now.cutter.seq ≡ probed.cutter.seq → stretch_of now.cutter ≡ stretch_of probed.cutter
+pub finds-more : {J : Type 0} (suits : J → LoadSeen → Type 0) (finds : KeptSide → J → J → Type 0) (side : KeptSide) (to : J) (probed now : Probed) (last : Bool) (left : Option Probed) → left ≡ (if last then None else Some now) → now.cutter.seq ≡ probed.cutter.seq → now.cutter.source ≡ probed.cutter.source → stretch_of now.cutter ≡ stretch_of probed.cutter
     → now.probing.build ≡ probed.probing.build → IsProbing now.probing → ((all : List Row) → HasGiven all probed → HasGiven all now) → FindsOf suits finds side to probed → FindsFor suits finds side to left
-finds-more suits finds side to probed now last left is number stretch build probing given f = subst (λ (p : Option Probed). FindsFor suits finds side to p) (sym is) (by last)
+finds-more suits finds side to probed now last left is number source stretch build probing given f = subst (λ (p : Option Probed). FindsFor suits finds side to p) (sym is) (by last)
   where
     by : (b : Bool) → FindsFor suits finds side to (if b then None else Some now)
     by true = tt
@@ -102,6 +103,7 @@ finds-more suits finds side to probed now last left is number stretch build prob
       found = f.found;
       suited = f.suited;
       seq_is = number ∙ f.seq_is;
+      source_is = ap (λ (s : SourceSeen). s.source) source ∙ f.source_is;
       from_is = ap (λ (s : Stretch). s.from) stretch ∙ f.from_is;
       to_is = ap (λ (s : Stretch). s.to) stretch ∙ f.to_is;
       side_is = ap (λ b. kept_side (arc_value b)) build ∙ f.side_is;

@@ -42,6 +42,7 @@ pub record FindsOf {J : Type 0} (suits : J → LoadSeen → Type 0) (finds : Kep
   pub found : finds side from to
   pub suited : suits from (SeenMorsel frame seq source stretch)
   pub seq_is : probed.cutter.seq ≡ seq
+  pub source_is : probed.cutter.source.source ≡ source.source
   pub from_is : probed.cutter.from ≡ stretch.from
   pub to_is : probed.cutter.to ≡ stretch.to
   pub side_is : kept_side (arc_value probed.probing.build) ≡ side

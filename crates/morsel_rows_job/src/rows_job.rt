@@ -42,9 +42,9 @@ pub trait RowsJob<K>: LoadJob<K> {
     /// Stretches that follow one another give rows that do.
     ghost gives_next: { (job : Self) (columns : List Field) (from mid to : ℕ) (before after : List Row) → gives_rows job columns → gives job from mid before → gives job mid to after → gives job from to (before ++ after) };
 
-    /// Some of what the rows of a load find suit the job behind the join.
+    /// Some of what the rows of a load find suit the job behind the join, with a token of the load's source.
     ghost found_suit: { (side : KeptSide) (from to : Self) (asked found : Table) (seq : ℕ) (source other : SourceSeen) (stretch cut : Stretch) → finds side from to → Self.suits from (SeenMorsel asked seq source stretch)
-        → found.schema ≡ side.rules.output → IsCutOf (rows_found side asked.rows) stretch found.rows cut → Self.suits to (SeenMorsel found seq other cut) };
+        → found.schema ≡ side.rules.output → IsCutOf (rows_found side asked.rows) stretch found.rows cut → other.source ≡ source.source → Self.suits to (SeenMorsel found seq other cut) };
 
     /// Some of the kept rows that no row finds suit the job of their place.
     ghost alone_suit: { (side : KeptSide) (from to : Self) (asked : List Row) (found : Table) (seq : ℕ) (source : SourceSeen) (cut : Stretch) → is_alone side from to → is_all from asked

@@ -77,8 +77,8 @@ told_before from stage job scanned is = (is.0, record { given = is.1.given; name
 
 -- some of what the rows of a load find suit the lane behind the join
 pub found_suits : (side : KeptSide) (from to : LaneFor) (asked found : Table) (seq : ℕ) (source other : SourceSeen) (stretch cut : Stretch) → FindsBetween side from to → SuitsLane from (SeenMorsel asked seq source stretch)
-    → found.schema ≡ side.rules.output → IsCutOf (rows_found side asked.rows) stretch found.rows cut → SuitsLane to (SeenMorsel found seq other cut)
-found_suits side from to asked found seq source other stretch cut finds suits columns some =
+    → found.schema ≡ side.rules.output → IsCutOf (rows_found side asked.rows) stretch found.rows cut → other.source ≡ source.source → SuitsLane to (SeenMorsel found seq other cut)
+found_suits side from to asked found seq source other stretch cut finds suits columns some same =
     let stage : to.stage ≡ FoundRows side = ap (λ (lane : LaneFor). lane.stage) finds.1 in
     let whole : (stretch.skip ≡ 0) × (stretch.last ≡ true) = subst (λ (st : StageSeen). IsWholeIfScanned st stretch) finds.0 suits.scan.1 in record {
       kind = suits.kind ∙ sym (ap (λ (lane : LaneFor). lane.kind) finds.1);

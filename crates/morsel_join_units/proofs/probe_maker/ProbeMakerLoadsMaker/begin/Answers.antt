@@ -2,6 +2,7 @@ use Rattle.std.proofs.Common.{rules, ◌≡◌, ◌∙◌, List, ℕ, None, refl
 use Rattle.std.specs.Arc.{arc_value}
 use Rattle.std.specs.List.{All}
 use Rattle.morsel_load.specs.Loads.{load_seen}
+use Rattle.morsel_load.specs.Sources.{SourceSeen}
 use Rattle.morsel_join_units.specs.LookedUps.{AreLookedUpOf}
 use Rattle.morsel_join_units.proofs.LookedLemmas.{all-looked, looked-suits}
 use Rattle.morsel_join_units.proofs.ProbeLemmas.{did-begun, ends-begun, finds-begun, joins-later, nothing-left}
@@ -25,11 +26,12 @@ returns-clause-makes_for g c =
     let m = c.in-Morsel.morsel in
     let given : c.into_inner-frame.result.0 ≡ m.frame = search rules in
     let number : c.into_inner-frame.result.1 ≡ m.seq = search rules in
+    let source : c.into_inner-frame.result.2 ≡ m.source_token = search rules in
     let begins : c.stretch-stretch.result.from ≡ m.stretch.from = search rules in
     let ends : c.stretch-stretch.result.to ≡ m.stretch.to = search rules in
     λ from to joins suits.
     finds-begun g.J.LoadJob.suits g.J.RowsJob.finds (arc_value c.args.self.now.build) _ from to m.frame c.into_inner-frame.result.0 m.seq m.source_token m.stretch _ (ap arc_value c.in_ok-probing.ensures.same.0) given joins.2
-    (subst (λ load. g.J.LoadJob.suits from (load_seen load)) c.in-Morsel.is suits) number begins ends refl c.in_ok-probing.ensures.found
+    (subst (λ load. g.J.LoadJob.suits from (load_seen load)) c.in-Morsel.is suits) number (ap (λ (s : SourceSeen). s.source) source) begins ends refl c.in_ok-probing.ensures.found
 
 pub returns-clause-left : goal.returns-clause-left
 returns-clause-left g c =

@@ -19,7 +19,7 @@ returns-clause-suits g c =
     let f : FindsOf g.J.LoadJob.suits g.J.RowsJob.finds side to c.in-Some.probed = subst (λ (p : Option Probed). FindsFor g.J.LoadJob.suits g.J.RowsJob.finds side to p) old makes in
     subst (λ (n : ℕ). g.J.LoadJob.suits to (SeenMorsel m.frame n m.source_token m.stretch)) (sym (c.in_ok-morsel.ensures.number ∙ f.seq_is))
     (g.met.J.RowsJob.found_suit side f.from to f.frame m.frame f.seq f.source m.source_token f.stretch m.stretch f.found f.suited (c.in_ok-morsel.ensures.columns ∙ ap (λ (s : KeptSide). s.rules.output) f.side_is)
-    (cut-along _ m.frame.rows (stretch_of c.in-Some.probed.cutter) f.stretch m.stretch f.from_is f.to_is (c.in_ok-morsel.ensures.cut _ f.given)))
+    (cut-along _ m.frame.rows (stretch_of c.in-Some.probed.cutter) f.stretch m.stretch f.from_is f.to_is (c.in_ok-morsel.ensures.cut _ f.given)) (c.in_ok-morsel.ensures.source ∙ f.source_is))
 
 pub returns-clause-makes_for : goal.returns-clause-makes_for
 returns-clause-makes_for g c =
@@ -28,7 +28,7 @@ returns-clause-makes_for g c =
     let same = c.in_ok-morsel.ensures.same in
     λ to makes.
     let f : FindsOf g.J.LoadJob.suits g.J.RowsJob.finds side to c.in-Some.probed = subst (λ (p : Option Probed). FindsFor g.J.LoadJob.suits g.J.RowsJob.finds side to p) old makes in
-    finds-more g.J.LoadJob.suits g.J.RowsJob.finds side to c.in-Some.probed _ _ _ c.unless_last.ensures same.0 same.2 same.3 c.in_ok-morsel.ensures.probing (λ all given. c.in_ok-morsel.ensures.given all given) f
+    finds-more g.J.LoadJob.suits g.J.RowsJob.finds side to c.in-Some.probed _ _ _ c.unless_last.ensures same.0 same.1 same.2 same.3 c.in_ok-morsel.ensures.probing (λ all given. c.in_ok-morsel.ensures.given all given) f
 
 pub returns-clause-left : goal.returns-clause-left
 returns-clause-left g c =
