@@ -62,12 +62,14 @@ where
     pub given: PhysicalPipe<L, J>,
 }
 
-/// Gives two nodes, which were made ready for so many pipelines, their ends, and takes their units.
+/// Gives two nodes their ends, and takes their units. The first one, which was made ready for so many pipelines, has one unit; the last
+/// one was made ready for the pipelines of this line.
 pub fn open_emit<L, J, M, Z>(
     alloc: Global,
     board: &mut L::Board,
     jobs: EmitJobs<'_, J>,
     nodes: EmitNodes<M, Z>,
+    ready: u32,
     pipelines: u32,
 ) -> Result<OpenEmit<L, J, M, Z>, Fault>
 where
@@ -76,7 +78,7 @@ where
     M: ComputeNode<L, J> + Drop,
     Z: ComputeNode<L, J> + Drop,
     requires pipelines { (1 ≤ pipelines) × (pipelines ≤ 32768) }
-    requires first { IsGiving pipelines (M.seen nodes.first) }
+    requires first { IsGiving ready (M.seen nodes.first) }
     requires last { IsLineNode pipelines (Z.seen nodes.last) }
     requires first_jobs { AreForSending jobs.kept.now jobs.first.recv.now.items jobs.first.send.now.items }
     requires last_jobs { AreForOne jobs.kept.now jobs.given.now jobs.last.recv.now.items jobs.last.send.now.items }
@@ -111,7 +113,7 @@ where
     let kept = spread_ends::<L, J>(alloc, board, pipelines, kept_job)?;
     let given = merged_ends::<L, J>(alloc, board, pipelines, given_job)?;
     let first = open_giving::<L, J, M>(
-        alloc, board, first_node, pipelines, kept.to, kept_job, first_jobs,
+        alloc, board, first_node, ready, kept.to, kept_job, first_jobs,
     )?;
     let last = open_through::<L, J, Z>(
         alloc, board, last_node, kept.from, given.to, kept_job, given_job, last_jobs,

@@ -1,0 +1,15 @@
+use Rattle.std.proofs.Common.{ap, refl}
+use Rattle.morsel_lane_pipe.specs.Tasks.{TaskSeen}
+use Rattle.morsel_join_node.proofs.MadeLemmas.{keeping_made, seen_of}
+use Rattle.morsel_join_node.specs.declared.join_unit.JoinUnit.{JoinUnit}
+use Rattle.morsel_join_node.proofs.units.KeepingUnitsUnitMaker.unit.Given.{Over}
+use Rattle.morsel_join_node.proofs.units.KeepingUnitsUnitMaker.unit.Goals as goal
+
+-- the task of a unit
+module _ (g : Over) where
+  abbrev Unit : Type 0
+  Unit = JoinUnit g.row.L.Denot g.row.J.Denot g.row.L-Board.Denot g.row.L-Group.Denot g.row.L-Token.Denot g.row.L-Sender.Denot g.row.L-Receiver.Denot g.row.L-Sender-Receipt.Denot g.row.L-Receiver-Receipt.Denot
+
+pub returns-clause-made : goal.returns-clause-made
+returns-clause-made g c =
+    keeping_made (λ (unit : Unit g). unit.task) _ _ _ _ _ _ _ _ _ _ _ _ _ _ _ _ c.new-3.result c.in_ok-unit.unit _ _ _ _ refl c.new-3.ensures (λ id same of. c.in_ok-unit.ensures.can_step id same of) (ap (λ (s : TaskSeen). seen_of s.home s.from s.to) c.in_ok-unit.ensures.seen) c.in_ok-unit.ensures.same.1
