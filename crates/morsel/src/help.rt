@@ -8,7 +8,7 @@ usage:
   morsel local QUERY OUT        writes the rows of the query in the file QUERY as NDJSON into OUT, and prints their number
   morsel scan FILE SCHEMA OUT   the same of all rows and columns of the CSV file FILE
   morsel --help                 prints this
-  morsel --version              prints the version and the toolchain
+  morsel --version              prints the version and the toolchain's logic
 
 QUERY is a JSON object. \"left\" says which files are read, which columns they have, and what becomes of their rows:
   format, files, schema    \"csv\"; their names; a list of [NAME, TYPE], one for each column in its order
@@ -50,5 +50,5 @@ Files are counted from 0 as the query names them; 4294967295 is QUERY. For 12 an
 the reason. With any status but 0, what OUT contains is no answer.
 ";
 
-/// The name, the version, and the toolchain that proved and built it.
-pub const VERSION: &str = "morsel 0.1.0, rattle-kit-13f logic dac8208d650f15bf\n";
+/// The name, the version, and the logic of the toolchain that proved it.
+pub const VERSION: &str = "morsel 0.1.0, rattle logic dac8208d650f15bf\n";
