@@ -1,0 +1,8 @@
+mod KnownFacts
+mod PhaseFacts
+mod LaneFacts
+mod PortFacts
+mod CourseLemmas
+mod SweepLemmas
+mod TurnFacts
+mod NodeFacts
