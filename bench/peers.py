@@ -11,14 +11,19 @@ DEBIAN_CRATES = "/usr/share/cargo/registry"
 
 SQLITE = """create table f(id int, g int, v int, name text);
 .import --csv --skip 1 {facts} f
-.mode list
+{join}.mode list
 .once {out}
 {select};
+"""
+
+SQLITE_DIMS = """create table d(g integer primary key, label text);
+.import --csv --skip 1 {dims} d
 """
 
 SELECTS = {
     "q1": "select json_object('id', id, 'g', g, 'v', nullif(v, ''), 'name', name) from f",
     "q2": "select json_object('id', id, 'name', name) from f where nullif(v, '') > 900",
+    "q6": "select json_object('id', id, 'g', g, 'v', nullif(v, ''), 'name', name, 'label', label) from f join d using (g)",
 }
 
 PANDAS = """
@@ -26,21 +31,30 @@ import sys, pandas
 facts = pandas.read_csv(sys.argv[1], dtype={"v": "Int64", "name": str}, keep_default_na=False, na_values={"v": [""]})
 if sys.argv[3] == "q2":
     facts = facts.loc[facts.v > 900, ["id", "name"]]
+if sys.argv[3] == "q6":
+    facts = facts.merge(pandas.read_csv(sys.argv[4]), on="g")
 facts.to_json(sys.argv[2], orient="records", lines=True, force_ascii=False)
 """
 
 MAWK = {
     "q1": r"""NR > 1 { print "{\"id\":" $1 ",\"g\":" $2 ",\"v\":" ($3 == "" ? "null" : $3) ",\"name\":\"" $4 "\"}" }""",
     "q2": r"""NR > 1 && $3 > 900 { print "{\"id\":" $1 ",\"name\":\"" $4 "\"}" }""",
+    "q6": r"""NR == FNR { l[$1] = $2; next } FNR > 1 && $2 in l { print "{\"id\":" $1 ",\"g\":" $2 ",\"v\":" ($3 == "" ? "null" : $3) ",\"name\":\"" $4 "\",\"label\":\"" l[$2] "\"}" }""",
 }
 
-MILLER = {"q1": ["cat"], "q2": ["filter", 'is_not_empty($v) && $v > 900', "then", "cut", "-f", "id,name"]}
+MILLER = {
+    "q1": ["cat"],
+    "q2": ["filter", 'is_not_empty($v) && $v > 900', "then", "cut", "-f", "id,name"],
+    "q6": ["join", "-j", "g", "-f", "{dims}"],
+}
 
 CLICKHOUSE = {
     "q1": "SELECT id, g, v, name FROM {table} FORMAT JSONEachRow",
     "q2": "SELECT id, name FROM {table} WHERE v > 900 FORMAT JSONEachRow",
+    "q6": "SELECT id, g, v, name, label FROM {table} ANY INNER JOIN {dims} USING g FORMAT JSONEachRow",
 }
 COLUMNS = "id Int64, g Int64, v Nullable(Int64), name String"
+DIMS_COLUMNS = "g Int64, label String"
 
 
 def said(words):
@@ -77,51 +91,54 @@ def with_nulls(folder, facts):
     return path
 
 
-def csv_crate(folder, facts, query, out):
+def csv_crate(folder, facts, dims, query, out):
     if not shutil.which("cargo"):
         return "Rust, crate csv", None, "no cargo"
     program = build_csv_crate(folder)
-    return "Rust, crate csv", program and [program, query, facts, out], "cargo has no package csv"
+    return "Rust, crate csv", program and [program, query, facts, dims, out], "cargo has no package csv"
 
 
-def sqlite(folder, facts, query, out):
+def sqlite(folder, facts, dims, query, out):
     version = said(["sqlite3", "--version"])
     script = f"{folder}/{query}.sql"
     with open(script, "w", encoding="utf-8") as it:
-        it.write(SQLITE.format(facts=facts, out=out, select=SELECTS[query]))
+        join = SQLITE_DIMS.format(dims=dims) if query == "q6" else ""
+        it.write(SQLITE.format(facts=facts, join=join, out=out, select=SELECTS[query]))
     return f"sqlite3 {(version or '').partition(' ')[0]}, in memory", version and ["sh", "-c", 'exec sqlite3 :memory: < "$1"', "", script], "no sqlite3"
 
 
-def miller(folder, facts, query, out):
+def miller(folder, facts, dims, query, out):
     version = (said(["mlr", "--version"]) or "").split(" ")[-1]
     script = 'facts="$1"; out="$2"; shift 2; exec mlr --icsv --ojsonl "$@" "$facts" > "$out"'
-    return f"Miller {version}", version and ["sh", "-c", script, "", facts, out, *MILLER[query]], "no mlr"
+    verbs = [it.format(dims=dims) for it in MILLER[query]]
+    return f"Miller {version}", version and ["sh", "-c", script, "", facts, out, *verbs], "no mlr"
 
 
-def pandas(folder, facts, query, out):
+def pandas(folder, facts, dims, query, out):
     for python in (os.environ.get("PANDAS_PYTHON", "python3"), "/usr/bin/python3"):
         version = said([python, "-c", "import pandas; print(pandas.__version__)"])
         if version:
-            return f"pandas {version}", [python, "-c", PANDAS, facts, out, query], None
+            return f"pandas {version}", [python, "-c", PANDAS, facts, out, query, dims], None
     return "pandas", None, "no python3 with pandas; PANDAS_PYTHON names one"
 
 
-def mawk(folder, facts, query, out):
-    is_there = shutil.which("mawk")
-    return "mawk, splitting at each comma", is_there and ["sh", "-c", 'exec mawk -F, "$1" "$2" > "$3"', "", MAWK[query], facts, out], "no mawk"
+def mawk(folder, facts, dims, query, out):
+    is_there, files = shutil.which("mawk"), [dims, facts] if query == "q6" else [facts]
+    script = 'out="$1"; shift; exec mawk -F, "$@" > "$out"'
+    return "mawk, splitting at each comma", is_there and ["sh", "-c", script, "", out, MAWK[query], *files], "no mawk"
 
 
-def clickhouse_local(folder, facts, query, out):
+def clickhouse_local(folder, facts, dims, query, out):
     for words in (["clickhouse", "local"], ["clickhouse-local"]):
         version = said([*words, "--version"])
         if version:
-            words += ["--structure", COLUMNS, "--input-format", "CSVWithNames", "--query", CLICKHOUSE[query].format(table="table")]
+            words += ["--structure", COLUMNS, "--input-format", "CSVWithNames", "--query", CLICKHOUSE[query].format(table="table", dims=f"file('{dims}', 'CSVWithNames', '{DIMS_COLUMNS}')")]
             facts = with_nulls(folder, facts)
             return "ClickHouse, local", ["sh", "-c", 'facts="$1"; out="$2"; shift 2; exec "$@" < "$facts" > "$out"', "", facts, out, *words], None
     return "ClickHouse, local", None, "no clickhouse-local"
 
 
-def clickhouse_server(folder, facts, query, out):
+def clickhouse_server(folder, facts, dims, query, out):
     """The server that CLICKHOUSE names, as http://127.0.0.1:8123. It reads a copy of the file in its own folder for users' files, which
     CLICKHOUSE_FILES names; where that is not set, the file is sent with the query, which takes longer."""
     url, files = os.environ.get("CLICKHOUSE"), os.environ.get("CLICKHOUSE_FILES")
@@ -132,22 +149,26 @@ def clickhouse_server(folder, facts, query, out):
     if not version:
         return name, None, "CLICKHOUSE does not answer"
     facts = with_nulls(folder, facts)
+    if query == "q6" and not files:
+        return name, None, "CLICKHOUSE_FILES names no folder for the dims"
     words, table, more = [], f"file('{os.path.basename(facts)}', 'CSVWithNames', '{COLUMNS}')", {}
     if files:
         shutil.copy(facts, files)
+        shutil.copy(dims, files)
     else:
         words, table, more = ["-F", f"f=@{facts}"], "f", {"f_structure": COLUMNS, "f_format": "CSVWithNames"}
-    query = {"query": CLICKHOUSE[query].format(table=table), "output_format_json_quote_64bit_integers": "0", **more}
+    dims = f"file('{os.path.basename(dims)}', 'CSVWithNames', '{DIMS_COLUMNS}')"
+    query = {"query": CLICKHOUSE[query].format(table=table, dims=dims), "output_format_json_quote_64bit_integers": "0", **more}
     url += "/?" + "&".join(f"{it}={quote(text)}" for it, text in query.items())
     name = f"ClickHouse {version}, a server that {'reads the file' if files else 'is sent the file'}"
     return name, ["curl", "-sf", *words, "-o", out, url], None
 
 
-def plain_read(folder, facts, query, out):
+def plain_read(folder, facts, dims, query, out):
     return "dd, a plain read", ["dd", f"if={facts}", "of=/dev/null", "bs=1M", "status=none"], None
 
 
-def all_peers(folder, facts, query, out):
+def all_peers(folder, facts, dims, query, out):
     """Each peer's name, its words for the query, or None and the reason; the plain read last."""
     makers = (csv_crate, sqlite, miller, pandas, mawk, clickhouse_local, clickhouse_server, plain_read)
-    return [make(folder, facts, query, out) for make in makers]
+    return [make(folder, facts, dims, query, out) for make in makers]

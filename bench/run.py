@@ -3,8 +3,8 @@
 
 usage: python3 bench/run.py [--size MEGABYTES] [--rounds N] [--folder FOLDER] [--program FILE] [--memory | --shapes]
 
-The queries are q1, all rows of a CSV file as NDJSON, and q2, two columns of the rows whose v is above 900. They are written into FOLDER as
-query files, and run by `morsel local`.
+The queries are q1, all rows of a CSV file as NDJSON, q2, two columns of the rows whose v is above 900, and q6, all rows with the labels that
+a second file has for their g. They are written into FOLDER as query files, and run by `morsel local`.
 
 The data and the outputs lie in FOLDER (none: morsel-bench in the folder for temporary files; best one in memory, as /dev/shm/morsel-bench).
 The program is the one that `rt ci` or `rt run` has built, if it is newer than its sources; else `rt run` proves and builds it first, which
@@ -42,17 +42,26 @@ SCHEMA = [["id", "int"], ["g", "int"], ["v", "int"], ["name", "text"]]
 QUERIES = {
     "q1": ("CSV to NDJSON", {}),
     "q2": ("two columns of the rows with v > 900", {"filter": ["gt", "v", {"lit": 900}], "columns": ["id", "name"]}),
+    "q6": ("the rows joined with the dims on g", {}),
 }
+DIMS_SCHEMA = [["g", "int"], ["label", "text"]]
 SLOW = 5
 
 
-def query_file(folder, name, files, schema, **parts):
-    """The path of a query file over these files, with further parts of its scan."""
+def query_file(folder, name, files, schema, join=None, **parts):
+    """The path of a query file over these files, with further parts of its scan, and with this join."""
     path = f"{folder}/{name}.json"
-    left = {"format": "csv", "files": files, "schema": schema, **parts}
+    query = {"left": {"format": "csv", "files": files, "schema": schema, **parts}, "sink": {"format": "ndjson"}}
+    if join:
+        query["join"] = join
     with open(path, "w", encoding="utf-8") as it:
-        json.dump({"left": left, "sink": {"format": "ndjson"}}, it)
+        json.dump(query, it)
     return path
+
+
+def join_with(dims):
+    """The join of the facts with the dims, which are kept while the facts are read."""
+    return {"right": {"format": "csv", "files": [dims], "schema": DIMS_SCHEMA}, "on": [["g", "g"]], "order": "left"}
 
 
 def build():
@@ -157,12 +166,13 @@ def table(seen, wrote, size):
         print(f"| {name} | {wall:.2f} | {best:.2f} | {known(processor, '.2f')} | {size / wall:.0f} | {known(peak, '.0f')} | {wall / ours:.2f} | {text} |")
 
 
-def time_query(morsel, query, facts, given):
+def time_query(morsel, query, facts, dims, given):
     """Runs one query beside the peers, and prints its table."""
     says, parts = QUERIES[query]
     out = f"{given.folder}/out.ndjson"
-    runs = [("morsel", [morsel, "local", query_file(given.folder, query, [facts], SCHEMA, **parts), out])]
-    for name, words, why in peers.all_peers(given.folder, facts, query, out):
+    join = join_with(dims) if query == "q6" else None
+    runs = [("morsel", [morsel, "local", query_file(given.folder, query, [facts], SCHEMA, join, **parts), out])]
+    for name, words, why in peers.all_peers(given.folder, facts, dims, query, out):
         if words:
             runs.append((name, words))
         else:
@@ -229,8 +239,9 @@ def main():
     if given.shapes:
         measure_shapes(morsel, given)
         return
+    dims = gen.make_dims(given.folder)
     for query in QUERIES:
-        time_query(morsel, query, facts, given)
+        time_query(morsel, query, facts, dims, given)
 
 
 if __name__ == "__main__":

@@ -1,6 +1,9 @@
 //! What a Rust programmer would write with the crate csv in an hour: the facts file as NDJSON, one record at a time.
 //!
-//! usage: csv_crate q1|q2 FACTS OUT      q1: all rows; q2: id and name of the rows whose v is above 900
+//! usage: csv_crate q1|q2|q6 FACTS DIMS OUT
+//!
+//! q1: all rows; q2: id and name of the rows whose v is above 900; q6: the rows whose g the dims have, with its label
+use std::collections::HashMap;
 use std::error::Error;
 use std::fs::File;
 use std::io::{BufWriter, Write};
@@ -28,12 +31,23 @@ fn put_text(out: &mut impl Write, text: &str) -> std::io::Result<()> {
     out.write_all(b"\"")
 }
 
+/// The labels of the dims by their g.
+fn labels_of(dims: &str) -> Result<HashMap<i64, String>, Box<dyn Error>> {
+    let mut labels = HashMap::new();
+    for record in csv::Reader::from_path(dims)?.records() {
+        let record = record?;
+        labels.insert(record[0].parse()?, record[1].to_string());
+    }
+    Ok(labels)
+}
+
 fn main() -> Result<(), Box<dyn Error>> {
     let words: Vec<String> = env::args().collect();
-    let [_, query, facts, to] = words.as_slice() else {
-        return Err("usage: csv_crate q1|q2 FACTS OUT".into());
+    let [_, query, facts, dims, to] = words.as_slice() else {
+        return Err("usage: csv_crate q1|q2|q6 FACTS DIMS OUT".into());
     };
-    let is_all = query == "q1";
+    let is_all = query != "q2";
+    let labels = if query == "q6" { Some(labels_of(dims)?) } else { None };
     let mut reader = csv::Reader::from_path(facts)?;
     let mut out = BufWriter::with_capacity(1 << 16, File::create(to)?);
     let mut record = csv::ByteRecord::new();
@@ -47,6 +61,10 @@ fn main() -> Result<(), Box<dyn Error>> {
         if !is_all && v.is_none_or(|v| v <= 900) {
             continue;
         }
+        let label = labels.as_ref().map(|labels| labels.get(&g));
+        if label == Some(None) {
+            continue;
+        }
         write!(out, "{{\"id\":{id}")?;
         if is_all {
             write!(out, ",\"g\":{g},\"v\":")?;
@@ -57,6 +75,10 @@ fn main() -> Result<(), Box<dyn Error>> {
         }
         out.write_all(b",\"name\":")?;
         put_text(&mut out, text(3)?)?;
+        if let Some(Some(label)) = label {
+            out.write_all(b",\"label\":")?;
+            put_text(&mut out, label)?;
+        }
         out.write_all(b"}\n")?;
     }
     out.flush()?;

@@ -3,7 +3,7 @@ use Rattle.std.proofs.Common.{◌≡◌, ◌⊎◌, ℕ, zero, suc, ◌+◌, ◌
 use Rattle.std.proofs.lemmas.Bool.{cases_order, cases_lt}
 use Rattle.std.proofs.lemmas.Bool.Decides.{nat_tests}
 use Rattle.std.proofs.lemmas.List.Sums.{sum_by-cons, sum_by-append, fold-append}
-use Rattle.std.specs.Prelude.{Bool, true, false, ◌&&◌, ◌==◌, nat_le, nat_lt, if◌then◌else◌, Option, Some, None, List, [], ◌∷◌, ◌++◌, map, length, take, get_or, slice_get}
+use Rattle.std.specs.Prelude.{Bool, true, false, ◌&&◌, ◌||◌, ◌==◌, nat_le, nat_lt, if◌then◌else◌, Option, Some, None, List, [], ◌∷◌, ◌++◌, map, length, take, drop, get_or, slice_get}
 use Rattle.std.specs.List.{fold, flat_map, filter, sum_by, list_any}
 use Rattle.morsel_outside.specs.declared.events.IoEvent.{IoEvent}
 use Rattle.morsel_outside.specs.declared.events.IoEvent.TheVariants.{ReadAt, Wrote}
@@ -17,7 +17,8 @@ use Rattle.morsel_drive.specs.Lines.{Each}
 use Rattle.morsel_drive.specs.Driving.{is_reading}
 use Rattle.morsel_line.specs.ScanSources.{opened_as, AskNextChunks}
 use Rattle.morsel_line.proofs.SourceLemmas.{number_at, any_at}
-use Rattle.morsel_engine.specs.Courses.{file_numbers, is_before, AsksUpTo, IsShort}
+use Rattle.morsel_query.specs.Queries.{FileScan, JoinPart}
+use Rattle.morsel_engine.specs.Courses.{file_numbers, is_before, AsksUpTo, AsksSides, IsShort}
 
 -- the reads among events ask the next chunks
 abbrev pub AskNext : List FileNo → List ℕ → ℕ → ℕ → List IoEvent → ℕ → Type 0
@@ -132,6 +133,23 @@ asks_up_to number n sizes chunk to events are file byte =
 pub asks_nothing : (number : ℕ) (sizes : List ℕ) → AsksUpTo number sizes 0 []
 asks_nothing number sizes file byte = sym (before-none number sizes file byte)
 
+-- no byte of any side was asked
+pub asks_no_side : (left : FileScan) (join : Option JoinPart) (number : ℕ) (sizes : List ℕ) → AsksSides left join number sizes (record { left = 0; right = 0 }) []
+asks_no_side left None number sizes = asks_nothing number sizes
+asks_no_side left (Some join) number sizes = λ file byte.
+    sym (neither (is_before number (take (length left.sources) sizes) 0 file byte) (is_before (number + length left.sources) (drop (length left.sources) sizes) 0 file byte)
+    (before-none number (take (length left.sources) sizes) file byte) (before-none (number + length left.sources) (drop (length left.sources) sizes) file byte))
+  where
+    neither : (a b : Bool) → count_of a ≡ 0 → count_of b ≡ 0 → count_of (a || b) ≡ 0
+    neither true b first second = absurd (cc)
+    neither false b first second = second
+
+-- the bytes of one scan were asked
+pub asks_scan : (left : FileScan) (join : Option JoinPart) (number : ℕ) (sizes : List ℕ) (to : ℕ) (events : List IoEvent) → join ≡ None → AsksUpTo number sizes to events
+    → AsksSides left join number sizes (record { left = to; right = 0 }) events
+asks_scan left None number sizes to events none asks = asks
+asks_scan left (Some join) number sizes to events none asks = absurd (cc)
+
 -- the reads that failed, among all
 pub failures_read : (actions : List Action) → AreTransfers actions
     → (sum_by read_failures actions ≡ sum_by read_failures (filter is_reading actions)) × ((failed : ℕ) → fold failed_after failed actions ≡ fold failed_after failed (filter is_reading actions))
@@ -174,6 +192,18 @@ fails_at number n sizes chunk from to failed (FailedReadingRange file at len ∷
     by (inl none) = inr (are.0.source, of.1, more, none.1 ∙ of.0)
     by (inr some) = inr (some.0, some.1, more, some.3)
 fails_at number n sizes chunk from to failed (action ∷ actions) are = absurd are
+
+-- the same of reads among writes
+pub fails_on : (number n : ℕ) (sizes : List ℕ) (chunk from to failed : ℕ) (actions : List Action) → AreTransfers actions
+    → AskNextChunks (file_numbers number n) sizes chunk from (filter is_reading actions) to → FailsAt number n failed actions
+fails_on number n sizes chunk from to failed actions each asks = by (fails_at number n sizes chunk from to failed (filter is_reading actions) asks)
+  where
+    same : (sum_by read_failures actions ≡ sum_by read_failures (filter is_reading actions)) × ((failed : ℕ) → fold failed_after failed actions ≡ fold failed_after failed (filter is_reading actions))
+    same = failures_read actions each
+
+    by : FailsAt number n failed (filter is_reading actions) → FailsAt number n failed actions
+    by (inl none) = inl (same.0 ∙ none.0, same.1 failed ∙ none.1)
+    by (inr some) = inr (some.0, some.1, (let more = some.2 in let sum = same.0 in omega (arith, more, sum)), same.1 failed ∙ some.3)
 
 -- the last read failed, of a source
 pub ends_in_failure : (number n failed file at len : ℕ) (before actions : List Action) → actions ≡ before ++ FailedReadingRange file at len ∷ [] → fold failed_after failed actions ≡ file

@@ -40,6 +40,16 @@ numbers-next number (suc n) = ap (file_numbers number) (let same : suc n + 1 ≡
     the_number : ℕ → FileNo
     the_number k = record { 0 = k }
 
+-- numbers in two parts
+pub numbers-append : (number n m : ℕ) → file_numbers number (n + m) ≡ file_numbers number n ++ file_numbers (number + n) m
+numbers-append number zero m = ap (file_numbers number) (let none : 0 + m ≡ m = omega arith in none) ∙ ap (λ (k : ℕ). file_numbers k m) (let same : number ≡ number + 0 = omega arith in same)
+numbers-append number (suc n) m =
+    ap (file_numbers number) (let same : suc n + m ≡ suc (n + m) = omega arith in same)
+    ∙ ap (λ (rest : List FileNo). the_number number ∷ rest) (numbers-append (number + 1) n m ∙ ap (λ (k : ℕ). file_numbers (number + 1) n ++ file_numbers k m) (let same : number + 1 + n ≡ number + suc n = omega arith in same))
+  where
+    the_number : ℕ → FileNo
+    the_number k = record { 0 = k }
+
 -- what openings leave as it was, and what they add
 pub record OnlyOpens (names files : List (List ℕ)) : Type 0 where
   pub opened : flat_map opened_by (openings names files) ≡ files
@@ -117,7 +127,7 @@ length_map [] = refl
 length_map (x ∷ xs) = ap suc (length_map xs)
 
 -- the number of the next file
-number_next : (old now : Outside) (names files : List (List ℕ)) → HasOpenedFirst old names files now → length now.sizes ≡ length old.sizes + length files
+pub number_next : (old now : Outside) (names files : List (List ℕ)) → HasOpenedFirst old names files now → length now.sizes ≡ length old.sizes + length files
 number_next old now names files first = ap length (is_opened old now names files first).sizes ∙ length-append old.sizes (map length files)
     ∙ ap (λ (n : ℕ). length old.sizes + n) (length_map files)
 

@@ -19,11 +19,11 @@ use Rattle.morsel_plan.specs.LineRuns.{WritesOrNot}
 use Rattle.morsel_frame.specs.Refusals.{first_fault}
 use Rattle.morsel_sink.specs.declared.spec.SinkSpec.{SinkSpec}
 use Rattle.morsel_query.specs.RunOptions.{RunOptions}
-use Rattle.morsel_query.specs.Queries.{FileFormat, CsvFiles, JoinPart, QueryParts, file_format, file_scan, query_parts, fields_of_format, scan_over, scan_asked}
+use Rattle.morsel_query.specs.Queries.{FileFormat, CsvFiles, FileScan, JoinPart, QueryParts, file_format, file_scan, query_parts, fields_of_format, scan_over, scan_asked}
 use Rattle.morsel_query.specs.QueryFlaws.{right_sides, sources_of_sides, sources_of, IsSound}
-use Rattle.morsel_query.specs.Plans.{slice_fault, side_fault, fault_by, query_fault}
+use Rattle.morsel_join.specs.Payloads.{join_flaw}
+use Rattle.morsel_query.specs.Plans.{fields_of_scan, slice_fault, side_fault, join_fault, fault_by, query_fault}
 use Rattle.morsel_query.specs.Meanings.{dialect_of, csv_scan}
-use Rattle.morsel_query.proofs.PlanLemmas.{no_join}
 use Rattle.morsel_engine.specs.Stages.{HasOpenedAll, bytes_bound, OpensSources, MakesSink, ScansFiles, AreOpenIn, IsPlannedScan}
 use Rattle.morsel_engine.specs.Runs.{Runs}
 use Rattle.morsel_engine.proofs.OpenLemmas.{length_numbers}
@@ -64,20 +64,30 @@ counts None is = tt
 counts (Some (pos n, len)) is = refl
 counts (Some (negsuc n, len)) is = absurd (cc)
 
--- the parts of a query that has a plan
-pub planned_scan : (query : QueryParts) → query_fault query ≡ None → IsPlannedScan query.left
-planned_scan query is = by query.left.format (left_alone query.join (no_join query is) is)
+-- neither of two has a fault
+no_first : (first later : Option Fault) → first_fault first later ≡ None → (first ≡ None) × (later ≡ None)
+no_first None later is = (refl, is)
+no_first (Some fault) later is = absurd (cc)
+
+-- a scan without fault has a plan
+planned_side : (scan : FileScan) → side_fault scan.format (scan_asked scan) ≡ None → IsPlannedScan scan
+planned_side scan is = by scan.format is
   where
-    no_first : (first later : Option Fault) → first_fault first later ≡ None → (first ≡ None) × (later ≡ None)
-    no_first None later is = (refl, is)
-    no_first (Some fault) later is = absurd (cc)
+    by : (f : FileFormat) → side_fault f (scan_asked scan) ≡ None → IsPlannedScan scan
+    by (CsvFiles fields options) is = let both = no_first (scan_flaw (scan_asked scan)) (slice_fault scan.asked.slice) is in record { flawless = both.0; from_first = both.1 }
 
-    left_alone : (join : Option JoinPart) → join ≡ None → fault_by query.left join ≡ None → side_fault query.left.format (scan_asked query.left) ≡ None
-    left_alone None none is = is
-    left_alone (Some join) none is = absurd (cc)
+-- and so have the scans of a query that has one
+pub planned_scan : (query : QueryParts) → query_fault query ≡ None → IsPlannedScan query.left
+planned_scan query is = planned_side query.left (by query.join is)
+  where
+    by : (join : Option JoinPart) → fault_by query.left join ≡ None → side_fault query.left.format (scan_asked query.left) ≡ None
+    by None is = is
+    by (Some join) is = (no_first (side_fault query.left.format (scan_asked query.left)) (join_fault (fields_of_scan query.left) join) is).0
 
-    by : (f : FileFormat) → side_fault f (scan_asked query.left) ≡ None → IsPlannedScan query.left
-    by (CsvFiles fields options) is = let both = no_first (scan_flaw (scan_asked query.left)) (slice_fault query.left.asked.slice) is in record { flawless = both.0; from_first = both.1 }
+pub planned_right : (left : FileScan) (join : JoinPart) → fault_by left (Some join) ≡ None → IsPlannedScan join.right
+planned_right left join is = planned_side join.right
+    (no_first (side_fault join.right.format (scan_asked join.right)) (join_flaw join.args (fields_of_scan left) (fields_of_scan join.right) join.left_keys join.right_keys)
+    (no_first (side_fault left.format (scan_asked left)) (join_fault (fields_of_scan left) join) is).1).0
 
 -- the sources of a scan alone
 pub sources_are : (query : QueryParts) → query.join ≡ None → sources_of query ≡ query.left.sources
@@ -88,10 +98,11 @@ sources_are query none = by query.join none
     by (Some join) is = absurd (cc)
 
 -- opening failed
-pub runs_not_opened : (old new : Outside) (query : QueryParts) (options : RunOptions) (fault : Fault) → query_fault query ≡ None → OpensSources old (sources_of query) (Err fault) new
+pub runs_not_opened : (old new : Outside) (query : QueryParts) (options : RunOptions) (fault : Fault) → query_fault query ≡ None → OpensSources old (sources_of query) 0 (Err fault) new
     → Runs old query options (Err fault) new
 runs_not_opened old new query options faults.OutOfMemory planned (files, first) = runs_short old new query options files planned first
-runs_not_opened old new query options (faults.ReadFault file) planned (files, fails) = runs_unopened old new query options files file planned fails
+runs_not_opened old new query options (faults.ReadFault file) planned (files, source, is, fails) =
+    subst (λ (n : ℕ). Runs old query options (Err (faults.ReadFault n)) new) (let same : source ≡ file = omega (arith, is) in same) (runs_unopened old new query options files source planned fails)
 runs_not_opened old new query options faults.WriteFault planned h = absurd h
 runs_not_opened old new query options (faults.InvalidQuery why) planned h = absurd h
 runs_not_opened old new query options (faults.Malformed file at) planned h = absurd h

@@ -11,14 +11,14 @@ use Rattle.morsel_outside.specs.Outside.{Outside}
 use Rattle.morsel_outside.specs.Actions.{Rises, Does, FailedMaking}
 use Rattle.morsel_outside.proofs.ActionLemmas.{with_more-nil}
 use Rattle.morsel_query.specs.RunOptions.{RunOptions}
-use Rattle.morsel_query.specs.Queries.{QueryParts}
+use Rattle.morsel_query.specs.Queries.{JoinPart, QueryParts}
 use Rattle.morsel_query.specs.QueryFlaws.{sources_of}
 use Rattle.morsel_query.specs.Plans.{query_fault}
 use Rattle.morsel_engine.specs.Courses.{names_asked}
 use Rattle.morsel_engine.specs.Stages.{HasOpenedFirst, FailsToOpen}
-use Rattle.morsel_engine.specs.Runs.{HasOpened, HasNotBegun, HasCause, HasCauseInRun, NoneRises, Runs}
+use Rattle.morsel_engine.specs.Runs.{HasOpened, HasNotBegun, HasCause, HasCauseInRun, NoneRises, ReadsAheadBy, Runs}
 use Rattle.morsel_engine.proofs.OpenLemmas.{is_opened}
-use Rattle.morsel_engine.proofs.AskLemmas.{asks_nothing}
+use Rattle.morsel_engine.proofs.AskLemmas.{asks_no_side}
 
 -- what a run that makes no sink leaves as it was
 pub record Stopped (old : Outside) (query : QueryParts) (files : List (List ℕ)) (fault : Fault) (new : Outside) : Type 0 where
@@ -33,17 +33,22 @@ pub record Stopped (old : Outside) (query : QueryParts) (files : List (List ℕ)
   pub print_faults : new.print_faults ≡ old.print_faults
   pub no_lower : old.write_faults ≤ new.write_faults
 
+-- without events no read is far ahead
+pub nothing_ahead : (join : Option JoinPart) (query : QueryParts) (options : RunOptions) (number : ℕ) (files : List (List ℕ)) → ReadsAheadBy join query options number files []
+nothing_ahead None query options number files = tt
+nothing_ahead (Some join) query options number files = tt
+
 pub runs_stopped : (old : Outside) (query : QueryParts) (options : RunOptions) (files : List (List ℕ)) (fault : Fault) (new : Outside) → Stopped old query files fault new
     → Runs old query options (Err fault) new
 runs_stopped old query options files fault new s = record {
   files = files;
   opened = s.opened;
-  asked = 0;
+  asked = record { left = 0; right = 0 };
   events = [];
   gained = s.not_begun.events ∙ sym (with_more-nil old.events);
-  once = asks_nothing (length old.sizes) (map length files);
+  once = asks_no_side query.left query.join (length old.sizes) (map length files);
   short = tt;
-  ahead = λ told. tt;
+  ahead = λ told. nothing_ahead query.join query options (length old.sizes) files;
   answers = tt;
   caused = s.cause;
   leaves = inl s.not_begun;

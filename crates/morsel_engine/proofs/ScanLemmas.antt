@@ -14,19 +14,18 @@ use Rattle.morsel_outside.proofs.ActionLemmas.{with_more-nil, does-append, rises
 use Rattle.morsel_outside.proofs.SinkLemmas.{with_piece-with_sink}
 use Rattle.morsel_outside.proofs.DoesLemmas.{does-nothing}
 use Rattle.morsel_outside.proofs.TransferLemmas.{AreTransfers, only_transfers}
-use Rattle.morsel_scan.specs.Ahead.{ReadsAhead}
-use Rattle.morsel_drive.specs.Driving.{is_reading}
-use Rattle.morsel_line.specs.ScanSources.{AskNextChunks}
+use Rattle.morsel_drive.specs.Lines.{Each}
 use Rattle.morsel_query.specs.RunOptions.{RunOptions}
-use Rattle.morsel_query.specs.Queries.{QueryParts}
+use Rattle.morsel_query.specs.Queries.{JoinPart, QueryParts}
 use Rattle.morsel_query.specs.QueryFlaws.{sources_of}
 use Rattle.morsel_query.specs.Plans.{query_fault}
 use Rattle.morsel_query.specs.Meanings.{text_of, IsValid}
-use Rattle.morsel_engine.specs.Courses.{openings, file_numbers, names_asked}
+use Rattle.morsel_engine.specs.Courses.{openings, names_asked, SidesAsked, AsksSides, IsShort}
 use Rattle.morsel_engine.specs.Stages.{HasOpenedAll}
-use Rattle.morsel_engine.specs.Runs.{TellsBytes, axis_of, rows_before_fault, AreFineFrom, MeansAsked, HasOpened, HasBegun, HasText, Answers, HasCauseInRun, IsFrontOfText, NoneRises, bytes_ahead, Runs}
+use Rattle.morsel_engine.specs.Runs.{TellsBytes, rows_before_fault, AreFineFrom, MeansAsked, HasOpened, HasBegun, HasText, Answers, HasCause, HasCauseInRun, IsFrontOfRows, IsFrontBy, IsFrontOfText, NoneRises, ReadsAheadBy, Runs}
 use Rattle.morsel_engine.proofs.OpenLemmas.{is_opened}
-use Rattle.morsel_engine.proofs.AskLemmas.{ask_next, are_short, asks_up_to, failures_read, FailsAt, fails_at}
+use Rattle.morsel_engine.proofs.RunLemmas.{nothing_ahead}
+use Rattle.morsel_engine.proofs.AskLemmas.{asks_no_side, FailsAt}
 
 -- all sources are open, and the sink is made
 pub record Begun (old : Outside) (query : QueryParts) (files : List (List ℕ)) (now : Outside) : Type 0 where
@@ -116,68 +115,71 @@ rises_some (Rattle.std.specs.Prelude.suc n) a b some by = by
 pub stands_none : (n a b : ℕ) → n ≡ 0 → RisesBy n a b → b ≡ a
 stands_none n a b none by = subst (λ (k : ℕ). RisesBy k a b) none by
 
--- what the reads of a run ask, and which of them failed
-pub record ReadsOn (old : Outside) (files : List (List ℕ)) (chunk : ℕ) (actions : List Action) (to : ℕ) : Type 0 where
-  pub each : AreTransfers actions
-  pub asks : AskNextChunks (file_numbers (length old.sizes) (length files)) (map length files) chunk 0 (filter is_reading actions) to
+-- what a run that made its sink asked of the sources, and which of its reads failed
+pub record AsksOn (old : Outside) (query : QueryParts) (options : RunOptions) (files : List (List ℕ)) (actions : List Action) (asked : SidesAsked) : Type 0 where
+  pub once : AsksSides query.left query.join (length old.sizes) (map length files) asked (flat_map event_of actions)
+  pub short : Each (IsShort options.chunk_bytes) (flat_map event_of actions)
+  pub fails : FailsAt (length old.sizes) (length files) old.failed actions
 
 -- whether reads failed, told by the counts
-reads_fail : (old new : Outside) (query : QueryParts) (files : List (List ℕ)) (chunk : ℕ) (actions : List Action) (to : ℕ) → ReadsOn old files chunk actions to → GoesOn old query files actions new
+reads_fail : (old new : Outside) (query : QueryParts) (files : List (List ℕ)) (actions : List Action) → FailsAt (length old.sizes) (length files) old.failed actions → GoesOn old query files actions new
     → ((new.read_faults ≡ old.read_faults) × (new.failed ≡ old.failed)) ⊎ ((file : ℕ) × (file < length (sources_of query)) × Rises old.read_faults new.read_faults × (new.failed ≡ length old.sizes + file))
-reads_fail old new query files chunk actions to reads on =
-    by (fails_at (length old.sizes) (length files) (map length files) chunk 0 to old.failed (filter is_reading actions) reads.asks)
-  where
-    same : (sum_by read_failures actions ≡ sum_by read_failures (filter is_reading actions)) × ((failed : ℕ) → fold failed_after failed actions ≡ fold failed_after failed (filter is_reading actions))
-    same = failures_read actions reads.each
+reads_fail old new query files actions (inl none) on = inl (stands_none (sum_by read_failures actions) old.read_faults new.read_faults none.0 on.read_faults, on.failed ∙ none.1)
+reads_fail old new query files actions (inr some) on = inr (
+  some.0,
+  (let less = some.1 in let all = on.has_begun.all in omega (arith, less, all)),
+  rises_some (sum_by read_failures actions) old.read_faults new.read_faults some.2 on.read_faults,
+  on.failed ∙ some.3,
+)
 
-    by : FailsAt (length old.sizes) (length files) old.failed (filter is_reading actions)
-        → ((new.read_faults ≡ old.read_faults) × (new.failed ≡ old.failed)) ⊎ ((file : ℕ) × (file < length (sources_of query)) × Rises old.read_faults new.read_faults × (new.failed ≡ length old.sizes + file))
-    by (inl none) = inl (stands_none (sum_by read_failures actions) old.read_faults new.read_faults (same.0 ∙ none.0) on.read_faults, on.failed ∙ same.1 old.failed ∙ none.1)
-    by (inr some) = inr (
-      some.0,
-      (let less = some.1 in let all = on.has_begun.all in omega (arith, less, all)),
-      rises_some (sum_by read_failures actions) old.read_faults new.read_faults (let more = some.2 in let n = same.0 in omega (arith, more, n)) on.read_faults,
-      on.failed ∙ same.1 old.failed ∙ some.3,
-    )
+-- where no read failed, the counts tell none
+pub none_fail : (old new : Outside) (query : QueryParts) (files : List (List ℕ)) (actions : List Action) → FailsAt (length old.sizes) (length files) old.failed actions
+    → sum_by read_failures actions ≡ 0 → GoesOn old query files actions new → (new.read_faults ≡ old.read_faults) × (new.failed ≡ old.failed)
+none_fail old new query files actions (inl none) zero on = (stands_none (sum_by read_failures actions) old.read_faults new.read_faults zero on.read_faults, on.failed ∙ none.1)
+none_fail old new query files actions (inr some) zero on = absurd (let more = some.2 in omega (arith, more, zero))
 
 -- a run that made the sink
-pub runs_on : (old new : Outside) (query : QueryParts) (options : RunOptions) (files : List (List ℕ)) (actions : List Action) (to : ℕ) (result : Result ℕ Fault) → query_fault query ≡ None
-    → ReadsOn old files options.chunk_bytes actions to → GoesOn old query files actions new
-    → (TellsBytes new → (let axis = axis_of query (length old.sizes) files in ReadsAhead axis (bytes_ahead options axis) options.chunk_bytes 0 axis.head (flat_map event_of actions)))
-    → IfOk result (Answers old query files to new) → IfErr result (HasCauseInRun old query files new)
+pub runs_on : (old new : Outside) (query : QueryParts) (options : RunOptions) (files : List (List ℕ)) (actions : List Action) (asked : SidesAsked) (result : Result ℕ Fault) → query_fault query ≡ None
+    → AsksOn old query options files actions asked → GoesOn old query files actions new
+    → (TellsBytes new → ReadsAheadBy query.join query options (length old.sizes) files (flat_map event_of actions))
+    → IfOk result (Answers old query files asked new) → IfErr result (HasCauseInRun old query files new)
     → (TellsBytes new → IsFrontOfText query files (flat_map text_by actions))
     → (TellsBytes new → IsValid query files → NoneRises old new → IsOkUnless result faults.OutOfMemory)
     → Runs old query options result new
-runs_on old new query options files actions to result planned reads on ahead answers caused front complete =
-    let next = ask_next (file_numbers (length old.sizes) (length files)) (map length files) options.chunk_bytes 0 to actions reads.each reads.asks in record {
-      files = files;
-      opened = on.opened;
-      asked = to;
-      events = flat_map event_of actions;
-      gained = on.gained;
-      once = asks_up_to (length old.sizes) (length files) (map length files) options.chunk_bytes to (flat_map event_of actions) next;
-      short = are_short (file_numbers (length old.sizes) (length files)) (map length files) options.chunk_bytes 0 to (flat_map event_of actions) next;
-      ahead = ahead;
-      answers = answers;
-      caused = cause result caused;
-      leaves = inr (on.has_begun, flat_map text_by actions, on.made, front);
-      complete = complete;
-      refused = λ due is. absurd (let both : None ≡ Some due = sym planned ∙ is in cc);
-      reads_fail = reads_fail old new query files options.chunk_bytes actions to reads on;
-      printed = on.printed;
-      print_faults = on.print_faults;
-      no_lower = rises_by-no_lower _ _ _ on.write_faults;
-    }
+runs_on old new query options files actions asked result planned asks on ahead answers caused front complete = record {
+  files = files;
+  opened = on.opened;
+  asked = asked;
+  events = flat_map event_of actions;
+  gained = on.gained;
+  once = asks.once;
+  short = asks.short;
+  ahead = ahead;
+  answers = answers;
+  caused = cause result caused;
+  leaves = inr (on.has_begun, flat_map text_by actions, on.made, front);
+  complete = complete;
+  refused = λ due is. absurd (let both : None ≡ Some due = sym planned ∙ is in cc);
+  reads_fail = reads_fail old new query files actions asks.fails on;
+  printed = on.printed;
+  print_faults = on.print_faults;
+  no_lower = rises_by-no_lower _ _ _ on.write_faults;
+}
   where
-    cause : (result : Result ℕ Fault) → IfErr result (HasCauseInRun old query files new) → IfErr result (Rattle.morsel_engine.specs.Runs.HasCause old query files new)
+    cause : (result : Result ℕ Fault) → IfErr result (HasCauseInRun old query files new) → IfErr result (HasCause old query files new)
     cause (Ok n) h = tt
     cause (Err fault) h = inr h
+
+-- a text without a byte is the beginning of any
+front_nothing : (join : Option JoinPart) (query : QueryParts) (files : List (List ℕ)) → IsFrontBy join query files []
+front_nothing None query files = record { later = text_of query (rows_before_fault query files); front = refl; valid = λ is. (text_of query is.rows, refl) }
+front_nothing (Some join) query files = λ is. record { rows = is.rows; means = is.means; rest = text_of query is.rows; front = refl }
 
 -- memory ran out before anything was read
 pub runs_begun : (old now : Outside) (query : QueryParts) (options : RunOptions) (files : List (List ℕ)) → query_fault query ≡ None → Begun old query files now
     → Runs old query options (Err faults.OutOfMemory) now
 runs_begun old now query options files planned b =
-    runs_on old now query options files [] 0 (Err faults.OutOfMemory) planned (record { each = tt; asks = refl }) (goes_on old now now query files [] b tt (does-nothing now))
-    (λ told. tt) tt tt
-    (λ told. record { later = text_of query (rows_before_fault query files); front = refl; valid = λ is. (text_of query is.rows, refl) })
-    (λ told valid none. refl)
+    runs_on old now query options files [] (record { left = 0; right = 0 }) (Err faults.OutOfMemory) planned
+    (record { once = asks_no_side query.left query.join (length old.sizes) (map length files); short = tt; fails = inl (refl, refl) })
+    (goes_on old now now query files [] b tt (does-nothing now)) (λ told. nothing_ahead query.join query options (length old.sizes) files) tt tt
+    (λ told. front_nothing query.join query files) (λ told valid none. refl)

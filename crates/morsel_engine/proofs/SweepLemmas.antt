@@ -23,12 +23,12 @@ use Rattle.morsel_engine.proofs.ToldLemmas.{sizes_opened, sum_lengths}
 use Rattle.morsel_engine.proofs.PartLemmas.{sources_are}
 use Rattle.morsel_engine.proofs.ScanLemmas.{begun}
 
-at_most : (n m : ℕ) → n ≤ n + m
+pub at_most : (n m : ℕ) → n ≤ n + m
 at_most n m = omega arith
 
 -- no sweep is within each bound
 pub no_sweeps : (old new : Outside) (query : QueryParts) (options : RunOptions) (n : ℕ) → SweepsWithin old query options n new n
-no_sweeps old new query options n files rows opened left = at_most n (sweep_bound options.workers (sum_by length files) (length (sources_of query)) rows 0 (greatest_width query))
+no_sweeps old new query options n files lefts rights opened rows = at_most n (sweep_bound options.workers (sum_by length files) (length (sources_of query)) lefts rights (greatest_width query))
 
 added : (before after x y z : ℕ) → after ≤ before + x → x ≤ y → y ≤ z → after ≤ before + z
 added before after x y z few less more = omega (arith, few, less, more)
@@ -55,11 +55,12 @@ scanned_sizes now new s names numbers options result (inr (fit, some, wrote)) = 
 pub swept : (old between now new : Outside) (left : ScanSpec) (sink : SinkSpec) (options : RunOptions) (numbers : List FileNo) (files : List (List ℕ)) (result : Result ℕ Fault) (before after : ℕ)
     → HasOpenedAll old left.sources.items numbers files between → Does between (Making sink.name ∷ []) now → ScansFiles now (csv_scan (file_scan left)) left.sources.items numbers options result new
     → after ≤ before + 1024 * (sum_by (λ n. n) (sizes_in now.sizes numbers) + 1) → SweepsWithin old (query_parts left None sink) options before new after
-swept old between now new left sink options numbers files result before after opened made scans few told rows has left_rows =
+swept old between now new left sink options numbers files result before after opened made scans few told lefts rights has rows =
     let query : QueryParts = query_parts left None sink in
     let b = begun old between now query numbers files (subst (λ (names : List (List ℕ)). HasOpenedAll old names numbers files between) (sym (sources_are query refl)) opened) made in
     let same : map length told ≡ map length files = append_cancel_left old.sizes (map length told) (map length files)
     (sym has.sizes ∙ scanned_sizes now new (csv_scan (file_scan left)) left.sources.items numbers options result scans ∙ b.sizes) in
     let sum : sum_by (λ n. n) (sizes_in now.sizes numbers) ≡ sum_by length told = ap (λ (sizes : List ℕ). sum_by (λ n. n) (sizes_in sizes numbers)) b.sizes
     ∙ ap (λ (ns : List FileNo). sum_by (λ n. n) (sizes_in (old.sizes ++ map length files) ns)) opened.numbers_are ∙ ap (sum_by (λ n. n)) (sizes_opened old.sizes files ∙ sym same) ∙ sum_lengths told in
-    few_sweeps options.workers (sum_by length told) (length (sources_of query)) rows (greatest_width query) before after (subst (λ (n : ℕ). after ≤ before + 1024 * (n + 1)) sum few)
+    subst (λ (n : ℕ). after ≤ before + sweep_bound options.workers (sum_by length told) (length (sources_of query)) lefts n (greatest_width query)) (sym rows.1)
+    (few_sweeps options.workers (sum_by length told) (length (sources_of query)) lefts (greatest_width query) before after (subst (λ (n : ℕ). after ≤ before + 1024 * (n + 1)) sum few))

@@ -1,5 +1,5 @@
 -- What a run of a query answers, why, what it read, and what it leaves.
-use Rattle.std.specs.Prelude.{◌≡◌, ◌⊎◌, ℕ, ◌+◌, ◌*◌, ◌<◌, ◌≤◌, IfOk, IfErr, IsOkUnless, Some, None, Result, Ok, Err, List, [], ◌∷◌, ◌++◌, map, length}
+use Rattle.std.specs.Prelude.{◌≡◌, ◌⊎◌, ℕ, ◌+◌, ◌*◌, ◌<◌, ◌≤◌, IfOk, IfErr, IsOkUnless, Option, Some, None, Result, Ok, Err, List, [], ◌∷◌, ◌++◌, map, length}
 use Rattle.std.specs.List.{sum_by}
 use Rattle.morsel_meaning.specs.declared.fault.Fault.{Fault}
 use Rattle.morsel_meaning.specs.declared.fault.Fault.TheVariants as faults
@@ -17,56 +17,77 @@ use Rattle.morsel_read.specs.PieceReads.{IsSliceEnd}
 use Rattle.morsel_line.specs.ScanSources.{opened_as}
 use Rattle.morsel_drive.specs.Lines.{Each}
 use Rattle.morsel_query.specs.RunOptions.{RunOptions, pieces_ahead}
-use Rattle.morsel_query.specs.Queries.{QueryParts}
+use Rattle.morsel_query.specs.Queries.{FileScan, JoinPart, QueryParts}
 use Rattle.morsel_query.specs.QueryFlaws.{sources_of}
 use Rattle.morsel_query.specs.Plans.{query_fault}
-use Rattle.morsel_query.specs.Meanings.{csv_scan, Meaning, AreOfFormat, text_of, IsValid}
-use Rattle.morsel_query.specs.CsvCauses.{CsvCause}
-use Rattle.morsel_engine.specs.Courses.{openings, file_numbers, names_asked, AsksUpTo, IsShort}
+use Rattle.morsel_query.specs.Meanings.{csv_scan, rows_over, left_files, right_files, AreJoinRows, Meaning, AreOfFormat, text_of, IsValid}
+use Rattle.morsel_query.specs.CsvCauses.{QueryCause}
+use Rattle.morsel_engine.specs.Courses.{openings, file_numbers, names_asked, SidesAsked, AsksSides, IsShort}
 
 -- what the opened files contain is told
 abbrev pub TellsBytes : Outside → Type 0
 TellsBytes o = (held : List (List ℕ)) × (o.held ≡ Some held)
 
--- what each byte of the sources gives the sink, where they have these bytes, and their numbers as they were opened go on from the first
+-- what each byte of the sources of a query of one scan gives the sink, where they have these bytes, and their numbers as they were opened go on from the first
 abbrev pub axis_of : QueryParts → ℕ → List (List ℕ) → Axis
 axis_of query number files = csv_axis (csv_scan query.left) 0 query.left.sources files (opened_as (file_numbers number (length files))) 0 (text_of query)
 
--- the rows whose records stand before the first record that is faulty: outside the grammar, not UTF-8, with a bad cell of a used column within the slice, or
+-- for each byte of the sources of a scan, whose numbers within the query go on from the first, the rows that it gives, or its fault
+abbrev pub gives_of_scan : FileScan → ℕ → List (List ℕ) → List (Result (List Row) Fault)
+gives_of_scan scan first files = (csv_axis (csv_scan scan) first scan.sources files [] 0 (λ rows. [])).gives
+
+-- the rows of a query of one scan whose records stand before the first record that is faulty: outside the grammar, not UTF-8, with a bad cell of a used column within the slice, or
 -- with a row or an index past its limit
 abbrev pub rows_before_fault : QueryParts → List (List ℕ) → List Row
 rows_before_fault query files = before_fault (axis_of query 0 files).gives
 
--- no record that was not wholly asked, where so many bytes were, and none after it is faulty
-abbrev pub AreFineFrom : QueryParts → ℕ → List (List ℕ) → Type 0
-AreFineFrom query asked files = let gives = (axis_of query 0 files).gives in (fault : Fault) → HasFaultWithin gives asked (length gives) fault → ⊥
+-- no record of a scan that was not wholly asked, where so many bytes were, and none after it is faulty
+abbrev pub AreFineFrom : FileScan → ℕ → ℕ → List (List ℕ) → Type 0
+AreFineFrom scan first asked files = let gives = gives_of_scan scan first files in (fault : Fault) → HasFaultWithin gives asked (length gives) fault → ⊥
 
--- the bytes of the sources before a place give these rows, and none of their records is faulty
-abbrev pub GivesRowsTo : QueryParts → List (List ℕ) → ℕ → List Row → Type 0
-GivesRowsTo query files place rows = Gives (axis_of query 0 files).gives 0 place rows
+-- the bytes of the sources of a scan before a place give these rows, and none of their records is faulty
+abbrev pub GivesRowsTo : FileScan → ℕ → List (List ℕ) → ℕ → List Row → Type 0
+GivesRowsTo scan first files place rows = Gives (gives_of_scan scan first files) 0 place rows
 
--- the files are records to their ends, and not too many of them count as rows
-abbrev pub HaveFewRows : QueryParts → List (List ℕ) → Type 0
-HaveFewRows query files = (rows : ℕ) × HaveRows (csv_scan query.left) files rows × (rows ≤ 4294967295)
+-- the files of a scan are records to their ends, and not too many of them count as rows
+abbrev pub HaveFewRows : FileScan → List (List ℕ) → Type 0
+HaveFewRows scan files = (rows : ℕ) × HaveRows (csv_scan scan) files rows × (rows ≤ 4294967295)
 
--- all bytes of the sources were asked and give these rows; the sources are of their format, and these are the rows that the query means
-pub record MeansAll (query : QueryParts) (asked : ℕ) (files : List (List ℕ)) (rows : List Row) : Type 0 where
+-- all bytes of the sources of a scan were asked and give these rows; the sources are of their format, and these are the rows that the scan means
+pub record ScansAll (scan : FileScan) (first asked : ℕ) (files : List (List ℕ)) (rows : List Row) : Type 0 where
   pub all : asked ≡ sum_by length files
-  pub gives : GivesRowsTo query files (length (axis_of query 0 files).gives) rows
-  pub of_format : AreOfFormat query.left.format files
-  pub few : HaveFewRows query files
-  pub means : Meaning query files rows
+  pub gives : GivesRowsTo scan first files (length (gives_of_scan scan first files)) rows
+  pub of_format : AreOfFormat scan.format files
+  pub few : HaveFewRows scan files
+  pub means : rows_over scan first files ≡ Ok rows
 
--- the slice of a scan keeps no row after a place up to which the bytes were asked and give these rows; they are the rows that the query means, if nothing after them is faulty
-pub record MeansSlice (query : QueryParts) (asked : ℕ) (files : List (List ℕ)) (rows : List Row) : Type 0 where
+-- the slice of a scan keeps no row after a place up to which the bytes were asked and give these rows; they are the rows that the scan means, if nothing after them is faulty
+pub record ScansSlice (scan : FileScan) (first asked : ℕ) (files : List (List ℕ)) (rows : List Row) : Type 0 where
   pub given : ℕ
-  pub gives : GivesRowsTo query files given rows
-  pub ends : IsSliceEnd (csv_scan query.left) files given asked
-  pub means : AreFineFrom query asked files → Meaning query files rows
+  pub gives : GivesRowsTo scan first files given rows
+  pub ends : IsSliceEnd (csv_scan scan) files given asked
+  pub means : AreFineFrom scan first asked files → rows_over scan first files ≡ Ok rows
 
--- the rows are what the query means, as far as its sources were asked: all of them, or up to the end of its slice
-abbrev pub MeansAsked : QueryParts → ℕ → List (List ℕ) → List Row → Type 0
-MeansAsked query asked files rows = MeansAll query asked files rows ⊎ MeansSlice query asked files rows
+-- the rows are what a scan means, as far as its sources were asked: all of them, or up to the end of its slice
+abbrev pub ScansAsked : FileScan → ℕ → ℕ → List (List ℕ) → List Row → Type 0
+ScansAsked scan first asked files rows = ScansAll scan first asked files rows ⊎ ScansSlice scan first asked files rows
+
+-- the rows are those of a join of rows that its scans mean, as far as the sources of each were asked
+pub record JoinsAsked (left : FileScan) (join : JoinPart) (asked : SidesAsked) (files : List (List ℕ)) (rows : List Row) : Type 0 where
+  pub lefts : List Row
+  pub rights : List Row
+  pub left_rows : ScansAsked left 0 asked.left (left_files left files) lefts
+  pub right_rows : ScansAsked join.right (length left.sources) asked.right (right_files left files) rights
+  pub joined : AreJoinRows left join lefts rights rows
+
+-- the rows are what a query with this left side and this join means, as far as its sources were asked
+abbrev pub MeansAskedBy : FileScan → Option JoinPart → SidesAsked → List (List ℕ) → List Row → Type 0
+MeansAskedBy left None asked files rows = ScansAsked left 0 asked.left files rows
+MeansAskedBy left (Some join) asked files rows = JoinsAsked left join asked files rows
+
+-- the rows are what the query means, as far as its sources were asked
+abbrev pub MeansAsked : QueryParts → SidesAsked → List (List ℕ) → List Row → Type 0
+MeansAsked query asked files rows = MeansAskedBy query.left query.join asked files rows
 
 -- the first sources of a query are open, and have these bytes
 pub record HasOpened (old : Outside) (query : QueryParts) (files : List (List ℕ)) (new : Outside) : Type 0 where
@@ -97,18 +118,27 @@ pub record HasNotBegun (old : Outside) (query : QueryParts) (files : List (List 
   pub failed : ((new.read_faults ≡ old.read_faults) × (new.failed ≡ old.failed)) ⊎ (new.failed ≡ length old.sizes + length files)
 
 -- the sink has the text of rows that the query may give, as many as are answered
-pub record HasText (old : Outside) (query : QueryParts) (files : List (List ℕ)) (asked count : ℕ) (new : Outside) : Type 0 where
+pub record HasText (old : Outside) (query : QueryParts) (files : List (List ℕ)) (asked : SidesAsked) (count : ℕ) (new : Outside) : Type 0 where
   pub rows : List Row
   pub counted : count ≡ length rows
   pub means : MeansAsked query asked files rows
   pub made : new.made ≡ with_sink old.made query.sink.name (text_of query rows)
 
+-- each byte of the sources of a scan was asked, unless it has a slice
+abbrev pub IsAskedWhole : FileScan → ℕ → List (List ℕ) → Type 0
+IsAskedWhole scan asked files = scan.asked.slice ≡ None → asked ≡ sum_by length files
+
+-- the same of each scan of a query with this left side and this join
+abbrev pub AreAskedWhole : FileScan → Option JoinPart → SidesAsked → List (List ℕ) → Type 0
+AreAskedWhole left None asked files = IsAskedWhole left asked.left files
+AreAskedWhole left (Some join) asked files = IsAskedWhole left asked.left (left_files left files) × IsAskedWhole join.right asked.right (right_files left files)
+
 -- rows are answered: no call failed, each byte was asked, unless there is a slice, and the sink has their text, where the files' bytes are told
-pub record Answers (old : Outside) (query : QueryParts) (files : List (List ℕ)) (asked : ℕ) (new : Outside) (count : ℕ) : Type 0 where
+pub record Answers (old : Outside) (query : QueryParts) (files : List (List ℕ)) (asked : SidesAsked) (new : Outside) (count : ℕ) : Type 0 where
   pub begun : HasBegun old query files new
   pub read_well : (new.read_faults ≡ old.read_faults) × (new.failed ≡ old.failed)
   pub write_well : new.write_faults ≡ old.write_faults
-  pub whole : query.left.asked.slice ≡ None → asked ≡ sum_by length files
+  pub whole : AreAskedWhole query.left query.join asked files
   pub text : TellsBytes new → HasText old query files asked count new
 
 -- what a fault of the files says of the query alone: it is of one of its sources, or of none
@@ -125,7 +155,7 @@ IsOfFiles query fault = ⊥
 pub record HasCauseInFiles (old : Outside) (query : QueryParts) (files : List (List ℕ)) (new : Outside) (fault : Fault) : Type 0 where
   pub kind : IsOfFiles query fault
   pub begun : HasBegun old query files new
-  pub cause : TellsBytes new → CsvCause (csv_scan query.left) 0 query.left.sources files fault
+  pub cause : TellsBytes new → QueryCause query files fault
 
 -- when a run that has begun may answer a fault: a call to the outside failed, as a count of faults says; or it is one of the files
 abbrev pub HasCauseInRun : Outside → QueryParts → List (List ℕ) → Outside → Fault → Type 0
@@ -139,11 +169,27 @@ HasCauseInRun old query files new fault = HasCauseInFiles old query files new fa
 abbrev pub HasCause : Outside → QueryParts → List (List ℕ) → Outside → Fault → Type 0
 HasCause old query files new fault = ((query_fault query ≡ Some fault) × (new ≡ old)) ⊎ HasCauseInRun old query files new fault
 
--- the text is the beginning of that of the rows before the first faulty record, and of all rows of a query over valid files
-pub record IsFrontOfText (query : QueryParts) (files : List (List ℕ)) (text : List ℕ) : Type 0 where
+-- the text is the beginning of that of the rows before the first faulty record, and of all rows of a query of one scan over valid files
+pub record IsFrontOfRows (query : QueryParts) (files : List (List ℕ)) (text : List ℕ) : Type 0 where
   pub later : List ℕ
   pub front : text ++ later ≡ text_of query (rows_before_fault query files)
   pub valid : (is : IsValid query files) → (rest : List ℕ) × (text ++ rest ≡ text_of query is.rows)
+
+-- the text is the beginning of that of rows that the query may give
+pub record IsFrontOfMeaning (query : QueryParts) (files : List (List ℕ)) (text : List ℕ) : Type 0 where
+  pub rows : List Row
+  pub means : Meaning query files rows
+  pub rest : List ℕ
+  pub front : text ++ rest ≡ text_of query rows
+
+-- what a text that is left in the sink is, of a query with this join
+abbrev pub IsFrontBy : Option JoinPart → QueryParts → List (List ℕ) → List ℕ → Type 0
+IsFrontBy None query files text = IsFrontOfRows query files text
+IsFrontBy (Some join) query files text = IsValid query files → IsFrontOfMeaning query files text
+
+-- what a text that is left in the sink is: of a query of one scan the beginning of the text of the rows before the first faulty record; over valid files of the text of rows that the query may give
+abbrev pub IsFrontOfText : QueryParts → List (List ℕ) → List ℕ → Type 0
+IsFrontOfText query files text = IsFrontBy query.join query files text
 
 -- no sink was made; or the query's, with a beginning of the rows' text
 abbrev pub Leaves : Outside → QueryParts → List (List ℕ) → Outside → Type 0
@@ -164,16 +210,21 @@ IsRefusedFirst old fault (Err found) new = (new ≡ old) × ((found ≡ fault) �
 abbrev pub bytes_ahead : RunOptions → Axis → ℕ
 bytes_ahead options axis = pieces_ahead options * (options.chunk_bytes + axis.longest)
 
+-- each read is not far ahead of what was written, where a query with this join is of one scan
+abbrev pub ReadsAheadBy : Option JoinPart → QueryParts → RunOptions → ℕ → List (List ℕ) → List IoEvent → Type 0
+ReadsAheadBy None query options number files events = let axis = axis_of query number files in ReadsAhead axis (bytes_ahead options axis) options.chunk_bytes 0 axis.head events
+ReadsAheadBy (Some join) query options number files events = Unit {0}
+
 -- what a run answers, why, what it read, and what it leaves
 pub record Runs (old : Outside) (query : QueryParts) (options : RunOptions) (result : Result ℕ Fault) (new : Outside) : Type 0 where
   pub files : List (List ℕ)  -- the bytes of the sources that were opened
   pub opened : HasOpened old query files new
-  pub asked : ℕ  -- how many bytes of them were asked
+  pub asked : SidesAsked  -- how many bytes of them were asked
   pub events : List IoEvent
   pub gained : new.events ≡ with_more old.events events
-  pub once : AsksUpTo (length old.sizes) (map length files) asked events
+  pub once : AsksSides query.left query.join (length old.sizes) (map length files) asked events
   pub short : Each (IsShort options.chunk_bytes) events
-  pub ahead : TellsBytes new → (let axis = axis_of query (length old.sizes) files in ReadsAhead axis (bytes_ahead options axis) options.chunk_bytes 0 axis.head events)
+  pub ahead : TellsBytes new → ReadsAheadBy query.join query options (length old.sizes) files events
   pub answers : IfOk result (Answers old query files asked new)
   pub caused : IfErr result (HasCause old query files new)
   pub leaves : Leaves old query files new

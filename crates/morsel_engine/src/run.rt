@@ -1,18 +1,19 @@
 //! A run of a query on one thread.
-ghost use Rattle.std.specs.Prelude.{◌≡◌, ◌≤◌, None};
-ghost use Rattle.morsel_query.specs.Queries.{query_parts};
+ghost use Rattle.std.specs.Prelude.{◌≡◌, ◌≤◌, Some, None};
+ghost use Rattle.morsel_query.specs.Queries.{file_scan, join_part, query_parts};
 ghost use Rattle.morsel_query.specs.QueryFlaws.{IsSound};
-ghost use Rattle.morsel_query.specs.Plans.{output_of, planned, query_fault};
+ghost use Rattle.morsel_query.specs.Plans.{fields_of_scan, output_of, planned, query_fault, IsJoinPlan};
 ghost use Rattle.morsel_engine.specs.Runs.{Runs};
 ghost use Rattle.morsel_engine.specs.SweepBounds.{SweepsWithin};
 
-use crate::outside::{make_sink, open_sources};
+use crate::join::{OpenSide, join_files};
+use crate::outside::{make_sink, make_writers, open_sides, open_sources};
 use crate::scan::scan_files;
 use morsel_frame::Schema;
 use morsel_local::Steps;
 use morsel_meaning::Fault;
 use morsel_outside::{Gate, Io};
-use morsel_query::{Options, Query, plan};
+use morsel_query::{JoinPlan, JoinSpec, Options, Query, QueryPlan, plan};
 use morsel_scan::ScanSpec;
 use morsel_sink::SinkSpec;
 use std::alloc::Global;
@@ -40,7 +41,6 @@ pub fn run_local<H: Io, G: Gate, Y: Ledger>(
 }
 
 /// Runs a query as `run_local` does, with so many units of each node in place of one. What is promised is the same for any number.
-#[tactic(auto, using(morsel_query::proofs::PlanLemmas::no_join))]
 pub fn run_pipelines<H: Io, G: Gate, Y: Ledger>(
     alloc: Global,
     io: &mut H,
@@ -54,22 +54,26 @@ pub fn run_pipelines<H: Io, G: Gate, Y: Ledger>(
     ensures runs { Runs (H.seen io.old) query options.now result (H.seen io.new) }
     ensures sweeps { SweepsWithin (H.seen io.old) query options.now steps.old (H.seen io.new) steps.new }
 {
-    let plan = match plan(alloc, &query) {
+    let QueryPlan {
+        left: scanned,
+        join: joined,
+    } = match plan(alloc, &query) {
         Ok(plan) => plan,
         Err(refused) => return Err(refused),
     };
-    let (left, sink) = query.into_scan();
-    run_parts(
-        alloc,
-        io,
-        left,
-        sink,
-        plan.left.output,
-        options,
-        pipelines,
-        gate,
-        steps,
-    )
+    let (left, join, sink) = query.into_parts();
+    let columns = scanned.output;
+    match join {
+        None => run_parts(
+            alloc, io, left, sink, columns, options, pipelines, gate, steps,
+        ),
+        Some(join) => {
+            let Some(plan) = joined else { unreachable!() };
+            run_join(
+                alloc, io, left, join, sink, columns, plan, options, pipelines, gate, steps,
+            )
+        }
+    }
 }
 
 /// Runs a query of these parts that has a plan, whose rows have these columns.
@@ -91,7 +95,7 @@ fn run_parts<H: Io, G: Gate, Y: Ledger>(
     ensures runs { Runs (H.seen io.old) (query_parts left None sink) options.now result (H.seen io.new) }
     ensures sweeps { SweepsWithin (H.seen io.old) (query_parts left None sink) options.now steps.old (H.seen io.new) steps.new }
 {
-    let files = match open_sources(alloc, io, &left.sources) {
+    let files = match open_sources(alloc, io, &left.sources, 0) {
         Ok(files) => files,
         Err(fault) => return Err(fault),
     };
@@ -101,5 +105,51 @@ fn run_parts<H: Io, G: Gate, Y: Ledger>(
     };
     scan_files(
         alloc, io, left, columns, files, writer, options, pipelines, gate, steps,
+    )
+}
+
+/// Runs a query with a join, of these parts, that has a plan. The left side's rows have these columns.
+fn run_join<H: Io, G: Gate, Y: Ledger>(
+    alloc: Global,
+    io: &mut H,
+    left: ScanSpec,
+    join: JoinSpec,
+    sink: SinkSpec,
+    columns: Schema,
+    plan: JoinPlan,
+    options: &Options,
+    pipelines: u32,
+    gate: &G,
+    steps: &mut Steps<Y>,
+) -> Result<u64, Fault>
+    requires sound { IsSound (query_parts left (Some join) sink) }
+    requires planned { query_fault (query_parts left (Some join) sink) ≡ None }
+    requires pipelines { (1 ≤ pipelines) × (pipelines ≤ 32768) }
+    requires columns { columns ≡ fields_of_scan (file_scan left) }
+    requires plan { IsJoinPlan (fields_of_scan (file_scan left)) (join_part join) plan }
+    ensures runs { Runs (H.seen io.old) (query_parts left (Some join) sink) options.now result (H.seen io.new) }
+    ensures sweeps { SweepsWithin (H.seen io.old) (query_parts left (Some join) sink) options.now steps.old (H.seen io.new) steps.new }
+{
+    let files = match open_sides(alloc, io, &left.sources, &join.right.sources) {
+        Ok(files) => files,
+        Err(not_opened) => return Err(not_opened),
+    };
+    let JoinPlan { right, rules } = plan;
+    let writers = match make_writers(io, &rules.output, &sink) {
+        Ok(writers) => writers,
+        Err(no_sink) => return Err(no_sink),
+    };
+    let left = OpenSide {
+        spec: left,
+        columns,
+        files: files.left,
+    };
+    let right = OpenSide {
+        spec: join.right,
+        columns: right.output,
+        files: files.right,
+    };
+    join_files(
+        alloc, io, left, right, rules, writers, options, pipelines, gate, steps,
     )
 }

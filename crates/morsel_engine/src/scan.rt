@@ -66,7 +66,7 @@ pub fn scan_files<H: Io, G: Gate, Y: Ledger>(
 }
 
 /// The node that decodes the pieces of a scan.
-fn node_of(alloc: Global, spec: ScanSpec) -> Result<CsvSourceNode, Fault>
+pub fn node_of(alloc: Global, spec: ScanSpec) -> Result<CsvSourceNode, Fault>
     ensures { IfOk result (λ node. node ≡ csv_scan (file_scan spec)) }
 {
     let ScanSpec {
@@ -80,7 +80,7 @@ fn node_of(alloc: Global, spec: ScanSpec) -> Result<CsvSourceNode, Fault>
 }
 
 /// How a scan is run with so many units of each node.
-fn scan_run(options: &Options, pipelines: u32) -> ScanRun
+pub fn scan_run(options: &Options, pipelines: u32) -> ScanRun
     ensures pipelines { result.line.pipelines ≡ pipelines }
     ensures spread_room { (1 ≤ result.line.rooms.spread) × (result.line.rooms.spread ≤ 65536) }
     ensures merge_room { (1 ≤ result.line.rooms.merge) × (result.line.rooms.merge ≤ 65536) }

@@ -1,5 +1,5 @@
 //! The rules of a join: what is asked of it, by places of columns.
-ghost use Rattle.std.specs.Prelude.{◌≡◌, ◌<◌, ◌^◌, ◌++◌, [], ◌∷◌, length, IfOk, OnOk, IsOkUnless};
+ghost use Rattle.std.specs.Prelude.{◌≡◌, ◌<◌, ◌++◌, [], ◌∷◌, length, IfOk, OnOk, IsOkUnless};
 ghost use Rattle.morsel_frame.specs.Refusals.{Refuses};
 ghost use Rattle.morsel_join.specs.Payloads.{key_places, join_fields, join_flaw};
 ghost use Rattle.morsel_join.specs.Rows.{FitRules, join_columns, keeps_left, left_column, left_columns, right_columns};
@@ -58,8 +58,6 @@ impl JoinRules {
     ) -> Result<JoinRules, Fault>
         requires count { length left_keys.now ≡ length right_keys.now }
         requires some { 0 < length left_keys.now }
-        requires left_columns { length left.now < 2 ^ 32 }
-        requires right_columns { length right.now < 2 ^ 32 }
         ensures how { IfOk result (λ rules. rules.how ≡ args.now.how) }
         ensures order { IfOk result (λ rules. rules.maintain_order ≡ args.now.maintain_order) }
         ensures nulls { IfOk result (λ rules. rules.join_nulls ≡ args.now.join_nulls) }

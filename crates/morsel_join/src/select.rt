@@ -1,6 +1,5 @@
 //! The columns of a join's rows, by what is asked of it.
-ghost use Rattle.std.specs.Prelude.{◌≡◌, ◌<◌, ◌^◌, ◌++◌, length, IfOk, IsOkUnless};
-ghost use Rattle.std.specs.List.{All};
+ghost use Rattle.std.specs.Prelude.{◌≡◌, ◌<◌, ◌++◌, length, IfOk, IsOkUnless};
 ghost use Rattle.morsel_meaning.specs.Values.{names_of};
 ghost use Rattle.morsel_frame.specs.Refusals.{Refuses, repeat_fault};
 ghost use Rattle.morsel_join.specs.Payloads.{FitKeys, left_names, right_names, named_fields, key_places, merged_keys, pairs_of_places, join_fields, join_flaw};
@@ -37,8 +36,6 @@ pub fn payload_select(
 ) -> Result<Payload, Fault>
     requires count { length left_keys.now ≡ length right_keys.now }
     requires some { 0 < length left_keys.now }
-    requires left_columns { length left.now < 2 ^ 32 }
-    requires right_columns { length right.now < 2 ^ 32 }
     ensures left { IfOk result (λ payload. payload.left.items ≡ left_names args.now left_keys.now left.now) }
     ensures right { IfOk result (λ payload. payload.right.items ≡ right_names args.now right_keys.now (names_of left.now) right.now) }
     ensures merged { IfOk result (λ payload. payload.merged.items ≡ merged_keys args.now (key_places left.now left_keys.now) (key_places right.now right_keys.now)) }
@@ -57,8 +54,6 @@ pub fn select(
     args: &JoinArgs,
 ) -> Result<Selection, Fault>
     requires count { length left_keys.now ≡ length right_keys.now }
-    requires left_columns { length left.now < 2 ^ 32 }
-    requires right_columns { length right.now < 2 ^ 32 }
     ensures left { IfOk result (λ chosen. chosen.payload.left.items ≡ left_names args.now left_keys.now left.now) }
     ensures right { IfOk result (λ chosen. chosen.payload.right.items ≡ right_names args.now right_keys.now (names_of left.now) right.now) }
     ensures merged { IfOk result (λ chosen. chosen.payload.merged.items ≡ merged_keys args.now (key_places left.now left_keys.now) (key_places right.now right_keys.now)) }
@@ -113,8 +108,6 @@ fn merged_keys(
     lefts: &[usize],
     rights: &[usize],
 ) -> Result<Vec<(u32, u32)>, Fault>
-    requires left_columns { All (λ at. at < 2 ^ 32) lefts.now }
-    requires right_columns { All (λ at. at < 2 ^ 32) rights.now }
     requires count { length lefts.now ≡ length rights.now }
     ensures ok { IfOk result (λ pairs. pairs.items ≡ merged_keys args.now lefts.now rights.now) }
     ensures out_of_memory { IsOkUnless result Fault.OutOfMemory }
@@ -131,15 +124,24 @@ fn pairs_of_places(
     lefts: &[usize],
     rights: &[usize],
 ) -> Result<Vec<(u32, u32)>, Fault>
-    requires left_columns { All (λ at. at < 2 ^ 32) lefts.now }
-    requires right_columns { All (λ at. at < 2 ^ 32) rights.now }
     requires count { length lefts.now ≡ length rights.now }
     ensures ok { IfOk result (λ pairs. pairs.items ≡ pairs_of_places lefts.now rights.now) }
     ensures out_of_memory { IsOkUnless result Fault.OutOfMemory }
 {
     let mut pairs = Vec::with_capacity(alloc, lefts.len())?;
     for at in 0..lefts.len() {
-        pairs.push((lefts[at] as u32, rights[at] as u32))?;
+        pairs.push((column_number(lefts[at])?, column_number(rights[at])?))?;
     }
     Ok(pairs)
+}
+
+/// A column's place as a payload has it; out of memory past 32 bits, since there is none for so many columns.
+fn column_number(at: usize) -> Result<u32, Fault>
+    ensures ok { IfOk result (λ number. number ≡ at) }
+    ensures out_of_memory { IsOkUnless result Fault.OutOfMemory }
+{
+    match u32::try_from(at) {
+        Ok(number) => Ok(number),
+        Err(_) => Err(Fault::OutOfMemory),
+    }
 }

@@ -1,5 +1,5 @@
 -- Queries that are written alike are valid over the same files.
-use Rattle.std.specs.Prelude.{◌≡◌, ℕ, ◌+◌, ◌≤◌, ◌||◌, Bool, if◌then◌else◌, Option, Some, None, option_map, Result, Ok, Err, List, [], ◌∷◌, map, length, refl}
+use Rattle.std.specs.Prelude.{◌≡◌, ℕ, ◌+◌, ◌≤◌, ◌||◌, Bool, if◌then◌else◌, Option, Some, None, option_map, Result, Ok, Err, List, [], ◌∷◌, map, length, take, drop, refl}
 use Rattle.std.proofs.Common.{sym, ap, subst, ◌∙◌, arith}
 use Rattle.std.proofs.lemmas.Grind.{common_steps}
 use Rattle.morsel_meaning.specs.declared.value.Field.{Field}
@@ -20,13 +20,17 @@ use Rattle.morsel_scan.specs.ScanRows.{placed, scan_rows}
 use Rattle.morsel_scan.specs.CsvScans.{csv_source, csv_sources, csv_scan_rows}
 use Rattle.morsel_scan.specs.ScanFlaws.{choice_flaw, filter_flaw}
 use Rattle.morsel_sink.specs.declared.spec.SinkSpec.{SinkSpec}
-use Rattle.morsel_query.specs.Queries.{FileFormat, CsvFiles, FileScan, JoinPart, QueryParts}
-use Rattle.morsel_query.specs.Plans.{slice_fault}
+use Rattle.morsel_join.specs.declared.payload.JoinArgs.{JoinArgs}
+use Rattle.morsel_join.specs.Items.{JoinItems}
+use Rattle.morsel_join.specs.Payloads.{join_flaw, key_places}
+use Rattle.morsel_join.specs.Rows.{item_row, join_columns, rows_match}
+use Rattle.morsel_query.specs.declared.join.JoinHow.{JoinHow}
+use Rattle.morsel_query.specs.Queries.{FileFormat, CsvFiles, FileScan, JoinPart, QueryParts, scan_asked}
+use Rattle.morsel_query.specs.Plans.{fields_of_scan, slice_fault, side_fault, join_fault}
 use Rattle.morsel_query.specs.RunOptions.{RunOptions}
-use Rattle.morsel_query.specs.Meanings.{IsValid}
-use Rattle.morsel_query.proofs.PlanLemmas.{no_join}
+use Rattle.morsel_query.specs.Meanings.{rows_over, height_over, AreOfFormat, left_files, right_files, AreJoinRows, IsValid}
 use Rattle.morsel_query_text.specs.Predicates.{pred_tree}
-use Rattle.morsel_query_text.specs.Written.{WrittenScan, WrittenQuery, csv_written, format_written, scan_written, join_written, query_written}
+use Rattle.morsel_query_text.specs.Written.{WrittenScan, WrittenJoin, WrittenQuery, csv_written, format_written, scan_written, join_written, query_written}
 use Rattle.morsel_query_text.proofs.AlikeLemmas.{one_predicate}
 
 -- two filters say the same of each row, have the same flaws, and speak of the same columns
@@ -89,33 +93,104 @@ read-alike fields asked options a b first (name ∷ names) [] = refl
 read-alike fields asked options a b first (name ∷ names) (bytes ∷ files) =
     ap (λ (sources : List SourceRows). csv_source (record { scan = scan_with fields asked a; options = options }) first name bytes ∷ sources) (read-alike fields asked options a b (first + 1) names files)
 
-rows-alike : (fields : List Field) (asked : FileOptions) (options : Dialect) (a b : Option PredNode) (names files : List (List ℕ)) → FilterAlike a b
-    → csv_scan_rows (record { scan = scan_with fields asked a; options = options }) 0 names files ≡ csv_scan_rows (record { scan = scan_with fields asked b; options = options }) 0 names files
-rows-alike fields asked options a b names files alike =
-    ap (scan_rows (scan_with fields asked a)) (read-alike fields asked options a b 0 names files)
+rows-alike : (fields : List Field) (asked : FileOptions) (options : Dialect) (a b : Option PredNode) (first : ℕ) (names files : List (List ℕ)) → FilterAlike a b
+    → csv_scan_rows (record { scan = scan_with fields asked a; options = options }) first names files ≡ csv_scan_rows (record { scan = scan_with fields asked b; options = options }) first names files
+rows-alike fields asked options a b first names files alike =
+    ap (scan_rows (scan_with fields asked a)) (read-alike fields asked options a b first names files)
     ∙ sources-alike fields asked a b (slice_keeps asked.slice (total_rows sources)) 0 sources alike
   where
     sources : List SourceRows
-    sources = csv_sources (record { scan = scan_with fields asked b; options = options }) 0 names files
+    sources = csv_sources (record { scan = scan_with fields asked b; options = options }) first names files
 
 -- files of a format, and what is asked of them, with this filter
 abbrev files_with : List (List ℕ) → FileFormat → FileOptions → Option PredNode → FileScan
 files_with sources format asked filter = record { sources = sources; format = format; asked = asked; filter = filter }
 
+-- two scans are of the same sources, with the same fault, columns, rows and numbers of rows, and of one format
+record ScansAlike (a b : FileScan) : Type 0 where
+  pub sources : a.sources ≡ b.sources
+  pub fault : side_fault a.format (scan_asked a) ≡ side_fault b.format (scan_asked b)
+  pub fields : fields_of_scan a ≡ fields_of_scan b
+  pub rows : (first : ℕ) (files : List (List ℕ)) → rows_over a first files ≡ rows_over b first files
+  pub heights : (first : ℕ) (files : List (List ℕ)) → height_over a first files ≡ height_over b first files
+  pub of_format : (files : List (List ℕ)) → AreOfFormat a.format files → AreOfFormat b.format files
+
+alike_with : (sources : List (List ℕ)) (format : FileFormat) (asked : FileOptions) (a b : Option PredNode) → FilterAlike a b → ScansAlike (files_with sources format asked a) (files_with sources format asked b)
+alike_with sources (CsvFiles fields options) asked a b alike = record {
+  sources = refl;
+  fault = ap (λ (flaw : Option Fault). first_fault (first_fault (repeat_fault (whole_fields (scan_with fields asked a))) (first_fault (choice_flaw fields asked.columns) flaw)) (slice_fault asked.slice))
+      (alike.flaws (whole_fields (scan_with fields asked a)));
+  fields = refl;
+  rows = λ first files. rows-alike fields asked options a b first sources files alike;
+  heights = λ first files. ap total_rows (read-alike fields asked options a b first sources files);
+  of_format = λ files is. is;
+}
+
 -- a query of one scan
 abbrev scan_into : FileScan → SinkSpec → QueryParts
 scan_into left sink = record { left = left; join = None; sink = sink }
 
-valid_with : (sink other : SinkSpec) (sources : List (List ℕ)) (format : FileFormat) (asked : FileOptions) (a b : Option PredNode) (files : List (List ℕ)) → FilterAlike a b
-    → IsValid (scan_into (files_with sources format asked a) sink) files → IsValid (scan_into (files_with sources format asked b) other) files
-valid_with sink other sources (CsvFiles fields options) asked a b files alike valid = record {
-  planned = sym (ap (λ (flaw : Option Fault). first_fault (first_fault (repeat_fault (whole_fields (scan_with fields asked a))) (first_fault (choice_flaw fields asked.columns) flaw)) (slice_fault asked.slice))
-      (alike.flaws (whole_fields (scan_with fields asked a)))) ∙ valid.planned;
-  of_format = valid.of_format;
-  few = subst (λ (all : List SourceRows). total_rows all ≤ 4294967295) (read-alike fields asked options a b 0 sources files) valid.few;
+valid_alone : (a b : FileScan) (sink other : SinkSpec) (files : List (List ℕ)) → ScansAlike a b → IsValid (scan_into a sink) files → IsValid (scan_into b other) files
+valid_alone a b sink other files alike valid = record {
+  planned = sym alike.fault ∙ valid.planned;
+  of_format = alike.of_format files valid.of_format;
+  few = subst (λ (n : ℕ). n ≤ 4294967295) (alike.heights 0 files) valid.few;
   rows = valid.rows;
-  means = sym (rows-alike fields asked options a b sources files alike) ∙ valid.means;
+  means = sym (alike.rows 0 files) ∙ valid.means;
 }
+
+-- a query with a join
+abbrev join_into : FileScan → JoinPart → SinkSpec → QueryParts
+join_into left join sink = record { left = left; join = Some join; sink = sink }
+
+-- a join of the same keys, and with the same asked of it, with another right side
+abbrev join_with : JoinPart → FileScan → JoinHow → JoinPart
+join_with join right how = record { right = right; left_keys = join.left_keys; right_keys = join.right_keys; args = join.args; how = how }
+
+joined_alike : (left other : FileScan) (join : JoinPart) (scan : FileScan) (how : JoinHow) (lefts rights rows : List Row) → fields_of_scan left ≡ fields_of_scan other → fields_of_scan join.right ≡ fields_of_scan scan
+    → AreJoinRows left join lefts rights rows → AreJoinRows other (join_with join scan how) lefts rights rows
+joined_alike left other join scan how lefts rights rows one two joined = record {
+  items = joined.items;
+  once = subst (λ (xs : List Field). JoinItems join.args.how (rows_match join.args.join_nulls (key_places xs join.left_keys) (key_places (fields_of_scan scan) join.right_keys)) lefts rights joined.items) one
+      (subst (λ (xs : List Field). JoinItems join.args.how (rows_match join.args.join_nulls (key_places (fields_of_scan left) join.left_keys) (key_places xs join.right_keys)) lefts rights joined.items) two joined.once);
+  promised = joined.promised;
+  rows_are = joined.rows_are
+      ∙ ap (λ (xs : List Field). map (item_row (join_columns join.args xs (fields_of_scan join.right) join.left_keys join.right_keys) lefts rights) joined.items) one
+      ∙ ap (λ (xs : List Field). map (item_row (join_columns join.args (fields_of_scan other) xs join.left_keys join.right_keys) lefts rights) joined.items) two;
+}
+
+join_fault_alike : (left other : FileScan) (join : JoinPart) (scan : FileScan) (how : JoinHow) → fields_of_scan left ≡ fields_of_scan other → ScansAlike join.right scan
+    → join_fault (fields_of_scan left) join ≡ join_fault (fields_of_scan other) (join_with join scan how)
+join_fault_alike left other join scan how one right =
+    ap (λ (fault : Option Fault). first_fault fault (join_flaw join.args (fields_of_scan left) (fields_of_scan join.right) join.left_keys join.right_keys)) right.fault
+    ∙ ap (λ (xs : List Field). first_fault (side_fault scan.format (scan_asked scan)) (join_flaw join.args xs (fields_of_scan join.right) join.left_keys join.right_keys)) one
+    ∙ ap (λ (xs : List Field). first_fault (side_fault scan.format (scan_asked scan)) (join_flaw join.args (fields_of_scan other) xs join.left_keys join.right_keys)) right.fields
+
+valid_joined : (left other : FileScan) (join : JoinPart) (scan : FileScan) (how : JoinHow) (sink into : SinkSpec) (files : List (List ℕ)) → ScansAlike left other → ScansAlike join.right scan
+    → IsValid (join_into left join sink) files → IsValid (join_into other (join_with join scan how) into) files
+valid_joined left other join scan how sink into files alike right valid = record {
+  planned = sym (ap (λ (fault : Option Fault). first_fault fault (join_fault (fields_of_scan left) join)) alike.fault
+      ∙ ap (first_fault (side_fault other.format (scan_asked other))) (join_fault_alike left other join scan how alike.fields right)) ∙ valid.planned;
+  of_format = (
+    subst (λ (n : ℕ). AreOfFormat other.format (take n files)) count (alike.of_format (left_files left files) valid.of_format.0),
+    subst (λ (n : ℕ). AreOfFormat scan.format (drop n files)) count (right.of_format (right_files left files) valid.of_format.1),
+  );
+  few = (
+    subst (λ (n : ℕ). height_over other 0 (take n files) ≤ 4294967295) count (subst (λ (n : ℕ). n ≤ 4294967295) (alike.heights 0 (left_files left files)) valid.few.0),
+    subst (λ (n : ℕ). height_over scan n (drop n files) ≤ 4294967295) count (subst (λ (n : ℕ). n ≤ 4294967295) (right.heights (length left.sources) (right_files left files)) valid.few.1),
+  );
+  rows = valid.rows;
+  means = record {
+    lefts = valid.means.lefts;
+    rights = valid.means.rights;
+    left_rows = subst (λ (n : ℕ). rows_over other 0 (take n files) ≡ Ok valid.means.lefts) count (sym (alike.rows 0 (left_files left files)) ∙ valid.means.left_rows);
+    right_rows = subst (λ (n : ℕ). rows_over scan n (drop n files) ≡ Ok valid.means.rights) count (sym (right.rows (length left.sources) (right_files left files)) ∙ valid.means.right_rows);
+    joined = joined_alike left other join scan how valid.means.lefts valid.means.rights valid.rows alike.fields right.fields valid.means.joined;
+  };
+}
+  where
+    count : length left.sources ≡ length other.sources
+    count = ap length alike.sources
 
 -- options of CSV texts that are written alike are the same
 csv_alike : (a b : Dialect) → csv_written a ≡ csv_written b → a ≡ b
@@ -131,27 +206,40 @@ format_alike (CsvFiles fields options) (CsvFiles others more) is =
 asked_alike : (a b : FileScan) → scan_written a ≡ scan_written b → a.asked ≡ b.asked
 asked_alike a b is = grind (arith, common_steps, is)
 
--- scans that are written alike are valid over the same files
-scans_alike : (a b : FileScan) (sink other : SinkSpec) (files : List (List ℕ)) → scan_written a ≡ scan_written b → IsValid (scan_into a sink) files → IsValid (scan_into b other) files
-scans_alike a b sink other files left valid =
-    subst (λ (asked : FileOptions). IsValid (scan_into (files_with b.sources b.format asked b.filter) other) files) (asked_alike a b left)
-    (subst (λ (format : FileFormat). IsValid (scan_into (files_with b.sources format a.asked b.filter) other) files) (format_alike a.format b.format (ap (λ (w : WrittenScan). w.format) left))
-    (subst (λ (sources : List (List ℕ)). IsValid (scan_into (files_with sources a.format a.asked b.filter) other) files) (ap (λ (w : WrittenScan). w.files) left)
-    (valid_with sink other a.sources a.format a.asked a.filter b.filter files (filter_alike a.filter b.filter (ap (λ (w : WrittenScan). w.filter) left)) valid)))
+-- scans that are written alike
+scans_alike : (a b : FileScan) → scan_written a ≡ scan_written b → ScansAlike a b
+scans_alike a b is =
+    subst (λ (asked : FileOptions). ScansAlike a (files_with b.sources b.format asked b.filter)) (asked_alike a b is)
+    (subst (λ (format : FileFormat). ScansAlike a (files_with b.sources format a.asked b.filter)) (format_alike a.format b.format (ap (λ (w : WrittenScan). w.format) is))
+    (subst (λ (sources : List (List ℕ)). ScansAlike a (files_with sources a.format a.asked b.filter)) (ap (λ (w : WrittenScan). w.files) is)
+    (alike_with a.sources a.format a.asked a.filter b.filter (filter_alike a.filter b.filter (ap (λ (w : WrittenScan). w.filter) is)))))
 
--- queries that are written alike are valid over the same files: both have no join, since one that has a plan has none
+-- joins that are written alike are valid over the same files
+joins_alike : (left other : FileScan) (join more : JoinPart) (sink into : SinkSpec) (files : List (List ℕ)) → ScansAlike left other → join_written join ≡ join_written more
+    → IsValid (join_into left join sink) files → IsValid (join_into other more into) files
+joins_alike left other join more sink into files alike is valid =
+    subst (λ (args : JoinArgs). IsValid (join_into other (record { right = more.right; left_keys = more.left_keys; right_keys = more.right_keys; args = args; how = more.how }) into) files) (ap (λ (w : WrittenJoin). w.args) is)
+    (subst (λ (keys : List (List ℕ)). IsValid (join_into other (record { right = more.right; left_keys = more.left_keys; right_keys = keys; args = join.args; how = more.how }) into) files) (ap (λ (w : WrittenJoin). w.right_keys) is)
+    (subst (λ (keys : List (List ℕ)). IsValid (join_into other (record { right = more.right; left_keys = keys; right_keys = join.right_keys; args = join.args; how = more.how }) into) files) (ap (λ (w : WrittenJoin). w.left_keys) is)
+    (valid_joined left other join more.right more.how sink into files alike (scans_alike join.right more.right (ap (λ (w : WrittenJoin). w.right) is)) valid)))
+
+-- queries that are written alike are valid over the same files
 pub valid_alike : (a b : QueryParts) (options others : RunOptions) (files : List (List ℕ)) → query_written a options ≡ query_written b others → IsValid a files → IsValid b files
-valid_alike a b options others files is valid = by a.join b.join (no_join a valid.planned) joins refl refl
+valid_alike a b options others files is valid = by a.join b.join joins refl refl
   where
-    left : scan_written a.left ≡ scan_written b.left
-    left = ap (λ (w : WrittenQuery). w.left) is
+    left : ScansAlike a.left b.left
+    left = scans_alike a.left b.left (ap (λ (w : WrittenQuery). w.left) is)
 
     joins : option_map join_written a.join ≡ option_map join_written b.join
     joins = ap (λ (w : WrittenQuery). w.join) is
 
-    by : (first second : Option JoinPart) → first ≡ None → option_map join_written first ≡ option_map join_written second → a.join ≡ first → b.join ≡ second → IsValid b files
-    by (Some join) second none same of_first of_second = absurd (cc)
-    by None (Some join) none same of_first of_second = absurd (cc)
-    by None None none same of_first of_second =
+    by : (first second : Option JoinPart) → option_map join_written first ≡ option_map join_written second → a.join ≡ first → b.join ≡ second → IsValid b files
+    by (Some join) None same of_first of_second = absurd (cc)
+    by None (Some join) same of_first of_second = absurd (cc)
+    by None None same of_first of_second =
         subst (λ (join : Option JoinPart). IsValid (record b { join = join }) files) (sym of_second)
-        (scans_alike a.left b.left a.sink b.sink files left (subst (λ (join : Option JoinPart). IsValid (record a { join = join }) files) of_first valid))
+        (valid_alone a.left b.left a.sink b.sink files left (subst (λ (join : Option JoinPart). IsValid (record a { join = join }) files) of_first valid))
+    by (Some join) (Some more) same of_first of_second =
+        let written : join_written join ≡ join_written more = cc in
+        subst (λ (found : Option JoinPart). IsValid (record b { join = found }) files) (sym of_second)
+        (joins_alike a.left b.left join more a.sink b.sink files left written (subst (λ (found : Option JoinPart). IsValid (record a { join = found }) files) of_first valid))

@@ -6,6 +6,7 @@ use Rattle.morsel_meaning.specs.declared.fault.Fault.TheVariants as faults
 use Rattle.morsel_outside.specs.Outside.{Outside, with_last}
 use Rattle.morsel_outside.proofs.ActionLemmas.{with_more-nil, rises_since}
 use Rattle.morsel_query.specs.Queries.{QueryParts}
+use Rattle.morsel_engine.specs.Courses.{SidesAsked}
 use Rattle.morsel_engine.specs.Runs.{HasText, Answers, HasCauseInFiles, HasCauseInRun, HasCause}
 use Rattle.morsel_prog.specs.Words.{Command}
 use Rattle.morsel_prog.specs.CommandQueries.{LacksQuery}
@@ -16,12 +17,12 @@ use Rattle.morsel_prog.proofs.RunLemmas.{run_of, run-kept, begun-kept, lack-kept
 
 -- ---- status 0
 
-text-kept : (between : Outside) (query : QueryParts) (files : List (List ℕ)) (asked count : ℕ) (ran new : Outside) → HasText between query files asked count ran
+text-kept : (between : Outside) (query : QueryParts) (files : List (List ℕ)) (asked : SidesAsked) (count : ℕ) (ran new : Outside) → HasText between query files asked count ran
     → HasText between query files asked count (printed_on ran new)
 text-kept between query files asked count ran new t = record { rows = t.rows; counted = t.counted; means = t.means; made = t.made }
 
 -- a report leaves an answer as it is
-answers-kept : (between : Outside) (query : QueryParts) (files : List (List ℕ)) (asked count : ℕ) (ran new : Outside) → new.write_faults ≡ ran.write_faults
+answers-kept : (between : Outside) (query : QueryParts) (files : List (List ℕ)) (asked : SidesAsked) (count : ℕ) (ran new : Outside) → new.write_faults ≡ ran.write_faults
     → Answers between query files asked ran count → Answers between query files asked (printed_on ran new) count
 answers-kept between query files asked count ran new well a = record {
   begun = begun-kept between query files ran new a.begun;

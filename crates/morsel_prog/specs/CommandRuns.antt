@@ -7,15 +7,14 @@ use Rattle.morsel_outside.specs.declared.events.Asked.TheVariants.{Open}
 use Rattle.morsel_outside.specs.declared.events.IoEvent.{IoEvent}
 use Rattle.morsel_outside.specs.Outside.{Outside, with_more}
 use Rattle.morsel_outside.specs.Actions.{Rises}
-use Rattle.morsel_scan.specs.Ahead.{ReadsAhead}
 use Rattle.morsel_drive.specs.Lines.{Each}
 use Rattle.morsel_query.specs.RunOptions.{RunOptions}
 use Rattle.morsel_query.specs.Queries.{QueryParts}
 use Rattle.morsel_query.specs.QueryFlaws.{sources_of}
 use Rattle.morsel_query.specs.Plans.{query_fault}
 use Rattle.morsel_query.specs.Meanings.{IsValid}
-use Rattle.morsel_engine.specs.Courses.{names_asked, AsksUpTo, IsShort}
-use Rattle.morsel_engine.specs.Runs.{TellsBytes, HasOpened, Answers, HasCauseInRun, Leaves, axis_of, bytes_ahead, Runs}
+use Rattle.morsel_engine.specs.Courses.{names_asked, SidesAsked, AsksSides, IsShort}
+use Rattle.morsel_engine.specs.Runs.{TellsBytes, HasOpened, Answers, HasCauseInRun, Leaves, ReadsAheadBy, Runs}
 use Rattle.morsel_prog.specs.Words.{Command}
 use Rattle.morsel_prog.specs.CommandQueries.{query_files, IsQueryOf, ReadsQueryFiles, NoReadFails, SamePrints, HasQuery, LacksQuery}
 
@@ -40,17 +39,17 @@ RunsWords old (Some command) result new = RunsCommand old command result new
 RunsWords old None (Ok count) new = ⊥
 RunsWords old None (Err fault) new = (new ≡ old) × ((fault ≡ faults.Usage) ⊎ (fault ≡ faults.OutOfMemory))
 
--- the query of a command was had; then files with these bytes were opened, the first of its sources; and each of their bytes before some place was asked once,
--- and no other byte
+-- the query of a command was had; then files with these bytes were opened, the first of its sources; and each of their bytes before some place, of each of its scans,
+-- was asked once, and no other byte
 pub record HasRun (old : Outside) (command : Command) (new : Outside) : Type 0 where
   pub between : Outside  -- the outside after the query was had, and before its run
   pub had : HasQuery old command between
   pub files : List (List ℕ)
   pub opened : HasOpened between had.query files new
-  pub asked : ℕ  -- how many bytes of the files were asked
+  pub asked : SidesAsked  -- how many bytes of the files were asked
   pub events : List IoEvent
   pub gained : new.events ≡ with_more between.events events
-  pub once : AsksUpTo (length between.sizes) (map length files) asked events
+  pub once : AsksSides had.query.left had.query.join (length between.sizes) (map length files) asked events
 
 -- rows are answered, as the engine's `Answers` has it: the sink has the text of rows that the query may give, where bytes are told
 pub record HasAnswer (old : Outside) (command : Command) (count : ℕ) (new : Outside) : Type 0 where
@@ -99,8 +98,7 @@ AsksInOrder old command new = AsksFrontOf old (map Open (query_files command)) n
 pub record IsNotFarAhead (old : Outside) (command : Command) (new : Outside) : Type 0 where
   pub run : HasRun old command new
   pub short : Each (IsShort run.had.options.chunk_bytes) run.events
-  pub ahead : TellsBytes new → (let axis = axis_of run.had.query (length run.between.sizes) run.files in
-      ReadsAhead axis (bytes_ahead run.had.options axis) run.had.options.chunk_bytes 0 axis.head run.events)
+  pub ahead : TellsBytes new → ReadsAheadBy run.had.query.join run.had.query run.had.options (length run.between.sizes) run.files run.events
 
 -- no file but some of the query files was opened or read, and no sink was made
 abbrev pub ReadsOnlyQueries : Outside → Command → Outside → Type 0

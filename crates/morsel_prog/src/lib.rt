@@ -10,5 +10,6 @@ mod query_file;
 mod report;
 mod words;
 
+pub use morsel_engine::{run_local, run_pipelines};
 pub use program::{local_main, morsel_main};
 pub use report::status_of;

@@ -3,7 +3,7 @@ use Rattle.std.specs.Prelude.{◌≡◌, ◌⊎◌, ◌^◌, ◌-◌, ◌<◌}
 use Rattle.std.proofs.Common.{arith, inl, inr}
 use Rattle.morsel_outside.specs.Actions.{Rises}
 use Rattle.morsel_outside.specs.Memory.{Contents, sure}
-use Rattle.morsel_engine.specs.Runs.{NoneRises}
+use Rattle.morsel_prog.specs.Program.{NoneRises}
 
 no_rise : Rises 0 0 → ⊥
 no_rise rises = never rises.rose

@@ -3,5 +3,3 @@ pub mod FieldLemmas
 pub mod SoundLemmas
 pub mod SetLemmas
 pub mod SideLemmas
-pub mod WidthLemmas
-pub mod PlanLemmas

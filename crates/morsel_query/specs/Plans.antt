@@ -2,7 +2,7 @@
 use Rattle.std.specs.Prelude.{◌≡◌, ℕ, ℤ, int_lt, pos, if◌then◌else◌, Option, Some, None, option_map, List}
 use Rattle.morsel_meaning.specs.declared.value.Field.{Field}
 use Rattle.morsel_meaning.specs.declared.fault.Fault.{Fault}
-use Rattle.morsel_meaning.specs.declared.fault.Fault.TheVariants.{ComputeError, QueryText}
+use Rattle.morsel_meaning.specs.declared.fault.Fault.TheVariants.{ComputeError}
 use Rattle.morsel_meaning.specs.declared.fault.ComputeKind.TheVariants.{NegativeSlice}
 use Rattle.morsel_frame.specs.Refusals.{first_fault}
 use Rattle.morsel_join.specs.declared.rules.JoinRules.{JoinRules}
@@ -102,10 +102,10 @@ abbrev pub join_fault_if : List Field → Option JoinPart → Option Fault
 join_fault_if left None = None
 join_fault_if left (Some join) = join_fault left join
 
--- why a query with this left side and this join has no plan. One with a join that is without fault has none yet, since no run finds its rows
+-- why a query with this left side and this join has no plan
 abbrev pub fault_by : FileScan → Option JoinPart → Option Fault
 fault_by left None = side_fault left.format (scan_asked left)
-fault_by left (Some join) = first_fault (side_fault left.format (scan_asked left)) (first_fault (join_fault (fields_of_scan left) join) (Some QueryText))
+fault_by left (Some join) = first_fault (side_fault left.format (scan_asked left)) (join_fault (fields_of_scan left) join)
 
 -- why a query has no plan: the first fault that is due, of the left side, the right side and then the join
 abbrev pub query_fault : QueryParts → Option Fault

@@ -1,8 +1,8 @@
 //! The plan of a query: where its names meet the columns of its files, once.
-ghost use Rattle.std.specs.Prelude.{◌≡◌, ◌<◌, ◌≤◌, ◌^◌, length, option_map, IfOk};
+ghost use Rattle.std.specs.Prelude.{◌≡◌, option_map, IfOk};
 ghost use Rattle.morsel_frame.specs.Refusals.{Refuses};
-ghost use Rattle.morsel_query.specs.Queries.{fields_of_format, file_format, file_scan, join_part, scan_asked};
-ghost use Rattle.morsel_query.specs.QueryFlaws.{AreJoinKeys, AreSoundKeys, AreSoundSides, keys_of, right_sides};
+ghost use Rattle.morsel_query.specs.Queries.{file_format, file_scan, join_part, scan_asked};
+ghost use Rattle.morsel_query.specs.QueryFlaws.{AreJoinKeys, AreSoundKeys, keys_of};
 ghost use Rattle.morsel_query.specs.Plans.{planned_scan, side_fault, slice_fault, join_fault, join_fault_if, query_fault, IsJoinPlan, IsPlanOfJoin, IsPlan};
 
 use crate::scan_plan::{ScanPlan, plan_scan};
@@ -35,17 +35,13 @@ pub struct JoinPlan {
 ///
 /// For a scan of CSV files these are the faults of `plan_scan`, and then `NegativeSlice` where its slice counts from the end. Those
 /// of the left side come before those of the right side, and these before those of the join, which are the faults of
-/// `JoinRules::new`. A query with a join that has none of them is `QueryText`, since it cannot be run yet.
+/// `JoinRules::new`.
 pub fn plan(alloc: Global, query: &Query) -> Result<QueryPlan, Fault>
     ensures ok { IfOk result (IsPlan query.now) }
     ensures refused { Refuses (query_fault query.now) result }
 {
     let left = plan_side(alloc, query.left())?;
     let join = plan_join_if(alloc, &left.output, query.join())?;
-    // No run finds the rows of a join yet.
-    if join.is_some() {
-        return Err(Fault::QueryText);
-    }
     Ok(QueryPlan { left, join })
 }
 
@@ -74,8 +70,6 @@ fn plan_join_if(
     left: &Schema,
     join: &Option<JoinSpec>,
 ) -> Result<Option<JoinPlan>, Fault>
-    requires left_short { length left.now < 2 ^ 32 }
-    requires sides { AreSoundSides (right_sides (option_map join_part join.now)) }
     requires keys { AreSoundKeys (option_map keys_of (option_map join_part join.now)) }
     ensures ok { IfOk result (IsPlanOfJoin left.now (option_map join_part join.now)) }
     ensures refused { Refuses (join_fault_if left.now (option_map join_part join.now)) result }
@@ -87,10 +81,7 @@ fn plan_join_if(
 }
 
 /// The plan of a join with a left side of these columns.
-#[tactic(auto, using(crate::proofs::WidthLemmas::output_short))]
 fn plan_join(alloc: Global, left: &Schema, join: &JoinSpec) -> Result<JoinPlan, Fault>
-    requires left_short { length left.now < 2 ^ 32 }
-    requires right_short { length (fields_of_format (file_format join.now.right.format)) ≤ 65535 }
     requires keys { AreJoinKeys (keys_of (join_part join.now)) }
     ensures ok { IfOk result (IsJoinPlan left.now (join_part join.now)) }
     ensures refused { Refuses (join_fault left.now (join_part join.now)) result }

@@ -77,16 +77,6 @@ impl Query {
         (self.left, self.join, self.sink)
     }
 
-    /// The scan and the sink of a query that has no join.
-    pub fn into_scan(self) -> (ScanSpec, SinkSpec)
-        requires alone { self.join ≡ None }
-        ensures value { query_parts result.0 None result.1 ≡ self }
-        ensures sound { IsSound self }
-    {
-        let Query { left, sink, .. } = self;
-        (left, sink)
-    }
-
     /// The sink.
     pub fn sink(&self) -> &SinkSpec
         ensures { result.now ≡ self.now.sink }

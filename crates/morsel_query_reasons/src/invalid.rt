@@ -42,7 +42,9 @@ pub fn write_flaw_of(out: &mut String, query: &Value, why: &str) -> Result<(), U
         "no source" => write_len(out, query, "files", MOST_FILES)?,
         "too many sources" => write_len(out, query, "files", MOST_FILES)?,
         "no column" => write_len(out, query, "schema", MOST_COLUMNS)?,
-        "predicate depth" => out.push_str("left.filter: more than 128 levels")?,
+        "no keys" => out.push_str("join.on is empty")?,
+        "repeated key" => write_repeated_key(out, query)?,
+        "predicate depth" => write_depth(out, query)?,
         "option range" => write_range(out, query)?,
         "parse bytes" => write_bytes(out, query)?,
         _ => {}
@@ -50,20 +52,95 @@ pub fn write_flaw_of(out: &mut String, query: &Value, why: &str) -> Result<(), U
     Ok(())
 }
 
-/// Puts last how long a list is, and may be.
+/// Puts last that a filter is too deep; with a join, of which scan is not told.
+fn write_depth(out: &mut String, query: &Value) -> Result<(), AllocError> {
+    out.push_str(match right_of(query) {
+        None => "left.filter: more than 128 levels",
+        Some(_) => "left.filter or join.right.filter: more than 128 levels",
+    })
+}
+
+/// Puts last how long a list of a scan is, and may be: of the right one where the left one is not to blame.
 fn write_len(out: &mut String, query: &Value, key: &str, most: usize) -> Result<(), AllocError> {
-    let len = match query.get("left") {
+    let len = len_at(query.get("left"), key);
+    match right_of(query) {
+        Some(scan) if 0 < len && len <= most => {
+            write_len_of(out, "join.right", key, len_at(Some(scan), key), most)
+        }
+        _ => write_len_of(out, "left", key, len, most),
+    }
+}
+
+/// How long the list of a scan is.
+fn len_at(scan: Option<&Value>, key: &str) -> usize {
+    match scan {
         Some(scan) => match items_at(scan, key) {
             Some(items) => items.len(),
             None => 0,
         },
         None => 0,
-    };
-    if len == 0 {
-        write!(out, "left.{key} is empty")
-    } else {
-        write!(out, "left.{key}: {len} items, {most} are the most")
     }
+}
+
+/// The right scan of a query's join.
+fn right_of(query: &Value) -> Option<&Value> {
+    query.get("join")?.get("right")
+}
+
+/// Puts last how long the list of the scan with this path is, and may be.
+fn write_len_of(
+    out: &mut String,
+    scan: &str,
+    key: &str,
+    len: usize,
+    most: usize,
+) -> Result<(), AllocError> {
+    if len == 0 {
+        write!(out, "{scan}.{key} is empty")
+    } else {
+        write!(out, "{scan}.{key}: {len} items, {most} are the most")
+    }
+}
+
+/// Puts last which key of a join a side names twice.
+fn write_repeated_key(out: &mut String, query: &Value) -> Result<(), AllocError> {
+    let Some(pairs) = query.get("join").and_then(pairs_of) else {
+        return Ok(());
+    };
+    let mut number: usize = 0;
+    for pair in pairs {
+        for side in [0usize, 1] {
+            if let Some(name) = name_on(pair, side)
+                && is_named_before(pairs, number, side, name)
+            {
+                write!(out, "join.on[{number}][{side}]: ")?;
+                show_name(out, name)?;
+                return out.push_str(" is there twice");
+            }
+        }
+        number = number.saturating_add(1);
+    }
+    Ok(())
+}
+
+/// The pairs of keys of a join.
+fn pairs_of(join: &Value) -> Option<&[Value]> {
+    items_at(join, "on")
+}
+
+/// The name of a side in a pair of keys: the left one, or the right one.
+fn name_on(pair: &Value, side: usize) -> Option<&str> {
+    pair.get(side)?.as_str()
+}
+
+/// Whether one of so many first pairs has the name on this side.
+fn is_named_before(pairs: &[Value], number: usize, side: usize, name: &str) -> bool {
+    for pair in pairs.iter().take(number) {
+        if name_on(pair, side) == Some(name) {
+            return true;
+        }
+    }
+    false
 }
 
 /// Puts last which option is outside its range.

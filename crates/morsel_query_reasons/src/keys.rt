@@ -5,7 +5,7 @@
 use crate::nearest::{meant, write_nearest};
 use crate::parts::write_filter;
 use crate::shown::{show, show_name, show_value};
-use crate::table::kind_of;
+use crate::table::{contains, kind_of};
 use crate::unsaid::Unsaid;
 use serde_json::Value;
 use std::alloc::{AllocError, Global};
@@ -31,6 +31,14 @@ enum Kind {
     Schema,
     /// A predicate.
     Filter,
+    /// A list of `[left name, right name]`.
+    Pairs,
+    /// A kind of joins.
+    JoinKind,
+    /// An order of a join's rows.
+    JoinOrder,
+    /// How the rows of a join are found.
+    JoinHow,
     /// An object, which is looked at by itself.
     Object,
 }
@@ -39,8 +47,9 @@ enum Kind {
 type KeyRule = (&'static str, Kind, bool);
 
 /// The keys of a query.
-const QUERY: [KeyRule; 3] = [
+const QUERY: [KeyRule; 4] = [
     ("left", Kind::Object, true),
+    ("join", Kind::Object, false),
     ("sink", Kind::Object, true),
     ("options", Kind::Object, false),
 ];
@@ -57,6 +66,34 @@ const SCAN: [KeyRule; 9] = [
     ("path", Kind::Text, false),
     ("filter", Kind::Filter, false),
 ];
+
+/// The keys of a join.
+const JOIN: [KeyRule; 8] = [
+    ("right", Kind::Object, true),
+    ("on", Kind::Pairs, true),
+    ("kind", Kind::JoinKind, false),
+    ("order", Kind::JoinOrder, false),
+    ("nulls", Kind::Truth, false),
+    ("coalesce", Kind::Truth, false),
+    ("suffix", Kind::Text, false),
+    ("how", Kind::JoinHow, false),
+];
+
+/// The words of the kinds of joins, of the orders of their rows, and of how these are found.
+const JOIN_KINDS: [&str; 4] = ["inner", "left", "right", "full"];
+
+const JOIN_ORDERS: [&str; 5] = ["none", "left", "right", "left_right", "right_left"];
+
+const JOIN_HOWS: [&str; 1] = ["hash"];
+
+/// The paths of a scan, of its format and of its `csv`.
+type ScanPaths = (&'static str, &'static str, &'static str);
+
+/// Those of the left scan.
+const LEFT: ScanPaths = ("left.", "left.format", "left.csv.");
+
+/// Those of the right scan of a join.
+const RIGHT: ScanPaths = ("join.right.", "join.right.format", "join.right.csv.");
 
 /// The keys of `csv`.
 const CSV: [KeyRule; 7] = [
@@ -89,7 +126,12 @@ pub fn write_keys(alloc: Global, out: &mut String, query: &Value) -> Result<(), 
         return Ok(());
     }
     if let Some(scan) = query.get("left")
-        && write_scan_keys(alloc, out, scan)?
+        && write_scan_keys(alloc, out, scan, &LEFT)?
+    {
+        return Ok(());
+    }
+    if let Some(join) = query.get("join")
+        && write_join_keys(alloc, out, join)?
     {
         return Ok(());
     }
@@ -105,15 +147,32 @@ pub fn write_keys(alloc: Global, out: &mut String, query: &Value) -> Result<(), 
     Ok(())
 }
 
-/// Puts last which key of a scan is wrong, and answers whether one is.
-fn write_scan_keys(alloc: Global, out: &mut String, scan: &Value) -> Result<bool, Unsaid> {
-    if write_object(alloc, out, scan, "left.", &SCAN)?
-        || write_format(out, scan, "left.format", "csv")?
+/// Puts last which key of a join is wrong, and answers whether one is.
+fn write_join_keys(alloc: Global, out: &mut String, join: &Value) -> Result<bool, Unsaid> {
+    if write_object(alloc, out, join, "join.", &JOIN)? {
+        return Ok(true);
+    }
+    match join.get("right") {
+        Some(scan) => write_scan_keys(alloc, out, scan, &RIGHT),
+        None => Ok(false),
+    }
+}
+
+/// Puts last which key of a scan with these paths is wrong, and answers whether one is.
+fn write_scan_keys(
+    alloc: Global,
+    out: &mut String,
+    scan: &Value,
+    paths: &ScanPaths,
+) -> Result<bool, Unsaid> {
+    let (scan_path, format, csv_path) = *paths;
+    if write_object(alloc, out, scan, scan_path, &SCAN)?
+        || write_format(out, scan, format, "csv")?
     {
         return Ok(true);
     }
     match scan.get("csv") {
-        Some(csv) => write_object(alloc, out, csv, "left.csv.", &CSV),
+        Some(csv) => write_object(alloc, out, csv, csv_path, &CSV),
         None => Ok(false),
     }
 }
@@ -238,7 +297,56 @@ fn write_kind(alloc: Global, out: &mut String, tree: &Value, kind: Kind) -> Resu
         Kind::RowIndex => write_row_index(out, tree),
         Kind::Schema => write_schema(out, tree),
         Kind::Filter => write_filter(alloc, out, tree),
+        Kind::Pairs => write_pairs(out, tree),
+        Kind::JoinKind => write_word(alloc, out, tree, "kind of joins", &JOIN_KINDS),
+        Kind::JoinOrder => write_word(alloc, out, tree, "order", &JOIN_ORDERS),
+        Kind::JoinHow => write_word(alloc, out, tree, "way to join", &JOIN_HOWS),
         Kind::Object => write_unless(out, tree, tree.is_object(), "object"),
+    }
+}
+
+/// Puts last that a tree is none of these words, unless it is one.
+fn write_word(
+    alloc: Global,
+    out: &mut String,
+    tree: &Value,
+    what: &str,
+    words: &[&str],
+) -> Result<bool, Unsaid> {
+    let Some(word) = tree.as_str() else {
+        return write_unless(out, tree, false, "text");
+    };
+    if contains(words, word) {
+        return Ok(false);
+    }
+    out.push_str(": ")?;
+    show_name(out, word)?;
+    write!(out, " is no {what}: ")?;
+    write_nearest(alloc, out, word, words)?;
+    Ok(true)
+}
+
+/// Puts last how a tree is no list of pairs of names, and answers whether it is none.
+fn write_pairs(out: &mut String, tree: &Value) -> Result<bool, Unsaid> {
+    let Some(items) = tree.as_array() else {
+        return write_unless(out, tree, false, "list of [left name, right name]");
+    };
+    let mut number: usize = 0;
+    for item in items {
+        if !is_pair(item) {
+            write!(out, "[{number}]")?;
+            return write_unless(out, item, false, "[left name, right name]");
+        }
+        number = number.saturating_add(1);
+    }
+    Ok(false)
+}
+
+/// Whether a tree is a pair of names.
+fn is_pair(tree: &Value) -> bool {
+    match items_of(tree) {
+        Some([left, right]) => left.is_string() && right.is_string(),
+        _ => false,
     }
 }
 

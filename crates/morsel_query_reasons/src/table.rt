@@ -97,16 +97,26 @@ fn column_of_part(part: &str) -> Option<ColumnWords<'_>> {
     })
 }
 
-/// The file of this number of a query, with its columns.
+/// The file of this number of a query, with its columns. Those of the left scan come first.
 pub fn queried(alloc: Global, query: &Value, file: u32) -> Result<CsvFile<'_>, Unsaid> {
-    let Some(scan) = query.get("left") else {
-        return Err(Unsaid);
-    };
-    let Some(file) = file_of(scan, file) else {
+    let Some((scan, file)) = scan_with_file(query, file) else {
         return Err(Unsaid);
     };
     let columns = columns_of(alloc, scan)?;
     with_used(alloc, scan, file, columns)
+}
+
+/// The scan that has the file of this number of a query, and the file's name.
+fn scan_with_file(query: &Value, file: u32) -> Option<(&Value, &str)> {
+    let number = usize::try_from(file).ok()?;
+    let left = query.get("left")?;
+    let files = items_at(left, "files")?;
+    if let Some(found) = files.get(number) {
+        return Some((left, found.as_str()?));
+    }
+    let right = query.get("join")?.get("right")?;
+    let found = items_at(right, "files")?.get(number.checked_sub(files.len())?)?;
+    Some((right, found.as_str()?))
 }
 
 /// The table of these columns, and of those that are used.
@@ -123,12 +133,6 @@ fn with_used<'t>(
         columns,
         used,
     })
-}
-
-/// The name of the file of this number.
-fn file_of(scan: &Value, file: u32) -> Option<&str> {
-    let files = scan.get("files")?.as_array()?;
-    files.get(usize::try_from(file).ok()?)?.as_str()
 }
 
 /// The columns of a scan.

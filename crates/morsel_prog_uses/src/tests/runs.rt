@@ -3,10 +3,10 @@ ghost use Rattle.std.specs.Prelude.{◌≡◌, ◌<◌, ◌≤◌};
 
 use super::commands::{ROWS, SCANNED_TEXT};
 use super::{LOCAL, Run, files_of, leaves, outside_of};
-use morsel_engine::{run_local, run_pipelines};
 use morsel_local::Steps;
 use morsel_meaning::{ComputeKind, Fault, QUERY_FILE};
 use morsel_outside::{Asked, Gate, Io, MemIo, Memory, OpenGate, SureMemIo};
+use morsel_prog::{run_local, run_pipelines};
 use morsel_query::{Options, Query};
 use morsel_query_text::query_of;
 use serde_json::Value;

@@ -111,8 +111,7 @@ sink <out.ndjson> NdJson
 #[test]
 fn what_a_join_does_not_say_is_the_default(rt: HostRuntime) {
     let numbers = [4, 100_000, 65_536, 4, 4, 16_777_216];
-    // A query with a join has no plan yet.
-    is_read(&rt, rt.alloc(), JOIN, JOIN_SHOWN, numbers, 0, "query text");
+    is_read(&rt, rt.alloc(), JOIN, JOIN_SHOWN, numbers, 0, "ok");
 }
 
 /// A join that says all that a join can say.
@@ -149,6 +148,6 @@ fn what_a_join_says_is_read(rt: HostRuntime) {
         WHOLE_JOIN_SHOWN,
         numbers,
         0,
-        "query text",
+        "ok",
     );
 }

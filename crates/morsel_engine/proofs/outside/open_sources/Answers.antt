@@ -1,4 +1,4 @@
-use Rattle.std.proofs.Common.{refl, sym, subst, ap, ◌+◌, arith}
+use Rattle.std.proofs.Common.{sym, subst, arith, add-zero}
 use Rattle.std.specs.Prelude.{List, [], ◌∷◌, ◌++◌}
 use Rattle.morsel_outside.specs.declared.io.FileNo.{FileNo}
 use Rattle.morsel_engine.proofs.OpenLemmas.{Opened, opened-none, opened-next, opened-all, opened-fails, name_is, failed_opening}
@@ -6,7 +6,7 @@ use Rattle.morsel_engine.proofs.outside.open_sources.Goals as goal
 
 pub names-init : goal.names-init
 names-init g c = record {
-  number = refl;
+  number = sym (add-zero c.args.first);
   files = [];
   opened = subst (λ (xs : List FileNo). Opened (g.H.Io.seen c.args.io.now) c.args.names.now [] xs 0 (g.H.Io.seen c.args.io.now)) (sym c.new-files.ensures.items)
       (opened-none (g.H.Io.seen c.args.io.now) c.args.names.now);
@@ -19,12 +19,12 @@ returns-in_default g c =
 
 pub returns-in-Err-Failed : goal.returns-in-Err-Failed
 returns-in-Err-Failed g c =
-    (c.names.invariant.files, rw c.names.invariant.number (opened-fails _ _ _ _ _ _ _ _ c.names.invariant.opened c.names-test.true (name_is c.args.names.now c.names.name-index c.name-item.result c.names-test.true c.name-item.is) (failed_opening _ _ _ _ _ c.in-Err-Failed.field-0-is c.as_str.ensures c.in-Err-Failed.ensures)))
+    (c.names.invariant.files, c.names.name-index, c.names.invariant.number, opened-fails _ _ _ _ _ _ _ _ c.names.invariant.opened c.names-test.true (name_is c.args.names.now c.names.name-index c.name-item.result c.names-test.true c.name-item.is) (failed_opening _ _ _ _ _ c.in-Err-Failed.field-0-is c.as_str.ensures c.in-Err-Failed.ensures))
 
 pub names-preserved : goal.names-preserved
 names-preserved g c =
     let next = c.in-Ok.ensures in record {
-      number = ap (λ n. n + 1) c.names.invariant.number;
+      number = let n = c.names.invariant.number in omega (arith, n);
       files = c.names.invariant.files ++ next.0 ∷ [];
       opened = rw c.in-Ok-push.ensures.items (opened-next _ _ _ _ _ _ _ _ _ _ c.names.invariant.opened c.names-test.true (name_is c.args.names.now c.names.name-index c.name-item.result c.names-test.true c.name-item.is) (rw c.as_str.ensures at next.1));
     }

@@ -10,7 +10,7 @@ pub returns-in-Err-clause-runs : goal.returns-in-Err-clause-runs
 returns-in-Err-clause-runs g c =
     let query = query_parts c.args.left None c.args.sink in
     runs_not_opened _ _ query _ _ c.requires.planned
-    (subst (λ (names : List (List ℕ)). OpensSources (g.H.Io.seen c.args.io.now) names (Err c.in-Err.fault) (g.H.Io.seen c.open_sources.new.io)) (c.deref.ensures.value ∙ sym (sources_are query refl)) c.in-Err.ensures)
+    (subst (λ (names : List (List ℕ)). OpensSources (g.H.Io.seen c.args.io.now) names 0 (Err c.in-Err.fault) (g.H.Io.seen c.open_sources.new.io)) (c.deref.ensures.value ∙ sym (sources_are query refl)) c.in-Err.ensures)
 
 pub returns-in-Err-make_sink-clause-runs : goal.returns-in-Err-make_sink-clause-runs
 returns-in-Err-make_sink-clause-runs g c =

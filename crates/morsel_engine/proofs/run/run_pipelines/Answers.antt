@@ -1,5 +1,7 @@
-use Rattle.std.proofs.Common.{subst}
-use Rattle.morsel_query.specs.Queries.{QueryParts}
+use Rattle.std.proofs.Common.{ap, sym, subst, ◌∙◌}
+use Rattle.std.specs.Prelude.{Option}
+use Rattle.morsel_query.specs.declared.join.JoinSpec.{JoinSpec}
+use Rattle.morsel_query.specs.Queries.{QueryParts, query_parts}
 use Rattle.morsel_engine.specs.SweepBounds.{SweepsWithin}
 use Rattle.morsel_engine.proofs.RunLemmas.{runs_refused, refused_by}
 use Rattle.morsel_engine.proofs.SweepLemmas.{no_sweeps}
@@ -11,5 +13,12 @@ returns-in-Err-clause-runs g c = runs_refused _ _ _ _ (refused_by (Unit {0}) _ _
 pub returns-in-Err-clause-sweeps : goal.returns-in-Err-clause-sweeps
 returns-in-Err-clause-sweeps g c = no_sweeps (g.H.Io.seen c.args.io.now) (g.H.Io.seen c.args.io.now) c.args.query c.args.options.now c.args.steps.now
 
-pub returns-clause-sweeps : goal.returns-clause-sweeps
-returns-clause-sweeps g c = subst (λ (query : QueryParts). SweepsWithin (g.H.Io.seen c.args.io.now) query c.args.options.now c.args.steps.now (g.H.Io.seen c.run_parts.new.io) c.run_parts.new.steps) c.into_scan-left.ensures.value c.run_parts.ensures.sweeps
+pub returns-in-None-clause-sweeps : goal.returns-in-None-clause-sweeps
+returns-in-None-clause-sweeps g c =
+    subst (λ (query : QueryParts). SweepsWithin (g.H.Io.seen c.args.io.now) query c.args.options.now c.args.steps.now (g.H.Io.seen c.run_parts.new.io) c.run_parts.new.steps)
+    (ap (λ (join : Option JoinSpec). query_parts c.into_parts-left.result.0 join c.into_parts-left.result.2) (sym c.in-None.is) ∙ c.into_parts-left.ensures.value) c.run_parts.ensures.sweeps
+
+pub returns-in-Some-joined-clause-sweeps : goal.returns-in-Some-joined-clause-sweeps
+returns-in-Some-joined-clause-sweeps g c =
+    subst (λ (query : QueryParts). SweepsWithin (g.H.Io.seen c.args.io.now) query c.args.options.now c.args.steps.now (g.H.Io.seen c.run_join.new.io) c.run_join.new.steps)
+    (ap (λ (join : Option JoinSpec). query_parts c.into_parts-left.result.0 join c.into_parts-left.result.2) (sym c.in-Some.is) ∙ c.into_parts-left.ensures.value) c.run_join.ensures.sweeps
