@@ -1,24 +1,23 @@
 -- Runs of queries with a join: what was read of the side that is kept, and what was read and written then.
-use Rattle.std.proofs.Common.{◌≡◌, ◌⊎◌, ℕ, ◌+◌, ◌<◌, ◌≤◌, ap, sym, subst, refl, ◌∙◌, inl, inr, arith, append-nil, append_assoc, length-append}
+use Rattle.std.proofs.Common.{◌≡◌, ℕ, ◌+◌, ap, sym, subst, refl, ◌∙◌, arith, append-nil, append_assoc, length-append}
 use Rattle.std.proofs.lemmas.List.Concat.{flat_map-append}
 use Rattle.std.proofs.lemmas.List.Elements.{filter-append}
-use Rattle.std.proofs.lemmas.List.Sums.{sum_by-append}
-use Rattle.std.specs.Prelude.{Bool, true, false, not, if◌then◌else◌, Option, Some, None, Result, Ok, Err, IfOk, IfErr, OnOk, IsOkUnless, List, [], ◌∷◌, ◌++◌, map, length}
-use Rattle.std.specs.List.{flat_map, filter, fold, sum_by}
+use Rattle.std.specs.Prelude.{Bool, false, not, if◌then◌else◌, Result, Ok, Err, List, [], ◌∷◌, ◌++◌, map, length}
+use Rattle.std.specs.List.{flat_map, filter}
 use Rattle.morsel_meaning.specs.declared.fault.Fault.{Fault}
 use Rattle.morsel_meaning.specs.declared.fault.Fault.TheVariants as faults
 use Rattle.morsel_meaning.specs.Values.{Row, names_of}
 use Rattle.morsel_ndjson.specs.Ndjson.{json_line, ndjson}
-use Rattle.morsel_outside.specs.Outside.{Outside, with_sink}
-use Rattle.morsel_outside.specs.Actions.{Action, Does, event_of, text_by, read_failures, write_failures, failed_after}
+use Rattle.morsel_outside.specs.Outside.{Outside}
+use Rattle.morsel_outside.specs.Actions.{Action, Does, text_by}
 use Rattle.morsel_outside.proofs.ActionLemmas.{does-append}
 use Rattle.morsel_outside.proofs.DoesLemmas.{does-nothing}
 use Rattle.morsel_scan.specs.StretchRows.{before_fault}
 use Rattle.morsel_scan.proofs.StretchLemmas.{Places}
 use Rattle.morsel_read.specs.ScanReads.{sizes_in, HasGivenRows}
 use Rattle.morsel_drive.specs.Lines.{Each, IsReading}
-use Rattle.morsel_drive.specs.Driving.{is_reading, IsWriting}
-use Rattle.morsel_drive.proofs.TransferLemmas.{IsEither, each-append, are_transfers, either_reading, either_writing, stays, filter_readings, filter_writings, readings_write_nothing}
+use Rattle.morsel_drive.specs.Driving.{is_reading}
+use Rattle.morsel_drive.proofs.TransferLemmas.{IsEither, each-append, are_transfers, either_reading, either_writing, stays, filter_readings, filter_writings}
 use Rattle.morsel_join.specs.declared.rules.JoinRules.{JoinRules}
 use Rattle.morsel_join.specs.Rows.{keeps_left}
 use Rattle.morsel_join.specs.Sides.{KeptSide, wants_kept, joined_row, is_asked_for, rows_found, rows_alone}

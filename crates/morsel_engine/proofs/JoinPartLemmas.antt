@@ -1,19 +1,18 @@
 -- The parts of a run of a query with a join, put together.
 use Rattle.std.proofs.Common.{◌≡◌, ℕ, ◌+◌, ◌*◌, ◌<◌, ◌≤◌, ap, sym, subst, refl, ◌∙◌, inl, inr, append-nil, arith, length-append}
-use Rattle.std.proofs.lemmas.List.{take_at, drop_at, length-take-le, length-drop, length-map, take-append-drop}
-use Rattle.std.specs.Prelude.{Option, Some, None, Result, Err, List, [], ◌∷◌, ◌++◌, length, map, take, drop, slice_get, max}
+use Rattle.std.proofs.lemmas.List.{take_at, drop_at, length-take-le, length-drop}
+use Rattle.std.specs.Prelude.{Some, None, Result, Err, List, [], ◌∷◌, ◌++◌, length, map, take, drop, max}
 use Rattle.morsel_meaning.specs.declared.fault.Fault.{Fault}
 use Rattle.morsel_meaning.specs.declared.value.Field.{Field}
 use Rattle.morsel_outside.specs.declared.io.FileNo.{FileNo}
 use Rattle.morsel_outside.specs.Outside.{Outside}
 use Rattle.morsel_outside.specs.Actions.{Making, Does}
-use Rattle.morsel_scan.specs.ScanColumns.{output_fields}
 use Rattle.morsel_scan.specs.declared.spec.ScanSpec.{ScanSpec}
 use Rattle.morsel_join.specs.declared.rules.JoinRules.{JoinRules}
 use Rattle.morsel_sink.specs.declared.spec.SinkSpec.{SinkSpec}
 use Rattle.morsel_query.specs.declared.join.JoinSpec.{JoinSpec}
 use Rattle.morsel_query.specs.RunOptions.{RunOptions}
-use Rattle.morsel_query.specs.Queries.{FileFormat, CsvFiles, FileScan, JoinPart, QueryParts, file_scan, join_part, query_parts, fields_of_format, scan_asked}
+use Rattle.morsel_query.specs.Queries.{FileFormat, CsvFiles, FileScan, JoinPart, QueryParts, file_scan, join_part, query_parts, fields_of_format}
 use Rattle.morsel_query.specs.QueryFlaws.{sources_of, IsSound, AreColumns, columns_given}
 use Rattle.morsel_query.specs.Plans.{fields_of_scan, fields_of_join, AreRulesOf, query_fault}
 use Rattle.morsel_query.specs.Meanings.{left_files, right_files}

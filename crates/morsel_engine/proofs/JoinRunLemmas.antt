@@ -1,8 +1,8 @@
 -- Runs of queries with a join, from their open files to what they answer and leave.
-use Rattle.std.proofs.Common.{◌≡◌, ◌⊎◌, ℕ, ◌+◌, ◌<◌, ◌≤◌, ap, sym, subst, refl, ◌∙◌, inl, inr, arith, append-nil, append_assoc, length-append}
+use Rattle.std.proofs.Common.{◌≡◌, ◌⊎◌, ℕ, ◌+◌, ◌≤◌, ap, sym, subst, refl, ◌∙◌, inl, inr, arith, append-nil, append_assoc}
 use Rattle.std.proofs.lemmas.List.Concat.{flat_map-append}
 use Rattle.std.proofs.lemmas.List.Sums.{sum_by-append, sum_by-cons}
-use Rattle.std.specs.Prelude.{Bool, true, false, Option, Some, None, Result, Ok, Err, IfOk, IfErr, OnOk, IsOkUnless, List, [], ◌∷◌, ◌++◌, map, length}
+use Rattle.std.specs.Prelude.{Bool, true, false, None, Result, Ok, Err, List, [], ◌∷◌, ◌++◌, map, length}
 use Rattle.std.specs.List.{flat_map, filter, fold, sum_by}
 use Rattle.morsel_meaning.specs.declared.fault.Fault.{Fault}
 use Rattle.morsel_meaning.specs.declared.fault.Fault.TheVariants as faults
@@ -14,7 +14,7 @@ use Rattle.morsel_outside.proofs.TransferLemmas.{AreTransfers}
 use Rattle.morsel_read.specs.ScanReads.{FilesAsked, sizes_in}
 use Rattle.morsel_drive.specs.Lines.{Each, IsReading, IsDue}
 use Rattle.morsel_drive.specs.Driving.{is_reading, IsWriteStop}
-use Rattle.morsel_drive.proofs.TransferLemmas.{IsEither, each-append, are_transfers, either_reading, either_writing, stays, filter_readings, filter_writings, readings_write_nothing}
+use Rattle.morsel_drive.proofs.TransferLemmas.{IsEither, each-append, are_transfers, either_reading, either_writing, stays, filter_readings, readings_write_nothing}
 use Rattle.morsel_drain.specs.Pouring.{StopsWritesFor}
 use Rattle.morsel_join.specs.declared.rules.JoinRules.{JoinRules}
 use Rattle.morsel_join.specs.Rows.{keeps_left}
@@ -23,14 +23,14 @@ use Rattle.morsel_line.specs.ScanJobs.{IsJobFault, IsPieceKind}
 use Rattle.morsel_line.specs.ScanSources.{AskNextChunks, EndsInFailure}
 use Rattle.morsel_line.specs.ScanRuns.{StopsScan}
 use Rattle.morsel_join_plan.specs.PhaseRuns.{KeepsScan, StopsKeeping, WritesAlone, WritesFound}
-use Rattle.morsel_join_plan.specs.JoinRuns.{JoinScan, HasKept, and_more, IsLeftSo, EndsJoin, WritesJoin, JoinsScans}
+use Rattle.morsel_join_plan.specs.JoinRuns.{HasKept, and_more, IsLeftSo, EndsJoin, WritesJoin, JoinsScans}
 use Rattle.morsel_query.specs.RunOptions.{RunOptions}
 use Rattle.morsel_query.specs.Queries.{QueryParts}
 use Rattle.morsel_query.specs.Plans.{query_fault}
 use Rattle.morsel_query.specs.Meanings.{csv_scan, rows_over, Meaning, text_of, IsValid}
 use Rattle.morsel_engine.specs.Courses.{AsksUpTo, AsksSides, SidesAsked, IsShort}
 use Rattle.morsel_engine.specs.Stages.{bytes_bound}
-use Rattle.morsel_engine.specs.Runs.{TellsBytes, ScansAsked, MeansAsked, IsAskedWhole, AreAskedWhole, Answers, HasCauseInRun, IsFrontOfMeaning, IsFrontOfText, NoneRises, ReadsAheadBy, Runs}
+use Rattle.morsel_engine.specs.Runs.{TellsBytes, ScansAsked, MeansAsked, IsAskedWhole, AreAskedWhole, HasCauseInRun, IsFrontOfMeaning, IsFrontOfText, ReadsAheadBy, Runs}
 use Rattle.morsel_engine.proofs.AskLemmas.{ask_next, are_short, asks_up_to, failures_read, FailsAt, fails_on}
 use Rattle.morsel_engine.proofs.ScanLemmas.{Begun, GoesOn, goes_on, AsksOn, none_fail, stands_none, runs_on}
 use Rattle.morsel_engine.proofs.OpenScanLemmas.{OpenScan, numbers_of, reader_of, open_job, open_rows, IsOfQuery, had_nothing, means_asked, valid_rows, no_fault, whole, cause, out_of_memory, told_back}

@@ -5,21 +5,19 @@ use Rattle.std.proofs.lemmas.Bool.{cases_lt}
 use Rattle.std.proofs.lemmas.Bool.Decides.{nat_tests}
 use Rattle.std.proofs.lemmas.List.{length-take-le, length-drop, take-append-drop, map-append, take-map, drop-map, get_or_past, length-map}
 use Rattle.std.proofs.lemmas.List.Sums.{sum_by-append, fold-append}
-use Rattle.std.specs.Prelude.{Bool, true, false, ◌&&◌, ◌||◌, nat_le, nat_lt, if◌then◌else◌, Option, Some, None, List, [], ◌∷◌, ◌++◌, map, length, take, drop, get_or}
+use Rattle.std.specs.Prelude.{Bool, true, false, ◌||◌, Some, List, [], ◌∷◌, ◌++◌, map, length, take, drop, get_or}
 use Rattle.std.specs.List.{fold, sum_by}
-use Rattle.morsel_meaning.specs.Values.{Row}
 use Rattle.morsel_grammar.specs.Dialect.{IsDialect}
 use Rattle.morsel_outside.specs.declared.events.IoEvent.{IoEvent}
 use Rattle.morsel_outside.specs.declared.io.FileNo.{FileNo}
 use Rattle.morsel_outside.specs.Outside.{Outside}
 use Rattle.morsel_outside.specs.Actions.{Action, read_failures, failed_after}
-use Rattle.morsel_outside.specs.Asks.{asks, times_asked}
+use Rattle.morsel_outside.specs.Asks.{times_asked}
 use Rattle.morsel_read.specs.ScanReads.{sizes_in, CountsFromFirst, AreTold}
 use Rattle.morsel_sink.specs.declared.spec.SinkSpec.{SinkSpec}
 use Rattle.morsel_query.specs.Queries.{FileScan, JoinPart, QueryParts}
-use Rattle.morsel_query.specs.QueryFlaws.{sources_of}
 use Rattle.morsel_query.specs.Meanings.{csv_scan, left_files, right_files}
-use Rattle.morsel_engine.specs.Courses.{file_numbers, is_before, AsksUpTo, AsksBothUpTo, SidesAsked}
+use Rattle.morsel_engine.specs.Courses.{file_numbers, is_before, AsksUpTo, AsksBothUpTo}
 use Rattle.morsel_engine.specs.Runs.{TellsBytes}
 use Rattle.morsel_engine.proofs.ToldLemmas.{sizes_opened, are_told}
 use Rattle.morsel_engine.proofs.OpenLemmas.{length_numbers, numbers-append}

@@ -8,7 +8,7 @@ use Rattle.morsel_drive.proofs.TransferLemmas.{stays, either_writing}
 use Rattle.morsel_join.specs.declared.rules.JoinRules.{JoinRules}
 use Rattle.morsel_join.specs.Rows.{keeps_left}
 use Rattle.morsel_join.specs.Sides.{KeptSide, wants_kept}
-use Rattle.morsel_join_plan.specs.PhaseRuns.{KeepsScan, WritesAlone, WritesFound}
+use Rattle.morsel_join_plan.specs.PhaseRuns.{KeepsScan, WritesAlone}
 use Rattle.morsel_join_plan.specs.JoinRuns.{JoinScan, HasKept, and_more, IsLeftSo, EndsJoin, WritesJoin, JoinsScans}
 use Rattle.morsel_query.specs.RunOptions.{RunOptions}
 use Rattle.morsel_query.specs.Queries.{FileScan}

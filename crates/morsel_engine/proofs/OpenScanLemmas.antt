@@ -1,7 +1,7 @@
 -- One scan of a query whose files are open: what it means as far as it was asked, and why it has a fault.
-use Rattle.std.proofs.Common.{◌≡◌, ◌⊎◌, ℕ, ◌+◌, ◌-◌, ◌^◌, ◌<◌, ◌≤◌, ap, sym, subst, refl, ◌∙◌, inl, inr, arith, length-append}
+use Rattle.std.proofs.Common.{◌≡◌, ◌⊎◌, ℕ, ◌+◌, ◌-◌, ◌^◌, ◌<◌, ◌≤◌, ap, sym, subst, refl, ◌∙◌, inl, inr, arith}
 use Rattle.std.proofs.lemmas.List.Sums.{sum_by-append, fold-append}
-use Rattle.std.specs.Prelude.{Option, Some, None, Result, Ok, Err, List, [], ◌∷◌, ◌++◌, map, length, slice_index}
+use Rattle.std.specs.Prelude.{Option, None, Ok, List, [], ◌∷◌, ◌++◌, map, length, slice_index}
 use Rattle.std.specs.List.{All, fold, flat_map, filter, sum_by}
 use Rattle.morsel_meaning.specs.declared.fault.Fault.{Fault}
 use Rattle.morsel_meaning.specs.declared.fault.Fault.TheVariants as faults
@@ -11,7 +11,7 @@ use Rattle.morsel_grammar.specs.Dialect.{IsDialect}
 use Rattle.morsel_grammar.specs.Rows.{IsOfGrammar}
 use Rattle.morsel_outside.specs.declared.io.FileNo.{FileNo}
 use Rattle.morsel_outside.specs.Outside.{Outside}
-use Rattle.morsel_outside.specs.Actions.{Action, Rises, RisesBy, event_of, read_failures, write_failures, failed_after}
+use Rattle.morsel_outside.specs.Actions.{Action, Rises, event_of, read_failures, write_failures, failed_after}
 use Rattle.morsel_outside.proofs.TransferLemmas.{AreTransfers}
 use Rattle.morsel_scan.specs.FileReads.{IsTold}
 use Rattle.morsel_scan.specs.ScanRows.{total_rows}
@@ -20,7 +20,7 @@ use Rattle.morsel_scan.specs.Ahead.{asked_up_to}
 use Rattle.morsel_scan.specs.StretchRows.{collected, before_fault}
 use Rattle.morsel_scan.proofs.AxisFileLemmas.{gives_scan}
 use Rattle.morsel_scan.proofs.StretchLemmas.{gives_all}
-use Rattle.morsel_read.specs.ScanReads.{FilesAsked, PiecesRead, pieces_at_start, files_asked, sizes_in, IsPiecesFaultOf, CountsFromFirst, AreTold, HasGivenRows, slice_stop}
+use Rattle.morsel_read.specs.ScanReads.{PiecesRead, pieces_at_start, files_asked, sizes_in, IsPiecesFaultOf, CountsFromFirst, AreTold, HasGivenRows, slice_stop}
 use Rattle.morsel_drive.specs.Lines.{IsDue}
 use Rattle.morsel_drive.specs.Driving.{is_reading}
 use Rattle.morsel_line.specs.Jobs.{Job}

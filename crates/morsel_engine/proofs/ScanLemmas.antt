@@ -1,8 +1,8 @@
 -- Runs that make the sink, and then read the sources and write.
 use Rattle.std.proofs.Common.{◌≡◌, ◌⊎◌, ℕ, ◌+◌, ◌<◌, ap, sym, subst, refl, ◌∙◌, inl, inr, arith, append-nil, append_assoc}
 use Rattle.std.proofs.lemmas.List.{take_all}
-use Rattle.std.specs.Prelude.{Option, Some, None, Result, Ok, Err, IfOk, IfErr, OnOk, IsOkUnless, min, List, [], ◌∷◌, ◌++◌, map, length, take}
-use Rattle.std.specs.List.{All, fold, flat_map, filter, sum_by}
+use Rattle.std.specs.Prelude.{Option, Some, None, Result, Ok, Err, IfOk, IfErr, IsOkUnless, List, [], ◌∷◌, ◌++◌, map, length, take}
+use Rattle.std.specs.List.{fold, flat_map, sum_by}
 use Rattle.morsel_meaning.specs.declared.fault.Fault.{Fault}
 use Rattle.morsel_meaning.specs.declared.fault.Fault.TheVariants as faults
 use Rattle.morsel_outside.specs.declared.events.Asked.{Asked}
@@ -22,7 +22,7 @@ use Rattle.morsel_query.specs.Plans.{query_fault}
 use Rattle.morsel_query.specs.Meanings.{text_of, IsValid}
 use Rattle.morsel_engine.specs.Courses.{openings, names_asked, SidesAsked, AsksSides, IsShort}
 use Rattle.morsel_engine.specs.Stages.{HasOpenedAll}
-use Rattle.morsel_engine.specs.Runs.{TellsBytes, rows_before_fault, AreFineFrom, MeansAsked, HasOpened, HasBegun, HasText, Answers, HasCause, HasCauseInRun, IsFrontOfRows, IsFrontBy, IsFrontOfText, NoneRises, ReadsAheadBy, Runs}
+use Rattle.morsel_engine.specs.Runs.{TellsBytes, rows_before_fault, HasOpened, HasBegun, Answers, HasCause, HasCauseInRun, IsFrontBy, IsFrontOfText, NoneRises, ReadsAheadBy, Runs}
 use Rattle.morsel_engine.proofs.OpenLemmas.{is_opened}
 use Rattle.morsel_engine.proofs.RunLemmas.{nothing_ahead}
 use Rattle.morsel_engine.proofs.AskLemmas.{asks_no_side, FailsAt}

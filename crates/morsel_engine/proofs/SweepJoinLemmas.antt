@@ -6,7 +6,7 @@ use Rattle.std.proofs.lemmas.Nat.{mul-le}
 use Rattle.std.proofs.lemmas.List.{length-map, append_cancel_left, take-append-drop}
 use Rattle.std.proofs.lemmas.List.Sums.{sum_by-cons, sum_by-append}
 use Rattle.std.specs.Prelude.{Bool, true, false, not, ◌&&◌, nat_le, if◌then◌else◌, Option, Some, None, Result, Ok, Err, List, [], ◌∷◌, ◌++◌, map, length}
-use Rattle.std.specs.List.{filter, flat_map, sum_by}
+use Rattle.std.specs.List.{filter, sum_by}
 use Rattle.std.specs.Str.{is_utf8}
 use Rattle.morsel_meaning.specs.declared.fault.ComputeKind.TheVariants as kinds
 use Rattle.morsel_meaning.specs.declared.fault.Fault.{Fault}
@@ -42,7 +42,7 @@ use Rattle.morsel_query.specs.Queries.{FileScan, JoinPart, QueryParts}
 use Rattle.morsel_query.specs.QueryFlaws.{sources_of}
 use Rattle.morsel_query.specs.Meanings.{csv_scan, left_files, right_files}
 use Rattle.morsel_engine.specs.Courses.{file_numbers}
-use Rattle.morsel_engine.specs.Stages.{side_scan, SweepsSides, SweepsFiles}
+use Rattle.morsel_engine.specs.Stages.{SweepsSides, SweepsFiles}
 use Rattle.morsel_engine.specs.Runs.{TellsBytes, HasOpened, gives_of_scan}
 use Rattle.morsel_engine.specs.SweepBounds.{sweep_bound, HasScanRows, HaveJoinedRows, greatest_width, SweepsWithin}
 use Rattle.morsel_engine.proofs.ToldLemmas.{sum_lengths}

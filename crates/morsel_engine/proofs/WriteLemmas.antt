@@ -1,7 +1,7 @@
 -- Runs of queries of one scan that wrote rows, or stopped at a fault of a call or of the files.
 use Rattle.std.proofs.Common.{◌≡◌, ◌⊎◌, ℕ, ◌+◌, ◌-◌, ◌*◌, ◌^◌, ◌<◌, ◌≤◌, ap, sym, subst, refl, ◌∙◌, inl, inr, arith}
 use Rattle.std.proofs.Math.Nat.{min-le_left, le-mul_of_pos_right, mul_comm, mul-add}
-use Rattle.std.specs.Prelude.{Option, Some, None, Result, Ok, Err, IfOk, IfErr, OnOk, IsOkUnless, min, List, [], ◌∷◌, ◌++◌, map, length}
+use Rattle.std.specs.Prelude.{None, Result, Ok, Err, IfOk, IfErr, OnOk, IsOkUnless, min, List, [], map, length}
 use Rattle.std.specs.List.{flat_map, filter, sum_by}
 use Rattle.morsel_meaning.specs.declared.fault.Fault.{Fault}
 use Rattle.morsel_meaning.specs.declared.fault.Fault.TheVariants as faults

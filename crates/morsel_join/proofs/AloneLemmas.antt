@@ -1,5 +1,5 @@
 -- The kept rows that no row finds, by the marks of their keys.
-use Rattle.std.proofs.Common.{◌≡◌, ◌<◌, ◌≤◌, ◌++◌, ◌⊎◌, inl, inr, [], ◌∷◌, List, ℕ, ◌+◌, suc, zero, length, drop, get_or, slice_get, arith, refl, ap, ◌∙◌, sym, subst, Bool, true, false, not, ◌||◌, if◌then◌else◌, map, Some}
+use Rattle.std.proofs.Common.{◌≡◌, ◌≤◌, ◌++◌, ◌⊎◌, inl, inr, [], ◌∷◌, List, ℕ, ◌+◌, suc, length, drop, get_or, slice_get, arith, refl, ap, ◌∙◌, sym, subst, Bool, true, false, not, ◌||◌, if◌then◌else◌, map, Some}
 use Rattle.std.specs.List.{filter, list_any}
 use Rattle.std.proofs.lemmas.List.{drop_all, length-drop, length-map}
 use Rattle.morsel_meaning.specs.Values.{Row}
@@ -10,7 +10,7 @@ use Rattle.morsel_join.specs.BuildSides.{IsBuild, kept_side}
 use Rattle.morsel_join.specs.Chains.{left_mark, right_mark, same_number}
 use Rattle.morsel_join.specs.Cuts.{GivesSome, PutsFirst, unmarked_items}
 use Rattle.morsel_join.specs.Hits.{HaveHit}
-use Rattle.morsel_join.specs.Items.{JoinItem, LoneRight, places}
+use Rattle.morsel_join.specs.Items.{JoinItem, places}
 use Rattle.morsel_join.specs.LoneRows.{rows_alone_from, unmarked_rows}
 use Rattle.morsel_join.specs.Probings.{AreNumbersOf}
 use Rattle.morsel_join.specs.Sides.{KeptSide, asked_keys, is_asked_for, joined_row, kept_keys, row_finds, rows_alone, side_row, wants_kept}

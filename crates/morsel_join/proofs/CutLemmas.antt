@@ -1,11 +1,10 @@
 -- Items that are put so many at a time.
-use Rattle.std.proofs.Common.{◌≡◌, ◌<◌, ◌≤◌, ◌++◌, ◌⊎◌, inl, inr, [], ◌∷◌, List, ℕ, ◌+◌, ◌-◌, suc, zero, length, drop, get_or, arith, refl, ap, ◌∙◌, sym, subst, Bool, true, false, if◌then◌else◌, map, nat_lt, append_assoc, min}
-use Rattle.std.proofs.lemmas.List.{append-nil, map-append, length-map, length-append, drop_all, drop_more}
+use Rattle.std.proofs.Common.{◌≡◌, ◌<◌, ◌≤◌, ◌++◌, ◌⊎◌, inl, inr, [], ◌∷◌, List, ℕ, ◌+◌, ◌-◌, suc, zero, length, drop, get_or, arith, refl, ap, ◌∙◌, sym, subst, Bool, true, false, map, nat_lt, append_assoc}
+use Rattle.std.proofs.lemmas.List.{drop_all, drop_more}
 use Rattle.morsel_frame.specs.Columns.{no_row}
 use Rattle.morsel_join.specs.declared.probe_some.Cursor.{Cursor}
-use Rattle.morsel_join.specs.Items.{JoinItem, Both, LoneLeft, LoneRight, places, or_lone, left_items}
-use Rattle.morsel_join.specs.Chains.{Chain, AreRowChains, same_number, left_mark, right_mark}
-use Rattle.morsel_join.specs.Probes.{PutsItems}
+use Rattle.morsel_join.specs.Items.{JoinItem, Both, LoneLeft, places, or_lone, left_items}
+use Rattle.morsel_join.specs.Chains.{Chain, AreRowChains, same_number}
 use Rattle.morsel_join.specs.Cuts.{AreItemsFrom, FindNothing, PutsFirst, PutsFollowed, PutsFrom}
 use Rattle.morsel_join.proofs.ProbeLemmas.{puts-none, puts-more, number-chain}
 

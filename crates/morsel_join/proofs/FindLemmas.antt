@@ -1,7 +1,6 @@
 -- What rows find on a kept side, by the numbers of their keys.
-use Rattle.std.proofs.Common.{◌≡◌, ◌<◌, ◌≤◌, ◌++◌, ◌⊎◌, inl, inr, [], ◌∷◌, List, ℕ, ◌+◌, suc, zero, length, drop, get_or, slice_get, arith, refl, ap, ◌∙◌, sym, subst, Bool, true, false, map, Some, append_assoc, min}
-use Rattle.std.proofs.lemmas.List.{append-nil, map-append, length-map, length-append, length-drop, get_or-drop}
-use Rattle.morsel_meaning.specs.declared.value.Field.{Field}
+use Rattle.std.proofs.Common.{◌≡◌, ◌≤◌, ◌++◌, ◌⊎◌, inl, inr, [], ◌∷◌, List, ℕ, ◌+◌, suc, zero, length, drop, get_or, slice_get, arith, refl, ap, ◌∙◌, sym, subst, true, false, map, min}
+use Rattle.std.proofs.lemmas.List.{map-append, length-map, length-append, length-drop, get_or-drop}
 use Rattle.morsel_meaning.specs.Values.{Row, Table}
 use Rattle.morsel_frame.specs.Columns.{no_row}
 use Rattle.morsel_frame.specs.Frames.{rows_of}
@@ -16,8 +15,8 @@ use Rattle.morsel_join.specs.Cuts.{GivesSome, PutsFirst}
 use Rattle.morsel_join.specs.Items.{JoinItem, Both, left_items}
 use Rattle.morsel_join.specs.Laws.{mirrored}
 use Rattle.morsel_join.specs.Probings.{AreFoundFrom, AreItemsIn, AreNumbersOf, FindsItems, rows_with}
-use Rattle.morsel_join.specs.Rows.{item_row, marked_column}
-use Rattle.morsel_join.specs.Sides.{KeptSide, asked_keys, kept_keys, row_finds, rows_found, side_row, wants_asked}
+use Rattle.morsel_join.specs.Rows.{marked_column}
+use Rattle.morsel_join.specs.Sides.{KeptSide, asked_keys, kept_keys, row_finds, side_row, wants_asked}
 use Rattle.morsel_join.proofs.AgreeLemmas.{keyed-agree, left-agree}
 use Rattle.morsel_join.proofs.OrderLemmas.{left-mirrored, right-mirrored}
 use Rattle.morsel_join.proofs.RowLemmas.{rows-gathered}

@@ -1,10 +1,10 @@
 -- Kept rows that no row finds, so many at a time.
-use Rattle.std.proofs.Common.{◌≡◌, ◌<◌, ◌≤◌, ◌++◌, ◌⊎◌, inl, inr, [], ◌∷◌, List, ℕ, ◌+◌, ◌-◌, suc, zero, length, drop, get_or, arith, refl, ap, ◌∙◌, sym, subst, Bool, true, false, not, if◌then◌else◌, map, nat_lt}
-use Rattle.std.proofs.lemmas.List.{append-nil, map-append, length-map, length-append, drop_all, drop_more}
-use Rattle.morsel_join.specs.Items.{JoinItem, LoneRight, places}
-use Rattle.morsel_join.specs.Chains.{left_mark, right_mark}
+use Rattle.std.proofs.Common.{◌≡◌, ◌<◌, ◌≤◌, ◌++◌, ◌⊎◌, inl, inr, [], ◌∷◌, List, ℕ, ◌+◌, ◌-◌, suc, zero, length, drop, get_or, arith, refl, ap, ◌∙◌, sym, Bool, true, false, not, if◌then◌else◌, map, nat_lt}
+use Rattle.std.proofs.lemmas.List.{append-nil, length-append, drop_all, drop_more}
+use Rattle.morsel_join.specs.Items.{LoneRight, places}
+use Rattle.morsel_join.specs.Chains.{left_mark}
 use Rattle.morsel_join.specs.Probes.{PutsItems, PutsLoneRow}
-use Rattle.morsel_join.specs.Cuts.{AreMarkedUp, PutsFirst, PutsUnmarked, unmarked_items}
+use Rattle.morsel_join.specs.Cuts.{AreMarkedUp, PutsUnmarked, unmarked_items}
 use Rattle.morsel_join.proofs.CutLemmas.{first-none, first-more}
 
 -- the lone items from a row on are that of the row, and those of the rows behind it

@@ -1,13 +1,13 @@
 -- What rows find, and then the kept rows that are alone, are the rows of a join.
 use Rattle.std.proofs.Common.{◌≡◌, ◌<◌, ◌++◌, [], ◌∷◌, List, ℕ, ◌+◌, arith, refl, ap, ◌∙◌, sym, subst, Bool, true, false, ◌||◌, if◌then◌else◌, map, nat_lt}
-use Rattle.std.specs.List.{list_any, sum_by}
+use Rattle.std.specs.List.{list_any}
 use Rattle.morsel_meaning.specs.Often.{AsOften}
 use Rattle.morsel_meaning.specs.Values.{Row, Table}
 use Rattle.morsel_join.specs.declared.rules.JoinRules.{JoinRules}
 use Rattle.morsel_join.specs.Items.{JoinItem, Both, LoneLeft, LoneRight, left_items, right_items, wants_left, wants_right, JoinItems}
 use Rattle.morsel_join.specs.Laws.{mirrored}
 use Rattle.morsel_join.specs.Rows.{IsJoin, item_row, keeps_left, left_row, right_row, column_value, rows_match}
-use Rattle.morsel_join.specs.Sides.{KeptSide, IsRightSide, is_asked_for, row_finds, rows_alone, rows_found, rows_on_left, rows_on_right, side_row, wants_asked, wants_kept}
+use Rattle.morsel_join.specs.Sides.{KeptSide, IsRightSide, row_finds, rows_alone, rows_found, rows_on_left, rows_on_right, side_row, wants_asked, wants_kept}
 use Rattle.morsel_join.proofs.OrderLemmas.{exchanged_items, exchanged-once, exchanged-promised, straight-promised}
 use Rattle.morsel_join.proofs.SideLemmas.{alone-alike, rows-of-join}
 use Rattle.morsel_join.proofs.Weights.{weigh, weighed}

@@ -1,9 +1,9 @@
 -- What rows find on a kept side: the rows of the items that pair them with kept rows.
-use Rattle.std.proofs.Common.{◌≡◌, ◌<◌, ◌≤◌, ◌++◌, [], ◌∷◌, List, ℕ, ◌+◌, suc, zero, length, drop, get_or, slice_get, arith, refl, ap, ◌∙◌, sym, subst, Bool, true, false, not, ◌||◌, if◌then◌else◌, map, Some, append_assoc}
-use Rattle.std.specs.List.{filter, flat_map, list_any}
+use Rattle.std.proofs.Common.{◌≡◌, ◌++◌, [], ◌∷◌, List, ℕ, ◌+◌, suc, zero, drop, get_or, refl, ap, ◌∙◌, sym, Bool, true, false, not, ◌||◌, if◌then◌else◌, map, append_assoc}
+use Rattle.std.specs.List.{filter}
 use Rattle.std.proofs.lemmas.List.{map-append}
 use Rattle.morsel_meaning.specs.Values.{Row}
-use Rattle.morsel_join.specs.Items.{JoinItem, Both, LoneLeft, LoneRight, places, or_lone, left_items, right_items}
+use Rattle.morsel_join.specs.Items.{Both, LoneRight, places, or_lone, left_items, right_items}
 use Rattle.morsel_join.specs.Sides.{KeptSide, joined_row, row_finds, with_each, wants_asked, wants_kept, found_by_row, rows_found, rows_alone, is_asked_for, side_row}
 
 -- what is found of rows that are cut in two

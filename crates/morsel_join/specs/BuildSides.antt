@@ -1,5 +1,5 @@
 -- The kept side of a join, by its keys.
-use Rattle.std.specs.Prelude.{◌≡◌, ◌<◌, ◌^◌, List, length}
+use Rattle.std.specs.Prelude.{◌<◌, ◌^◌, List, length}
 use Rattle.std.specs.List.{flat_map}
 use Rattle.morsel_meaning.specs.Values.{Row, Table}
 use Rattle.morsel_join.specs.declared.build_side.Build.{Build}

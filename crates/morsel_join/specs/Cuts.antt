@@ -1,10 +1,10 @@
 -- Items that are put so many at a time, and rows that are given so.
-use Rattle.std.specs.Prelude.{◌≡◌, ◌≤◌, ◌<◌, ◌++◌, ◌⊎◌, ℕ, min, Bool, false, true, not, List, [], ◌∷◌, length, map, drop, get_or}
+use Rattle.std.specs.Prelude.{◌≡◌, ◌≤◌, ◌<◌, ◌++◌, ℕ, min, Bool, false, true, not, List, [], length, map, drop, get_or}
 use Rattle.morsel_meaning.specs.Values.{Row}
 use Rattle.morsel_join.specs.declared.probe_some.Cursor.{Cursor}
 use Rattle.morsel_join.specs.declared.some_rows.SomeRows.{SomeRows}
-use Rattle.morsel_join.specs.Items.{JoinItem, Both, LoneRight, left_items, or_lone, places}
-use Rattle.morsel_join.specs.Chains.{AreRowChains, Chain, same_number}
+use Rattle.morsel_join.specs.Items.{JoinItem, Both, LoneRight, left_items, places}
+use Rattle.morsel_join.specs.Chains.{Chain, same_number}
 use Rattle.morsel_join.specs.Probes.{PutsItems}
 
 -- the first of these items were put last, and the others are left

@@ -1,5 +1,5 @@
 -- Kept rows that no row finds.
-use Rattle.std.specs.Prelude.{◌≡◌, ℕ, Bool, false, not, if◌then◌else◌, List, [], ◌∷◌, length, map, drop, get_or}
+use Rattle.std.specs.Prelude.{◌≡◌, ℕ, Bool, false, if◌then◌else◌, List, [], ◌∷◌, map, drop, get_or}
 use Rattle.std.specs.Arc.{arc_value}
 use Rattle.morsel_meaning.specs.Values.{Row}
 use Rattle.morsel_join.specs.declared.build_side.Build.{Build}

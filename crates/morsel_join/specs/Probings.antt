@@ -1,7 +1,7 @@
 -- Rows that are looked up in a kept side, and what they find there.
 use Rattle.std.specs.Prelude.{◌≡◌, ◌<◌, ◌≤◌, ◌^◌, ◌++◌, ℕ, List, [], length, map, drop, get_or}
 use Rattle.std.specs.Arc.{arc_value}
-use Rattle.morsel_meaning.specs.Values.{Row, Table}
+use Rattle.morsel_meaning.specs.Values.{Row}
 use Rattle.morsel_frame.specs.Tables.{cells_at}
 use Rattle.morsel_keys.specs.Slots.{AreLookedUp}
 use Rattle.morsel_join.specs.declared.build_side.Build.{Build}

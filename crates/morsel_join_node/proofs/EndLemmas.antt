@@ -1,5 +1,5 @@
 -- Ends and their units, in order.
-use Rattle.std.proofs.Common.{◌≡◌, Option, Some, None, ◌++◌, ◌+◌, List, [], ◌∷◌, All, map, length, refl, sym, ap, subst, ◌∙◌, suc, append_assoc, append-nil, arith}
+use Rattle.std.proofs.Common.{◌≡◌, Option, Some, None, ◌++◌, ◌+◌, List, [], ◌∷◌, All, map, length, refl, sym, ap, subst, ◌∙◌, suc, append_assoc, arith}
 use Rattle.std.proofs.lemmas.List.{length-append, length-map, map_push}
 use Rattle.std.proofs.lemmas.List.Elements.{All-cons, All-head, All-nil, All-tail}
 use Rattle.atomic_table.specs.Seated.{TableId}

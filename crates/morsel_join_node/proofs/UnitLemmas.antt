@@ -1,5 +1,5 @@
 -- Which lanes the units of a join have.
-use Rattle.std.proofs.Common.{◌≡◌, ◌<◌, ◌≤◌, ◌==◌, ◌++◌, if◌then◌else◌, ℕ, zero, suc, false, List, [], ◌∷◌, map, length, Option, Some, None, refl, sym, ap, subst, ◌∙◌, arith}
+use Rattle.std.proofs.Common.{◌≡◌, ◌<◌, ◌≤◌, ◌==◌, ◌++◌, if◌then◌else◌, ℕ, zero, suc, false, List, [], ◌∷◌, map, length, Some, None, refl, sym, ap, subst, ◌∙◌, arith}
 use Rattle.std.specs.List.{All, slice_get}
 use Rattle.std.specs.Arc.{arc_value}
 use Rattle.std.specs.Prelude.{Vec}
@@ -9,7 +9,6 @@ use Rattle.std.proofs.lemmas.List.{length-map}
 use Rattle.std.proofs.lemmas.List.Elements.{All-nil}
 use Rattle.atomic_table.specs.Seated.{TableId}
 use Rattle.morsel_prims.specs.Polled.{LaneId, held_list}
-use Rattle.morsel_ports.specs.declared.node.Ends.{Ends}
 use Rattle.morsel_ports.specs.declared.node.Ends.TheVariants.{Absent, Parallel, Serial}
 use Rattle.morsel_ports.specs.Joining.{MayJoin}
 use Rattle.morsel_ports.specs.Nodes.{AreUnitsBetween, UnitSeen, unit_between, unit_ends}

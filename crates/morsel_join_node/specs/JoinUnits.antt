@@ -1,5 +1,5 @@
 -- The units of a join.
-use Rattle.std.specs.Prelude.{◌≡◌, Option, None, Some, List, [], ◌∷◌}
+use Rattle.std.specs.Prelude.{◌≡◌, Option, None, Some, List, []}
 use Rattle.atomic_table.specs.Seated.{TableId}
 use Rattle.morsel_meaning.specs.declared.fault.Fault.TheVariants as faults
 use Rattle.morsel_prims.specs.Polled.{BoardId, LaneId}
@@ -11,7 +11,6 @@ use Rattle.morsel_lane_pipe.specs.declared.stepping.Stepping.{Stepping}
 use Rattle.morsel_ports.specs.Nodes.{EndedBy, EndedCut, EndedWhole, UnitEnd, UnitSeen, lanes_of_task}
 use Rattle.morsel_stage.specs.declared.one_of.OneOf.{OneOf}
 use Rattle.morsel_stage.specs.declared.one_of.OneOf.TheVariants.{First, Second, Third}
-use Rattle.morsel_stage.specs.Kinds.{by_kind}
 use Rattle.morsel_units.specs.declared.finished.Finished.{Finished}
 use Rattle.morsel_join_phases.specs.declared.places.JoinAt.{JoinAt}
 use Rattle.morsel_join_phases.specs.declared.places.JoinAt.TheVariants.{Build, Probe, Emit, Done}

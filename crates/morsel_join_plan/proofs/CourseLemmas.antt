@@ -16,15 +16,6 @@ use Rattle.morsel_emit_run.specs.EmitRuns.{WritesAlone, WritesAloneOrNot}
 use Rattle.morsel_join_plan.specs.JoinRuns.{JoinScan, EndsJoin, HasKept, JoinsScans, and_more}
 use Rattle.morsel_join_plan.specs.JoinLanes.{StopsKept, WritesRest}
 
--- nothing was done, since memory ran out
-pub stops_before : (kept : JoinScan) (o : Outside) (fault : Fault) → fault ≡ faults.OutOfMemory → StopsKept kept o fault o
-stops_before kept o fault is = inl (ap Err is, refl)
-
--- the run of the scan stopped
-pub stops_keeping : (kept : JoinScan) (before after : Outside) (fault : Fault) → KeepsOrNot kept.scan kept.reader before (Err fault) after → StopsKept kept before fault after
-stops_keeping kept before after fault (inl left) = inl left
-stops_keeping kept before after fault (inr keeps) = inr (inl keeps)
-
 -- memory ran out behind it
 pub stops_behind : (kept : JoinScan) (before after : Outside) (given : ℕ) (fault : Fault) → KeepsOrNot kept.scan kept.reader before (Ok given) after → fault ≡ faults.OutOfMemory → StopsKept kept before fault after
 stops_behind kept before after given fault (inl left) is = absurd (let no : Ok given ≡ Err faults.OutOfMemory = left.0 in cc)

@@ -1,12 +1,11 @@
 -- What a join asks of its lanes in its last two phases, and what it has behind them.
-use Rattle.std.proofs.Common.{◌≡◌, ℕ, ◌∷◌, [], List, Result, Some, refl, sym, ap, subst, ◌∙◌, arith}
+use Rattle.std.proofs.Common.{◌≡◌, ℕ, List, Result, Some, refl, sym, ap, subst, ◌∙◌, arith}
 use Rattle.atomic_table.specs.Seated.{TableId}
 use Rattle.morsel_meaning.specs.declared.fault.Fault.{Fault}
 use Rattle.morsel_meaning.specs.declared.value.Field.{Field}
 use Rattle.morsel_outside.specs.Outside.{Outside}
 use Rattle.morsel_load.specs.declared.load.LoadKind.TheVariants.{Morsels, Parts}
 use Rattle.morsel_scan.specs.Scans.{CsvScan}
-use Rattle.morsel_scan.specs.ScanColumns.{output_fields}
 use Rattle.morsel_read.specs.ScanReads.{PiecesRead}
 use Rattle.morsel_join.specs.declared.build_side.Build.{Build}
 use Rattle.morsel_join.specs.BuildSides.{kept_side}
@@ -20,13 +19,13 @@ use Rattle.morsel_join_phases.specs.declared.places.JoinAt.{JoinAt}
 use Rattle.morsel_join_phases.specs.declared.places.JoinAt.TheVariants as at
 use Rattle.morsel_join_phases.specs.declared.phase.JoinPhase.{JoinPhase}
 use Rattle.morsel_join_phases.specs.JoinTables.{recv_kinds_at, send_kinds_at}
-use Rattle.morsel_join_phases.specs.JoinPhases.{FitsJoin, StaysJoin, asked_job_of, asked_of, at_of, build_of}
+use Rattle.morsel_join_phases.specs.JoinPhases.{FitsJoin, StaysJoin, asked_job_of, at_of, build_of}
 use Rattle.morsel_probe_run.specs.ProbeRuns.{AreAllUpTo, SweepsFound}
 use Rattle.morsel_emit_run.specs.EmitRuns.{SweepsAlone, WritesAloneOrNot}
 use Rattle.morsel_join_plan.specs.JoinLanes.{AsksFor, HasAskedTo, HasJust, HoldsTokensAt, rows_lane}
 use Rattle.morsel_join_plan.proofs.LaneFacts.{all_asked, has_just}
 use Rattle.morsel_join_plan.proofs.PhaseFacts.{asked_there, fits_finding, fits_giving}
-use Rattle.morsel_join_plan.proofs.PortFacts.{carries_rows, finds_rows, leaves_alone}
+use Rattle.morsel_join_plan.proofs.PortFacts.{finds_rows, leaves_alone}
 
 -- the ports of a join that looks rows up
 pub finding_node : (pipelines : ℕ) (seen : NodeSeen) (place : JoinAt) → seen.pipelines ≡ Some pipelines → seen.recv_kinds ≡ recv_kinds_at place → seen.send_kinds ≡ send_kinds_at place → seen.units ≡ 0 → place ≡ at.Probe → IsFinding pipelines seen

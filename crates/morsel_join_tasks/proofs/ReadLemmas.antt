@@ -1,7 +1,7 @@
 -- What the reader of a scan has asked at its end, and what the rows mean that its places give, which are all before a fault.
-use Rattle.std.proofs.Common.{◌≡◌, ℕ, ◌+◌, ◌≤◌, ap, sym, subst, refl, ◌∙◌, inl, inr, arith, append-nil}
+use Rattle.std.proofs.Common.{◌≡◌, ℕ, ◌+◌, ◌≤◌, ap, sym, subst, ◌∙◌, inl, inr, arith, append-nil}
 use Rattle.std.proofs.lemmas.List.{take-append-drop, take_all}
-use Rattle.std.specs.Prelude.{◌⊎◌, Option, Some, None, Result, Ok, Err, List, [], ◌++◌, length, drop, slice_range}
+use Rattle.std.specs.Prelude.{◌⊎◌, Option, Some, None, Ok, List, [], ◌++◌, length, drop, slice_range}
 use Rattle.std.specs.List.{sum_by}
 use Rattle.morsel_meaning.specs.Values.{Row}
 use Rattle.morsel_grammar.specs.Dialect.{IsDialect}

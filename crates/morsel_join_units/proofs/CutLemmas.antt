@@ -1,5 +1,5 @@
 -- Rows that are given one cut after the other.
-use Rattle.std.proofs.Common.{◌≡◌, ◌+◌, ◌++◌, [], ◌∷◌, List, ℕ, length, take, drop, refl, sym, ap, ◌∙◌, arith, true, append_assoc, Bool}
+use Rattle.std.proofs.Common.{◌≡◌, ◌+◌, ◌++◌, [], ◌∷◌, List, ℕ, length, take, drop, refl, sym, ap, ◌∙◌, arith, append_assoc, Bool}
 use Rattle.std.proofs.lemmas.List.{length-append}
 use Rattle.morsel_meaning.specs.Values.{Row}
 use Rattle.morsel_load.specs.declared.morsels.Stretch.{Stretch}

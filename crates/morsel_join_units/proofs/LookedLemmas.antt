@@ -1,6 +1,6 @@
 -- Rows that were looked up, in whatever order.
-use Rattle.std.proofs.Common.{◌≡◌, ◌++◌, ◌||◌, [], ◌∷◌, List, ℕ, Bool, map, refl, sym, ap, subst, ◌∙◌, append_assoc}
-use Rattle.std.specs.List.{All, flat_map, list_any}
+use Rattle.std.proofs.Common.{◌≡◌, ◌++◌, ◌||◌, [], ◌∷◌, List, ℕ, Bool, map, refl, sym, ap, subst, ◌∙◌}
+use Rattle.std.specs.List.{All, list_any}
 use Rattle.std.specs.Prelude.{IsPermutation}
 use Rattle.std.proofs.lemmas.List.{flat_map_more}
 use Rattle.std.proofs.lemmas.List.Elements.{All-map, All-push}

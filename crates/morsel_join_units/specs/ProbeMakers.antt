@@ -1,5 +1,5 @@
 -- Loads of what rows find on the kept side of a join.
-use Rattle.std.specs.Prelude.{◌≡◌, ◌<◌, ◌++◌, ℕ, Option, None, Some, List, [], ◌∷◌, length}
+use Rattle.std.specs.Prelude.{◌≡◌, ◌<◌, ◌++◌, ℕ, Option, None, Some, List, [], ◌∷◌}
 use Rattle.std.specs.Arc.{arc_value}
 use Rattle.morsel_meaning.specs.Values.{Row, Table}
 use Rattle.morsel_load.specs.Loads.{LoadSeen, SeenMorsel}

@@ -4,7 +4,7 @@ use Rattle.std.specs.Str.{bytes_eq}
 use Rattle.morsel_meaning.specs.declared.fault.Why.{Why}
 use Rattle.morsel_meaning.specs.declared.fault.Why.TheVariants as whys
 use Rattle.morsel_frame.specs.Names.{stands_in}
-use Rattle.morsel_query.specs.QueryFlaws.{Side, JoinKeys, HasSide, sources_of_sides, IsFlaw, IsSoundSide, AreSoundSides, AreJoinKeys, AreSoundKeys, AreSound}
+use Rattle.morsel_query.specs.QueryFlaws.{Side, JoinKeys, HasSide, sources_of_sides, IsFlaw, AreJoinKeys, AreSound}
 
 or_assoc : (a b c : Bool) → ((a || b) || c) ≡ (a || (b || c))
 or_assoc true b c = refl

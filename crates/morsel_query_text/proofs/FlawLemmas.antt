@@ -1,5 +1,5 @@
 -- The flaws of a query, and those of its parts.
-use Rattle.std.proofs.Common.{◌≡◌, inl, inr, ℕ, List, Option, Some, None, refl, ap}
+use Rattle.std.proofs.Common.{inl, inr, ℕ, List, Option, Some, None}
 use Rattle.morsel_meaning.specs.declared.fault.Fault.{Fault}
 use Rattle.morsel_meaning.specs.declared.fault.Fault.TheVariants as faults
 use Rattle.morsel_meaning.specs.declared.fault.Why.{Why}
@@ -8,7 +8,7 @@ use Rattle.morsel_query.specs.RunOptions.{AreInRange}
 use Rattle.morsel_query.specs.QueryFlaws.{AreSound, IsFlaw}
 use Rattle.morsel_query.proofs.SoundLemmas.{sound_has_no_flaw}
 use Rattle.morsel_query_text.specs.Written.{WrittenScan, WrittenJoin, WrittenQuery}
-use Rattle.morsel_query_text.specs.TextFlaws.{HasScan, HasNoBytes, IsTooDeep, right_scans, scans_written, sides_written, keys_written, HasTextFlaw, IsFlawless}
+use Rattle.morsel_query_text.specs.TextFlaws.{HasScan, HasNoBytes, IsTooDeep, right_scans, sides_written, keys_written, HasTextFlaw, IsFlawless}
 use Rattle.morsel_query_text.specs.Answers.{HasReadingFlaw, IsReadable, RefusesReading, IsRightReadable, RefusesRight, RefusesFlaw}
 
 -- a flaw of the sides, the keys or the sink's name is one of the query

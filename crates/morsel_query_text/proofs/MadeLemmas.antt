@@ -12,7 +12,7 @@ use Rattle.morsel_query.specs.QueryFlaws.{Side, JoinKeys, columns_given, side_of
 use Rattle.morsel_sink.specs.declared.spec.SinkFormat.{SinkFormat}
 use Rattle.morsel_sink.specs.declared.spec.SinkSpec.{SinkSpec}
 use Rattle.morsel_query_text.specs.Written.{WrittenScan, WrittenJoin, WrittenQuery, format_written, scan_written, join_written, sink_written, query_written}
-use Rattle.morsel_query_text.specs.TextFlaws.{columns_written, side_written, sides_written, right_scans, keys_in, keys_written, HasTextFlaw, IsFlawless, name_repeated}
+use Rattle.morsel_query_text.specs.TextFlaws.{columns_written, side_written, sides_written, right_scans, keys_in, HasTextFlaw, IsFlawless, name_repeated}
 use Rattle.morsel_query_text.specs.Answers.{IsMadeOf, IsMadeOfParts, RefusesFlaw, RefusesMade}
 use Rattle.morsel_query_text.proofs.FlawLemmas.{side_flaw_is}
 

@@ -12,7 +12,7 @@ use Rattle.morsel_query.specs.declared.join.JoinHow.{JoinHow}
 use Rattle.morsel_query.specs.RunOptions.{RunOptions, standard_options}
 use Rattle.morsel_query_text.specs.Trees.{FoundAs, SomeOf}
 use Rattle.morsel_query_text.specs.Written.{WrittenCsv, WrittenFormat, WrittenCsvFiles, WrittenScan, WrittenJoin, WrittenSink, WrittenNdJson, WrittenQuery, standard_csv}
-use Rattle.morsel_query_text.specs.QueryTexts.{CsvOf, FormatOf, ScanOf, JoinOf, SinkOf, OptionsOf, QueryOf, IsOneQuery}
+use Rattle.morsel_query_text.specs.QueryTexts.{CsvOf, FormatOf, ScanOf, JoinOf, SinkOf, OptionsOf, IsOneQuery}
 
 -- ---- what is found
 

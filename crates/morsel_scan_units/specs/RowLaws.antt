@@ -1,8 +1,7 @@
 -- What lanes of rows carry, before and behind a join.
-use Rattle.std.specs.Prelude.{ℕ, suc, ◌+◌, ◌-◌, ◌≤◌, true, Result, Ok, Err, List, [], ◌∷◌, ◌++◌, length, map, take, drop, slice_range}
+use Rattle.std.specs.Prelude.{ℕ, ◌+◌, ◌-◌, true, Ok, Err, List, [], ◌∷◌, ◌++◌, length, map, take, drop, slice_range}
 use Rattle.std.proofs.Common.{◌≡◌, refl, sym, ap, subst, ◌∙◌, arith, append-nil}
 use Rattle.std.proofs.lemmas.List.{length-map, take_all, take-map, drop-map}
-use Rattle.morsel_meaning.specs.declared.fault.Fault.{Fault}
 use Rattle.morsel_meaning.specs.declared.value.Field.{Field}
 use Rattle.morsel_meaning.specs.Values.{Row, Table}
 use Rattle.morsel_load.specs.Sources.{SourceSeen}
@@ -19,7 +18,6 @@ use Rattle.morsel_rows_job.specs.RowsJobs.{AreWholeRows, IsCutOf, alone_stretch}
 use Rattle.morsel_line.specs.Jobs.{Job}
 use Rattle.morsel_line.specs.RowStages.{StageSeen, ScannedRows, FoundRows, AloneRows, given_found, staged_columns, staged_gives}
 use Rattle.morsel_line.specs.ScanJobs.{scan_axis, job_axis}
-use Rattle.morsel_line.specs.ScanSources.{ReadsJob}
 use Rattle.morsel_scan_units.specs.LaneJobs.{LaneFor, TellsJob, SuitsLane, SuitsRows, IsWholeIfScanned}
 use Rattle.morsel_scan_units.specs.LaneRows.{CarriesRows, PlacesGive, AreScanRows, FindsBetween, AloneBetween}
 

@@ -1,6 +1,6 @@
 -- What others have of groups, put to what is kept, one after the other.
-use Rattle.std.proofs.Common.{◌≡◌, ◌≢◌, ◌<◌, ◌≤◌, ◌++◌, [], ◌∷◌, List, ℕ, zero, suc, ◌+◌, length, take, get_or, set, map, None, Some, refl, arith, ap, ◌∙◌, sym, Bool, true, false, if◌then◌else◌, All, subst, nat_lt}
-use Rattle.std.specs.Prelude.{Option, nat_eq, Result, Ok, Err, OnOk}
+use Rattle.std.proofs.Common.{◌≡◌, ◌≢◌, ◌<◌, ◌≤◌, ◌++◌, [], ◌∷◌, List, ℕ, ◌+◌, length, take, get_or, set, map, None, Some, refl, arith, ap, ◌∙◌, sym, Bool, true, false, if◌then◌else◌, All, subst, nat_lt}
+use Rattle.std.specs.Prelude.{Option, nat_eq, Err}
 use Rattle.std.proofs.lemmas.List.{take_more, length-take-le, length-set, length-append, get_or-set_same, get_or-set_other, get_or_default, get_or-map, length-map, map-set, map-append, set-get_or}
 use Rattle.std.proofs.Math.ListN.{get_or-map as math-get_or-map}
 use Rattle.std.proofs.Math.Seq.{take-append_seam, get_or-append_seam}

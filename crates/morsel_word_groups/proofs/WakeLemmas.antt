@@ -1,5 +1,5 @@
 -- Who was found waiting for the last token is woken.
-use Rattle.std.proofs.Common.{◌≡◌, List, refl, Option, Some, None}
+use Rattle.std.proofs.Common.{List, refl, Option, Some, None}
 use Rattle.morsel_meaning.specs.declared.task.TaskNo.{TaskNo}
 use Rattle.morsel_prims.specs.Polled.{held_list}
 use Rattle.morsel_prims.specs.Woken.{Woken, IsWoken, AreWoken, AreFoundWoken}

@@ -1,5 +1,5 @@
 -- What a call on a connector found, once it was made of two calls of an end; and who was found waiting is woken.
-use Rattle.std.proofs.Common.{◌≡◌, ◌⊎◌, ℕ, ◌+◌, subst, List, [], ◌∷◌, ◌++◌, Bool, true, false, append_assoc, append-nil, sym, refl, ap, ◌∙◌, inl, inr, ⊎_elim, Option, Some, None}
+use Rattle.std.proofs.Common.{◌≡◌, ◌⊎◌, ◌+◌, subst, List, [], ◌∷◌, ◌++◌, Bool, true, false, append_assoc, append-nil, sym, refl, ap, ◌∙◌, inl, inr, ⊎_elim, Option, Some, None}
 use Rattle.morsel_meaning.specs.declared.task.TaskNo.{TaskNo}
 use Rattle.morsel_prims.specs.Polled.{held_list, ByRefusal, IfFull, IfClosed}
 use Rattle.morsel_prims.specs.declared.lane.RecvError.{RecvError}

@@ -1,7 +1,6 @@
-use Rattle.std.proofs.Common.{◌≡◌, ◌≤◌, ◌∙◌, [], ℕ, List, ap, arith, length, map, sym, subst, true, rules}
+use Rattle.std.proofs.Common.{◌≤◌, ◌∙◌, [], ℕ, List, ap, map, sym, subst}
 use Rattle.morsel_meaning.specs.Values.{Row, Table}
 use Rattle.morsel_join.specs.BuildSides.{kept_side}
-use Rattle.morsel_join.specs.Chains.{left_mark, right_mark}
 use Rattle.morsel_join.specs.Cuts.{PutsFirst, unmarked_items}
 use Rattle.morsel_join.specs.Items.{JoinItem}
 use Rattle.morsel_join.specs.Sides.{side_row}

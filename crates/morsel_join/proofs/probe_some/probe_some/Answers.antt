@@ -1,4 +1,4 @@
-use Rattle.std.proofs.Common.{rules, ◌≡◌, ◌<◌, ◌≤◌, ◌⊎◌, inl, inr, List, ℕ, length, arith}
+use Rattle.std.proofs.Common.{rules, ◌≡◌, ◌<◌, ◌≤◌, ◌⊎◌, inl, inr, ℕ, length, arith}
 use Rattle.morsel_join.proofs.CutLemmas.{probe-begun, probe-more}
 use Rattle.morsel_join.proofs.probe_some.probe_some.Goals as goal
 use Rattle.morsel_join.proofs.probe_some.probe_some.Goals.{then-loop-at-test+else-len-limit, else-loop-at-test}

@@ -1,4 +1,4 @@
-use Rattle.std.proofs.Common.{rules, ◌≡◌, ◌<◌, get_or, length, refl, arith}
+use Rattle.std.proofs.Common.{rules, ◌<◌, get_or, length, refl, arith}
 use Rattle.morsel_join.proofs.LoneLemmas.{unmarked-begun, unmarked-more, lone-lengths}
 use Rattle.morsel_join.proofs.probe_some.put_lone_some.Goals as goal
 

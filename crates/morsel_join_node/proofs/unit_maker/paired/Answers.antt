@@ -1,5 +1,4 @@
-use Rattle.std.proofs.Common.{◌≡◌, ◌++◌, ◌∷◌, [], List, length, map, sym, subst, arith, append-nil, ◌∙◌, ap, rules}
-use Rattle.std.proofs.lemmas.List.{nil_from_length}
+use Rattle.std.proofs.Common.{◌≡◌, ◌++◌, ◌∷◌, [], length, arith, ap, rules}
 use Rattle.std.specs.Vec.Iter.{into_iter_items}
 use Rattle.morsel_join_node.proofs.EndLemmas.{none_left, pair_more}
 use Rattle.morsel_join_node.proofs.unit_maker.paired.Given.{Over}

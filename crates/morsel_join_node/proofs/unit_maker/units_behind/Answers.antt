@@ -1,6 +1,5 @@
-use Rattle.std.proofs.Common.{◌≡◌, ◌++◌, ◌∷◌, [], List, subst, sym, append-nil, ◌∙◌, ap, rules}
+use Rattle.std.proofs.Common.{◌++◌, ◌∷◌, [], subst, sym}
 use Rattle.std.specs.Vec.Iter.{into_iter_items}
-use Rattle.std.proofs.lemmas.List.{nil_from_length}
 use Rattle.morsel_ports.specs.Joining.{MayJoin}
 use Rattle.morsel_join_node.proofs.EndLemmas.{all_first, one_more, part_more}
 use Rattle.morsel_join_node.proofs.unit_maker.units_behind.Goals as goal

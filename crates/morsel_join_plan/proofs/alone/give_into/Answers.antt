@@ -1,4 +1,4 @@
-use Rattle.std.proofs.Common.{◌≡◌, ap, refl, subst, sym, ◌∙◌}
+use Rattle.std.proofs.Common.{ap, refl, subst, sym, ◌∙◌}
 use Rattle.std.specs.Arc.{arc_value}
 use Rattle.morsel_scan_units.specs.LaneJobs.{LaneFor}
 use Rattle.morsel_emit_run.specs.EmitRuns.{SweepsAlone, WritesAloneOrNot}

@@ -1,6 +1,5 @@
-use Rattle.std.proofs.Common.{◌≡◌, ℕ, refl, sym, ap, ◌∙◌}
+use Rattle.std.proofs.Common.{refl, sym, ap, ◌∙◌}
 use Rattle.std.specs.Arc.{arc_value}
-use Rattle.atomic_table.specs.Seated.{TableId}
 use Rattle.morsel_scan.specs.ScanColumns.{output_fields}
 use Rattle.morsel_join.specs.BuildSides.{kept_side}
 use Rattle.morsel_line.specs.RowStages.{AloneRows, StageSeen, staged_columns}

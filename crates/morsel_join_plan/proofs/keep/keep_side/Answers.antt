@@ -1,4 +1,4 @@
-use Rattle.std.proofs.Common.{Ok, Some, refl, sym, ap, subst, ◌∙◌}
+use Rattle.std.proofs.Common.{Ok, Some, refl, ap, subst, ◌∙◌}
 use Rattle.morsel_meaning.specs.declared.fault.Fault.TheVariants as faults
 use Rattle.morsel_scan.specs.Scans.{CsvScan}
 use Rattle.morsel_scan_units.specs.LaneJobs.{LaneFor}

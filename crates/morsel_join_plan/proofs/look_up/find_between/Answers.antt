@@ -1,4 +1,4 @@
-use Rattle.std.proofs.Common.{◌≡◌, IfOk, ap, refl, subst, sym, ◌∙◌}
+use Rattle.std.proofs.Common.{IfOk, ap, refl, subst, sym, ◌∙◌}
 use Rattle.std.specs.Arc.{arc_value}
 use Rattle.morsel_load.specs.declared.load.LoadKind.TheVariants.{Pieces}
 use Rattle.morsel_scan.specs.Scans.{CsvScan}

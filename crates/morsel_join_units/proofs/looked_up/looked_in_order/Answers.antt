@@ -1,8 +1,5 @@
-use Rattle.std.proofs.Common.{◌≡◌, List, map, sym, subst}
 use Rattle.std.proofs.lemmas.List.Sorted.{All-permutation}
-use Rattle.morsel_join.specs.Hits.{HaveHit}
-use Rattle.morsel_join_units.specs.LookedUps.{AreLookedUpOf, rows_looked_up}
-use Rattle.morsel_join_units.specs.declared.looked_up.LookedUp.{LookedUp}
+use Rattle.morsel_join_units.specs.LookedUps.{AreLookedUpOf}
 use Rattle.morsel_join_units.proofs.LookedLemmas.{gives-looked, hit-along}
 use Rattle.morsel_join_units.proofs.looked_up.looked_in_order.Goals as goal
 

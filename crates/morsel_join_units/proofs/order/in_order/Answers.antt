@@ -1,7 +1,7 @@
-use Rattle.std.proofs.Common.{◌≡◌, ◌++◌, [], List, sym, subst, map}
+use Rattle.std.proofs.Common.{◌≡◌, [], List, sym, subst}
 use Rattle.std.proofs.lemmas.List.Sorted.{All-permutation}
 use Rattle.std.specs.List.{All}
-use Rattle.morsel_meaning.specs.Values.{Row, Table}
+use Rattle.morsel_meaning.specs.Values.{Table}
 use Rattle.morsel_join.specs.BuildSides.{rows_of_tables}
 use Rattle.morsel_join_units.specs.RowKeepers.{AreKeptOf}
 use Rattle.morsel_join_units.proofs.OrderLemmas.{columns-all, gives-all}

@@ -1,6 +1,5 @@
-use Rattle.std.proofs.Common.{◌≡◌, ◌∙◌, ap, refl, None, option_map, Option}
+use Rattle.std.proofs.Common.{◌∙◌, ap, refl, option_map, Option}
 use Rattle.std.proofs.lemmas.Result.{err_from_is_err_and}
-use Rattle.morsel_frame.specs.Refusals.{fault_of_repeat}
 use Rattle.morsel_scan.specs.declared.spec.ScanSpec.{ScanSpec}
 use Rattle.morsel_sink.specs.declared.spec.SinkSpec.{SinkSpec}
 use Rattle.morsel_query.specs.declared.join.JoinSpec.{JoinSpec}

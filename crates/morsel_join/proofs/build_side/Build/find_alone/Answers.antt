@@ -1,4 +1,4 @@
-use Rattle.std.proofs.Common.{◌≡◌, ◌≤◌, ◌<◌, ◌^◌, ◌⊎◌, ◌∙◌, ℕ, List, [], length, ap, sym, subst}
+use Rattle.std.proofs.Common.{◌≡◌, ◌≤◌, ◌<◌, ◌^◌, ◌⊎◌, ◌∙◌, ℕ, List, length, ap, sym, subst}
 use Rattle.morsel_join.specs.Cuts.{PutsFirst, unmarked_items}
 use Rattle.morsel_join.proofs.build_side.Build.find_alone.Goals as goal
 

@@ -1,6 +1,5 @@
 use Rattle.std.proofs.Common.{Bool, List, sym, subst, true, false}
 use Rattle.morsel_meaning.specs.declared.value.Field.{Field}
-use Rattle.morsel_meaning.specs.Values.{Row, Table}
 use Rattle.morsel_join.specs.Rows.{FitRules}
 use Rattle.morsel_join.specs.Sides.{FitSides}
 use Rattle.morsel_join.proofs.build_side.Build.gather.Goals as goal

@@ -1,4 +1,4 @@
-use Rattle.std.proofs.Common.{◌≡◌, ◌∙◌, ◌++◌, ◌||◌, ℕ, List, Bool, ap, sym, subst, false, get_or, length, take, drop, rules}
+use Rattle.std.proofs.Common.{◌≡◌, ◌∙◌, ◌++◌, ◌||◌, ℕ, List, Bool, ap, sym, subst, false, get_or, length, rules}
 use Rattle.morsel_join.specs.Hits.{HaveHit}
 use Rattle.morsel_join.proofs.AgreeLemmas.{written_back}
 use Rattle.morsel_join.proofs.AloneLemmas.{marks-joined}

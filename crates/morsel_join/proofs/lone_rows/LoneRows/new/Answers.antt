@@ -1,4 +1,4 @@
-use Rattle.std.proofs.Common.{◌≡◌, ◌∙◌, [], Bool, List, ap, length, subst, sym, true, false, rules, ℕ}
+use Rattle.std.proofs.Common.{◌≡◌, ◌∙◌, [], List, ap, length, subst, true, false}
 use Rattle.std.specs.Arc.{arc_value}
 use Rattle.morsel_meaning.specs.declared.value.Field.{Field}
 use Rattle.morsel_join.specs.declared.build_side.Build.{Build}

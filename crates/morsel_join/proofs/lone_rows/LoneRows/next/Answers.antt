@@ -1,6 +1,6 @@
-use Rattle.std.proofs.Common.{◌≡◌, [], Bool, ℕ, List, sym, subst}
+use Rattle.std.proofs.Common.{◌≡◌, [], Bool, List, sym, subst}
 use Rattle.std.specs.Arc.{arc_value}
-use Rattle.morsel_meaning.specs.Values.{Row, Table}
+use Rattle.morsel_meaning.specs.Values.{Row}
 use Rattle.morsel_join.specs.declared.build_side.Build.{Build}
 use Rattle.morsel_join.specs.BuildSides.{IsBuild}
 use Rattle.morsel_join.specs.Cuts.{GivesSome}

@@ -1,4 +1,4 @@
-use Rattle.std.proofs.Common.{[], refl, arith, sym, subst, rules}
+use Rattle.std.proofs.Common.{[], refl, arith, sym, subst}
 use Rattle.morsel_join.specs.declared.build_side.Build.{Build}
 use Rattle.morsel_join.specs.BuildSides.{IsBuild}
 use Rattle.morsel_join.specs.Probings.{AreNumbersOf}

@@ -1,6 +1,5 @@
 use Rattle.std.proofs.Common.{◌≡◌, ◌≤◌, ℕ, List, length, sym, subst}
 use Rattle.std.specs.Arc.{arc_value}
-use Rattle.morsel_meaning.specs.declared.value.Field.{Field}
 use Rattle.morsel_join.specs.declared.build_side.Build.{Build}
 use Rattle.morsel_join.specs.BuildSides.{IsBuild}
 use Rattle.morsel_join.specs.Cuts.{GivesSome}

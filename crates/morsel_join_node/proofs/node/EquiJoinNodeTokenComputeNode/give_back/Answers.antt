@@ -1,11 +1,10 @@
-use Rattle.std.proofs.Common.{◌≡◌, ◌<◌, ◌++◌, ◌∷◌, [], ℕ, List, All, Option, Some, refl, sym, ap, subst, ◌∙◌, arith}
+use Rattle.std.proofs.Common.{◌≡◌, ◌<◌, ◌++◌, ◌∷◌, [], List, All, Option, Some, refl, sym, subst, ◌∙◌, arith}
 use Rattle.std.specs.Prelude.{⊤}
 use Rattle.std.specs.Option.{IfSome}
 use Rattle.std.specs.List.{flat_map}
 use Rattle.std.specs.Arc.{arc_value}
 use Rattle.morsel_meaning.specs.declared.fault.Fault.{Fault}
 use Rattle.morsel_meaning.specs.declared.fault.Fault.TheVariants as faults
-use Rattle.morsel_meaning.specs.Values.{Row}
 use Rattle.morsel_load.specs.Loads.{LoadSeen}
 use Rattle.morsel_lane_pipe.specs.Tasks.{GivesOwn, KeepsAll, MakesOthers, TaskSeen}
 use Rattle.morsel_lane_pipe.specs.declared.receipts.Receipts.{Receipts}

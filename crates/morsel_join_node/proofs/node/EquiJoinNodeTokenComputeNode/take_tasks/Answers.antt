@@ -5,7 +5,6 @@ use Rattle.std.specs.List.{slice_get}
 use Rattle.std.specs.Option.{unwrap_or}
 use Rattle.std.specs.Arc.{arc_value}
 use Rattle.atomic_table.specs.Seated.{TableId}
-use Rattle.morsel_meaning.specs.declared.value.Field.{Field}
 use Rattle.morsel_merge.specs.Ends.{IsNewReceiver, IsNewSender}
 use Rattle.morsel_lane_pipe.specs.Tasks.{GivesOwn, HoldsTokensOf, KeepsAll, MakesOthers, TaskSeen}
 use Rattle.morsel_join.specs.declared.build_side.Build.{Build}
@@ -22,7 +21,7 @@ use Rattle.morsel_ports.specs.declared.node.Ends.TheVariants.{Absent, Parallel, 
 use Rattle.morsel_ports.specs.Nodes.{AreEndsOfKinds, AreUnitsBetween, UnitSeen, unit_between}
 use Rattle.morsel_join_phases.specs.declared.places.JoinAt.{JoinAt}
 use Rattle.morsel_join_phases.specs.declared.places.JoinAt.TheVariants as at
-use Rattle.morsel_join_phases.specs.JoinPhases.{FitsJoin, asked_job_of, at_of, build_of, kept_job_of}
+use Rattle.morsel_join_phases.specs.JoinPhases.{asked_job_of, at_of, build_of, kept_job_of}
 use Rattle.morsel_join_phases.specs.JoinTables.{MakesAt, recv_kinds_at, send_kinds_at}
 use Rattle.morsel_join_phases.proofs.StayLemmas.{stays_more}
 use Rattle.morsel_join_node.specs.declared.join_unit.JoinUnit.{JoinUnit}

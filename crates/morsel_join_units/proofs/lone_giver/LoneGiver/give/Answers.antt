@@ -1,5 +1,5 @@
-use Rattle.std.proofs.Common.{◌∙◌, List, ap, subst}
-use Rattle.morsel_meaning.specs.Values.{Row, Table}
+use Rattle.std.proofs.Common.{◌∙◌, ap, subst}
+use Rattle.morsel_meaning.specs.Values.{Table}
 use Rattle.morsel_load.specs.declared.morsels.Stretch.{Stretch}
 use Rattle.morsel_join.specs.LoneRows.{LeavesAlone}
 use Rattle.morsel_rows_job.specs.RowsJobs.{IsCutOf}

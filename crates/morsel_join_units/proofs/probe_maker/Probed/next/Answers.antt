@@ -1,5 +1,5 @@
-use Rattle.std.proofs.Common.{List, ap}
-use Rattle.morsel_meaning.specs.Values.{Row, Table}
+use Rattle.std.proofs.Common.{ap}
+use Rattle.morsel_meaning.specs.Values.{Table}
 use Rattle.morsel_load.specs.declared.morsels.Stretch.{Stretch}
 use Rattle.morsel_join.specs.Probings.{LooksUp}
 use Rattle.morsel_join_units.proofs.CutLemmas.{cut-next, given-next, rest-next}

@@ -1,4 +1,4 @@
-use Rattle.std.proofs.Common.{sym, subst, ◌∙◌, Ok}
+use Rattle.std.proofs.Common.{sym, subst, Ok}
 use Rattle.morsel_prims.specs.declared.lane.Ended.TheVariants.{Whole}
 use Rattle.morsel_stage.proofs.UnjoinedLemmas.{unjoined_sweep}
 use Rattle.morsel_lane_line.proofs.LeftLemmas.{none_left_if}

@@ -1,9 +1,6 @@
-use Rattle.std.proofs.Common.{sym, ◌∙◌, subst, ◌≡◌, length, OnOk, List}
-use Rattle.std.specs.Prelude.{Option}
+use Rattle.std.proofs.Common.{sym, ◌∙◌, subst, ◌≡◌}
 use Rattle.morsel_keys.specs.declared.reduction.Reduction.TheVariants as ops
 use Rattle.morsel_states.specs.States.{IsFlat}
-use Rattle.morsel_states.specs.GroupRows.{group_rows, PutsGroupRows}
-use Rattle.morsel_states.specs.GroupParts.{AreWithinLimit}
 use Rattle.morsel_states.proofs.RowLemmas.{all_written}
 use Rattle.morsel_states.proofs.states.States.count.Goals as goal
 

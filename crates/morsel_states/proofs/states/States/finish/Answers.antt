@@ -1,4 +1,4 @@
-use Rattle.std.proofs.Common.{subst, sym, ◌∙◌, ◌≡◌}
+use Rattle.std.proofs.Common.{subst, ◌≡◌}
 use Rattle.morsel_keys.specs.declared.reduction.Reduction.TheVariants as ops
 use Rattle.morsel_states.specs.States.{IsFlat}
 use Rattle.morsel_states.proofs.states.States.finish.Goals.{in-Lens, in-Sums, in-Bounds, in-Picks, in-Others}

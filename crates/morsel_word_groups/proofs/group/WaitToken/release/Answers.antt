@@ -1,4 +1,4 @@
-use Rattle.std.proofs.Common.{subst, rules}
+use Rattle.std.proofs.Common.{subst}
 use Rattle.morsel_prims.specs.Woken.{AreFoundWoken}
 use Rattle.morsel_word_groups.specs.Seen.{TokenSeen, FoundWaitingForLast}
 use Rattle.morsel_word_groups.proofs.WakeLemmas.{found_woken}
