@@ -1,5 +1,6 @@
 //! Flaws of a query that is in form.
 
+use crate::scans::{PlacedScan, left_of, name_on, pairs_of, right_of};
 use crate::shown::show_name;
 use crate::table::items_at;
 use crate::unsaid::Unsaid;
@@ -62,39 +63,35 @@ fn write_depth(out: &mut String, query: &Value) -> Result<(), AllocError> {
 
 /// Puts last how long a list of a scan is, and may be: of the right one where the left one is not to blame.
 fn write_len(out: &mut String, query: &Value, key: &str, most: usize) -> Result<(), AllocError> {
-    let len = len_at(query.get("left"), key);
+    let Some(left) = left_of(query) else {
+        return Ok(());
+    };
+    let len = len_at(left, key);
     match right_of(query) {
-        Some(scan) if 0 < len && len <= most => {
-            write_len_of(out, "join.right", key, len_at(Some(scan), key), most)
+        Some(right) if 0 < len && len <= most => {
+            write_len_of(out, right, key, len_at(right, key), most)
         }
-        _ => write_len_of(out, "left", key, len, most),
+        _ => write_len_of(out, left, key, len, most),
     }
 }
 
 /// How long the list of a scan is.
-fn len_at(scan: Option<&Value>, key: &str) -> usize {
-    match scan {
-        Some(scan) => match items_at(scan, key) {
-            Some(items) => items.len(),
-            None => 0,
-        },
+fn len_at(side: PlacedScan<'_>, key: &str) -> usize {
+    match items_at(side.scan, key) {
+        Some(items) => items.len(),
         None => 0,
     }
 }
 
-/// The right scan of a query's join.
-fn right_of(query: &Value) -> Option<&Value> {
-    query.get("join")?.get("right")
-}
-
-/// Puts last how long the list of the scan with this path is, and may be.
+/// Puts last how long the list of a scan is, and may be.
 fn write_len_of(
     out: &mut String,
-    scan: &str,
+    side: PlacedScan<'_>,
     key: &str,
     len: usize,
     most: usize,
 ) -> Result<(), AllocError> {
+    let scan = side.path;
     if len == 0 {
         write!(out, "{scan}.{key} is empty")
     } else {
@@ -104,9 +101,7 @@ fn write_len_of(
 
 /// Puts last which key of a join a side names twice.
 fn write_repeated_key(out: &mut String, query: &Value) -> Result<(), AllocError> {
-    let Some(pairs) = query.get("join").and_then(pairs_of) else {
-        return Ok(());
-    };
+    let pairs = pairs_of(query);
     let mut number: usize = 0;
     for pair in pairs {
         for side in [0usize, 1] {
@@ -121,16 +116,6 @@ fn write_repeated_key(out: &mut String, query: &Value) -> Result<(), AllocError>
         number = number.saturating_add(1);
     }
     Ok(())
-}
-
-/// The pairs of keys of a join.
-fn pairs_of(join: &Value) -> Option<&[Value]> {
-    items_at(join, "on")
-}
-
-/// The name of a side in a pair of keys: the left one, or the right one.
-fn name_on(pair: &Value, side: usize) -> Option<&str> {
-    pair.get(side)?.as_str()
 }
 
 /// Whether one of so many first pairs has the name on this side.
@@ -171,58 +156,75 @@ fn text_or<'t>(csv: &'t Value, key: &str, default: Option<&'t str>) -> Option<&'
     }
 }
 
-/// Puts last which options of `csv` are no bytes, or contradict each other.
+/// Puts last which options of `csv` are no bytes, or contradict each other: of the right scan where those of the left one are not
+/// to blame.
 fn write_bytes(out: &mut String, query: &Value) -> Result<(), AllocError> {
-    let Some(csv) = csv_of(query) else {
-        return Ok(());
-    };
-    let separator = text_or(csv, "separator", Some(","));
-    let quote = text_or(csv, "quote", Some("\""));
-    let eol = text_or(csv, "eol", Some("\n"));
-    if write_no_byte(out, "separator", separator)?
-        || write_no_byte(out, "quote", quote)?
-        || write_no_byte(out, "eol", eol)?
-        || write_line_byte(out, "separator", separator)?
-        || write_line_byte(out, "quote", quote)?
-        || write_same(out, ("separator", separator), ("quote", quote))?
-        || write_same(out, ("separator", separator), ("eol", eol))?
-        || write_same(out, ("quote", quote), ("eol", eol))?
+    if let Some(left) = left_of(query)
+        && write_bytes_of(out, left)?
     {
         return Ok(());
     }
-    if csv.get("comment").is_some() {
-        out.push_str("left.csv.comment: it is empty, not of ASCII, or has the eol")?;
+    if let Some(right) = right_of(query) {
+        write_bytes_of(out, right)?;
     }
     Ok(())
 }
 
-/// What `csv` of a scan is.
-fn csv_of(query: &Value) -> Option<&Value> {
-    query.get("left")?.get("csv")
+/// Puts last which options of `csv` of a scan are no bytes, or contradict each other, and answers whether any are.
+fn write_bytes_of(out: &mut String, side: PlacedScan<'_>) -> Result<bool, AllocError> {
+    let Some(csv) = side.scan.get("csv") else {
+        return Ok(false);
+    };
+    let path = side.path;
+    let separator = text_or(csv, "separator", Some(","));
+    let quote = text_or(csv, "quote", Some("\""));
+    let eol = text_or(csv, "eol", Some("\n"));
+    let comment = text_or(csv, "comment", None);
+    Ok(
+        write_no_byte(out, path, "separator", separator)?
+            || write_no_byte(out, path, "quote", quote)?
+            || write_no_byte(out, path, "eol", eol)?
+            || write_line_byte(out, path, "separator", separator)?
+            || write_line_byte(out, path, "quote", quote)?
+            || write_same(out, path, ("separator", separator), ("quote", quote))?
+            || write_same(out, path, ("separator", separator), ("eol", eol))?
+            || write_same(out, path, ("quote", quote), ("eol", eol))?
+            || write_comment(out, path, comment, eol)?,
+    )
 }
 
 /// Puts last that a text is not one ASCII character, and answers whether it is none.
-fn write_no_byte(out: &mut String, key: &str, text: Option<&str>) -> Result<bool, AllocError> {
+fn write_no_byte(
+    out: &mut String,
+    path: &str,
+    key: &str,
+    text: Option<&str>,
+) -> Result<bool, AllocError> {
     let Some(text) = text else {
         return Ok(false);
     };
     if text.len() == 1 {
         return Ok(false);
     }
-    write!(out, "left.csv.{key}: ")?;
+    write!(out, "{path}.csv.{key}: ")?;
     show_name(out, text)?;
     out.push_str(" is not one ASCII character")?;
     Ok(true)
 }
 
 /// Puts last that a text ends a line, and answers whether it does.
-fn write_line_byte(out: &mut String, key: &str, text: Option<&str>) -> Result<bool, AllocError> {
+fn write_line_byte(
+    out: &mut String,
+    path: &str,
+    key: &str,
+    text: Option<&str>,
+) -> Result<bool, AllocError> {
     if text != Some("\n") && text != Some("\r") {
         return Ok(false);
     }
     write!(
         out,
-        "left.csv.{key}: it is a line feed or a carriage return"
+        "{path}.csv.{key}: it is a line feed or a carriage return"
     )?;
     Ok(true)
 }
@@ -230,6 +232,7 @@ fn write_line_byte(out: &mut String, key: &str, text: Option<&str>) -> Result<bo
 /// Puts last that two options are the same, and answers whether they are.
 fn write_same(
     out: &mut String,
+    path: &str,
     first: (&str, Option<&str>),
     second: (&str, Option<&str>),
 ) -> Result<bool, AllocError> {
@@ -238,6 +241,47 @@ fn write_same(
     if text.is_none() || text != other {
         return Ok(false);
     }
-    write!(out, "left.csv: {first} and {second} are the same")?;
+    write!(out, "{path}.csv: {first} and {second} are the same")?;
     Ok(true)
+}
+
+/// Puts last that no comment begins with a text, and answers whether none does.
+fn write_comment(
+    out: &mut String,
+    path: &str,
+    comment: Option<&str>,
+    eol: Option<&str>,
+) -> Result<bool, AllocError> {
+    let Some(comment) = comment else {
+        return Ok(false);
+    };
+    if begins_comment(comment, eol) {
+        return Ok(false);
+    }
+    write!(
+        out,
+        "{path}.csv.comment: it is empty, not of ASCII, or has the eol"
+    )?;
+    Ok(true)
+}
+
+/// Whether comments may begin with a text where records end with this one.
+fn begins_comment(comment: &str, eol: Option<&str>) -> bool {
+    if comment.is_empty() {
+        return false;
+    }
+    for byte in comment.as_bytes() {
+        if *byte >= 128 || is_eol(*byte, eol) {
+            return false;
+        }
+    }
+    true
+}
+
+/// Whether records end with this byte.
+fn is_eol(byte: u8, eol: Option<&str>) -> bool {
+    match eol {
+        Some(text) => text.as_bytes().first() == Some(&byte),
+        None => false,
+    }
 }

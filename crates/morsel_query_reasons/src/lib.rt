@@ -11,6 +11,7 @@ mod mismatch;
 mod names;
 mod nearest;
 mod parts;
+mod scans;
 mod shown;
 mod table;
 mod unsaid;

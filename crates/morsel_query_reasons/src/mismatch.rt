@@ -1,6 +1,8 @@
-//! Which comparison of a filter does not fit its column.
+//! Which comparison of a filter does not fit its column, and which pair of keys is of two types.
 
 use crate::keys::items_of;
+use crate::names::write_scan_path;
+use crate::scans::{PlacedScan, left_of, name_on, pairs_of, right_of};
 use crate::shown::{show_name, show_value};
 use crate::table::{columns_of, text_at};
 use crate::unsaid::Unsaid;
@@ -42,47 +44,103 @@ fn first_text(tree: &Value) -> Option<&str> {
     tree.get(0)?.as_str()
 }
 
-/// Puts last which comparison does not fit the column of this name.
+/// Puts last which comparison does not fit the column of this name, or which key of a join its pair.
 pub fn write_mismatch(
     alloc: Global,
     out: &mut String,
     query: &Value,
     name: &str,
 ) -> Result<(), Unsaid> {
-    let Some(scan) = query.get("left") else {
+    let Some(left) = left_of(query) else {
         return Err(Unsaid);
     };
-    let Some(kind) = kind_named(alloc, scan, name)? else {
-        return Err(Unsaid);
-    };
-    show_name(out, name)?;
-    write!(out, " is {}", word_of(kind))?;
-    let Some(filter) = scan.get("filter") else {
+    if write_mismatch_of(alloc, out, query, left, name)? {
         return Ok(());
+    }
+    let Some(right) = right_of(query) else {
+        return Err(Unsaid);
     };
-    write_compared(alloc, out, scan, filter, (name, kind))
+    if write_mismatch_of(alloc, out, query, right, name)?
+        || write_pair(alloc, out, query, left, right, name)?
+    {
+        return Ok(());
+    }
+    Err(Unsaid)
 }
 
-/// Puts last with what the filter compares the column.
+/// Puts last which comparison of a scan's filter does not fit the column of this name, and answers whether one does not.
+fn write_mismatch_of(
+    alloc: Global,
+    out: &mut String,
+    query: &Value,
+    side: PlacedScan<'_>,
+    name: &str,
+) -> Result<bool, Unsaid> {
+    let Some(filter) = side.scan.get("filter") else {
+        return Ok(false);
+    };
+    let Some(kind) = kind_named(alloc, side.scan, name)? else {
+        return Ok(false);
+    };
+    let mut told = String::new(alloc);
+    if !write_compared(alloc, &mut told, side.scan, filter, (name, kind))? {
+        return Ok(false);
+    }
+    write_scan_path(out, query, side)?;
+    show_name(out, name)?;
+    write!(out, " is {}{told}", word_of(kind))?;
+    Ok(true)
+}
+
+/// Puts last which pair of keys, whose left one has this name, is of two types, and answers whether one is.
+fn write_pair(
+    alloc: Global,
+    out: &mut String,
+    query: &Value,
+    left: PlacedScan<'_>,
+    right: PlacedScan<'_>,
+    name: &str,
+) -> Result<bool, Unsaid> {
+    let mut number: usize = 0;
+    for pair in pairs_of(query) {
+        if name_on(pair, 0) == Some(name)
+            && let Some(other) = name_on(pair, 1)
+            && let Some(kind) = kind_named(alloc, left.scan, name)?
+            && let Some(found) = kind_named(alloc, right.scan, other)?
+            && kind != found
+        {
+            write!(out, "join.on[{number}]: ")?;
+            show_name(out, name)?;
+            write!(out, " of {} is {}, and ", left.path, word_of(kind))?;
+            show_name(out, other)?;
+            write!(out, " of {} is {}", right.path, word_of(found))?;
+            return Ok(true);
+        }
+        number = number.saturating_add(1);
+    }
+    Ok(false)
+}
+
+/// Puts last with what the filter compares the column that does not fit it, and answers whether there is such a comparison.
 fn write_compared(
     alloc: Global,
     out: &mut String,
     scan: &Value,
     filter: &Value,
     column: (&str, ColType),
-) -> Result<(), Unsaid> {
+) -> Result<bool, Unsaid> {
     let mut parts = Vec::new(alloc);
     parts.push(filter)?;
     for _ in 0..MOST_PARTS {
         let Some(part) = parts.pop() else {
-            return Ok(());
+            return Ok(false);
         };
         if write_part(alloc, out, scan, part, column)? {
-            return Ok(());
+            return Ok(true);
         }
         push_parts(part, &mut parts)?;
     }
-    Ok(())
+    Ok(false)
 }
 
 /// Puts the parts of a part last.

@@ -3,6 +3,7 @@
 //! Whoever asks has seen that the query is one, so what is not in form here is no reason to be told.
 
 use crate::dialect::CsvForm;
+use crate::scans::{PlacedScan, left_of, right_of};
 use crate::unsaid::Unsaid;
 use morsel_meaning::ColType;
 use serde_json::Value;
@@ -22,6 +23,8 @@ pub struct ColumnWords<'t> {
 #[derive(Debug, Drop)]
 pub struct CsvFile<'t> {
     pub file: &'t str,
+    /// Where its scan stands in a query.
+    pub scan: &'t str,
     pub dialect: CsvForm<'t>,
     pub columns: Vec<ColumnWords<'t>>,
     /// The columns that are kept, and those of which the filter speaks; none where all are kept.
@@ -70,6 +73,7 @@ pub fn kind_of(word: &str) -> Option<ColType> {
 pub fn scanned<'t>(alloc: Global, file: &'t str, schema: &'t str) -> Result<CsvFile<'t>, Unsaid> {
     Ok(CsvFile {
         file,
+        scan: "left",
         dialect: CsvForm::standard(),
         columns: columns_of_schema(alloc, schema)?,
         used: None,
@@ -99,37 +103,38 @@ fn column_of_part(part: &str) -> Option<ColumnWords<'_>> {
 
 /// The file of this number of a query, with its columns. Those of the left scan come first.
 pub fn queried(alloc: Global, query: &Value, file: u32) -> Result<CsvFile<'_>, Unsaid> {
-    let Some((scan, file)) = scan_with_file(query, file) else {
+    let Some((side, file)) = side_with_file(query, file) else {
         return Err(Unsaid);
     };
-    let columns = columns_of(alloc, scan)?;
-    with_used(alloc, scan, file, columns)
+    let columns = columns_of(alloc, side.scan)?;
+    with_used(alloc, side, file, columns)
 }
 
 /// The scan that has the file of this number of a query, and the file's name.
-fn scan_with_file(query: &Value, file: u32) -> Option<(&Value, &str)> {
+fn side_with_file(query: &Value, file: u32) -> Option<(PlacedScan<'_>, &str)> {
     let number = usize::try_from(file).ok()?;
-    let left = query.get("left")?;
-    let files = items_at(left, "files")?;
+    let left = left_of(query)?;
+    let files = items_at(left.scan, "files")?;
     if let Some(found) = files.get(number) {
         return Some((left, found.as_str()?));
     }
-    let right = query.get("join")?.get("right")?;
-    let found = items_at(right, "files")?.get(number.checked_sub(files.len())?)?;
+    let right = right_of(query)?;
+    let found = items_at(right.scan, "files")?.get(number.checked_sub(files.len())?)?;
     Some((right, found.as_str()?))
 }
 
 /// The table of these columns, and of those that are used.
 fn with_used<'t>(
     alloc: Global,
-    scan: &'t Value,
+    side: PlacedScan<'t>,
     file: &'t str,
     columns: Vec<ColumnWords<'t>>,
 ) -> Result<CsvFile<'t>, Unsaid> {
-    let used = used_names(alloc, scan)?;
+    let used = used_names(alloc, side.scan)?;
     Ok(CsvFile {
         file,
-        dialect: dialect_of(scan),
+        scan: side.path,
+        dialect: dialect_of(side.scan),
         columns,
         used,
     })
@@ -223,6 +228,15 @@ fn used_names(alloc: Global, scan: &Value) -> Result<Option<Vec<&str>>, Unsaid> 
         push_compared(alloc, filter, &mut names)?;
     }
     Ok(Some(names))
+}
+
+/// The names of which the filter of a scan speaks.
+pub fn compared_names(alloc: Global, scan: &Value) -> Result<Vec<&str>, Unsaid> {
+    let mut names = Vec::new(alloc);
+    if let Some(filter) = scan.get("filter") {
+        push_compared(alloc, filter, &mut names)?;
+    }
+    Ok(names)
 }
 
 /// The texts of a list.

@@ -243,7 +243,8 @@ fn write_separator(
         {
             write!(
                 out,
-                "; if {name} separates them, set left.csv.separator in a query"
+                "; if {name} separates them, set {}.csv.separator in a query",
+                table.scan
             )?;
             return Ok(());
         }

@@ -92,7 +92,7 @@ const NO_COLUMN: Case<'static> = Case {
         br#"{"left":{"format":"csv","files":["a"],"schema":[["id","int"],["name","text"],["n","int"]],"row_index":["row",0],"columns":["nmae"]},"sink":{"format":"ndjson"}}"#,
     )],
     line: "error 7: column not found: nmae",
-    told: "\"nmae\" is no column: name, n, row, id",
+    told: "\"nmae\" is no column: name, n, id",
 };
 
 /// Flaws of queries.
@@ -199,6 +199,126 @@ const FLAWS: &[Case<'static>] = &[
 #[test]
 fn flaws_of_queries_are_told(rt: HostRuntime) {
     all_hold(&rt, rt.alloc(), FLAWS);
+}
+
+/// A query with a join whose right key is no column.
+const NO_KEY: Case<'static> = Case {
+    words: "local q o",
+    files: &[(
+        "q",
+        br#"{"left":{"format":"csv","files":["a"],"schema":[["id","int"],["n","int"]]},"join":{"right":{"format":"csv","files":["b"],"schema":[["id","int"],["name","text"]]},"on":[["id","nmae"]]},"sink":{"format":"ndjson"}}"#,
+    )],
+    line: "error 7: column not found: nmae",
+    told: "join.on[0][1]: \"nmae\" is no column: name, id",
+};
+
+/// Flaws of queries with a join.
+const JOIN_FLAWS: &[Case<'static>] = &[
+    NO_KEY,
+    Case {
+        files: &[(
+            "q",
+            br#"{"left":{"format":"csv","files":["a"],"schema":[["id","int"],["n","int"]]},"join":{"right":{"format":"csv","files":["b"],"schema":[["id","int"],["name","text"]],"columns":["name"]},"on":[["id","id"]]},"sink":{"format":"ndjson"}}"#,
+        )],
+        line: "error 7: column not found: id",
+        told: "join.on[0][1]: \"id\" is not among join.right.columns",
+        ..NO_KEY
+    },
+    Case {
+        files: &[(
+            "q",
+            br#"{"left":{"format":"csv","files":["a"],"schema":[["id","int"],["n","int"]]},"join":{"right":{"format":"csv","files":["b"],"schema":[["id","int"],["name","text"]],"filter":["null","n"]},"on":[["id","id"]]},"sink":{"format":"ndjson"}}"#,
+        )],
+        line: "error 7: column not found: n",
+        told: "join.right: \"n\" is no column: id, name",
+        ..NO_KEY
+    },
+    Case {
+        files: &[(
+            "q",
+            br#"{"left":{"format":"csv","files":["a"],"schema":[["id","int"],["n","int"]],"columns":["name"]},"join":{"right":{"format":"csv","files":["b"],"schema":[["id","int"],["name","text"]]},"on":[["id","id"]]},"sink":{"format":"ndjson"}}"#,
+        )],
+        line: "error 7: column not found: name",
+        told: "left: \"name\" is no column: n, id",
+        ..NO_KEY
+    },
+    Case {
+        files: &[(
+            "q",
+            br#"{"left":{"format":"csv","files":["a"],"schema":[["id","int"],["n","int"]]},"join":{"right":{"format":"csv","files":["b"],"schema":[["id","int"],["name","text"]]},"on":[["id","name"]]},"sink":{"format":"ndjson"}}"#,
+        )],
+        line: "error 8: schema mismatch: id",
+        told: "join.on[0]: \"id\" of left is int, and \"name\" of join.right is text",
+        ..NO_KEY
+    },
+    Case {
+        files: &[(
+            "q",
+            br#"{"left":{"format":"csv","files":["a"],"schema":[["id","int"],["n","int"]],"filter":["gt","id",{"lit":1}]},"join":{"right":{"format":"csv","files":["b"],"schema":[["id","int"],["name","text"]],"filter":["is","id"]},"on":[["id","id"]]},"sink":{"format":"ndjson"}}"#,
+        )],
+        line: "error 8: schema mismatch: id",
+        told: "join.right: \"id\" is int, and is takes a bool",
+        ..NO_KEY
+    },
+    Case {
+        files: &[(
+            "q",
+            br#"{"left":{"format":"csv","files":["a"],"schema":[["id","int"],["n","int"]]},"join":{"right":{"format":"csv","files":["b"],"schema":[["id","int"],["name","text"]],"path":"id"},"on":[["id","id"]]},"sink":{"format":"ndjson"}}"#,
+        )],
+        line: "error 9: duplicate column: id",
+        told: "\"id\" is named by join.right.schema[0] and join.right.path",
+        ..NO_KEY
+    },
+    Case {
+        files: &[(
+            "q",
+            br#"{"left":{"format":"csv","files":["a"],"schema":[["id","int"],["n","int"]]},"join":{"right":{"format":"csv","files":["b"],"schema":[["id","int"],["n","int"]]},"on":[["id","id"]],"suffix":""},"sink":{"format":"ndjson"}}"#,
+        )],
+        line: "error 9: duplicate column: n",
+        told: "\"n\" is named by left.schema[1] and join.right.schema[1] with the suffix \"\"",
+        ..NO_KEY
+    },
+    Case {
+        files: &[(
+            "q",
+            br#"{"left":{"format":"csv","files":["a"],"schema":[["id","int"],["k","int"]]},"join":{"right":{"format":"csv","files":["b"],"schema":[["id","int"],["name","text"]]},"on":[["k","id"]],"kind":"right"},"sink":{"format":"ndjson"}}"#,
+        )],
+        line: "error 9: duplicate column: id",
+        told: "\"id\" is named by left.schema[0] and join.right.schema[0]",
+        ..NO_KEY
+    },
+    Case {
+        files: &[(
+            "q",
+            br#"{"left":{"format":"csv","files":["a"],"schema":[["id","int"],["n","int"]],"csv":{"comment":"%"}},"join":{"right":{"format":"csv","files":["b"],"schema":[["id","int"],["name","text"]],"csv":{"comment":""}},"on":[["id","id"]]},"sink":{"format":"ndjson"}}"#,
+        )],
+        line: "error 4: invalid query: parse bytes",
+        told: "join.right.csv.comment: it is empty, not of ASCII, or has the eol",
+        ..NO_KEY
+    },
+    Case {
+        files: &[(
+            "q",
+            br#"{"left":{"format":"csv","files":["a"],"schema":[["id","int"],["n","int"]]},"join":{"right":{"format":"csv","files":["b"],"schema":[["id","int"],["name","text"]]},"on":[]},"sink":{"format":"ndjson"}}"#,
+        )],
+        line: "error 4: invalid query: no keys",
+        told: "join.on is empty",
+        ..NO_KEY
+    },
+    Case {
+        files: &[(
+            "q",
+            br#"{"left":{"format":"csv","files":["a"],"schema":[["id","int"],["n","int"]]},"join":{"right":{"format":"csv","files":["b"],"schema":[["id","int"],["name","text"]]},"on":[["id","id"],["n","id"]]},"sink":{"format":"ndjson"}}"#,
+        )],
+        line: "error 4: invalid query: repeated key",
+        told: "join.on[1][1]: \"id\" is there twice",
+        ..NO_KEY
+    },
+];
+
+#[test]
+fn flaws_of_queries_with_a_join_are_told(rt: HostRuntime) {
+    all_hold(&rt, rt.alloc(), JOIN_FLAWS);
 }
 
 /// A text that is no JSON.
