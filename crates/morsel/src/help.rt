@@ -16,6 +16,10 @@ QUERY is a JSON object. \"left\" says which files are read, which columns they h
   slice                    [OFFSET, LENGTH]: which rows of all files
   row_index, path          [NAME, OFFSET]: a first column of numbers; NAME: a last column of files' names
   filter, columns          [\"gt\", COLUMN, {\"lit\": VALUE}] and the like; the columns that are kept
+\"join\", where there is one, says with which other rows they are joined:
+  right, on                a second scan, as \"left\" is one; a list of [LEFT COLUMN, RIGHT COLUMN] that are to be equal
+  kind, order              \"inner\", \"left\", \"right\" or \"full\"; \"none\", \"left\", \"right\", \"left_right\" or \"right_left\"
+  nulls, coalesce, suffix  whether nulls are equal; whether a pair's columns become one; what tells equal names apart
 \"sink\" is {\"format\": \"ndjson\"}, and \"options\" may set numbers such as chunk_bytes. docs/FORMATS.md has all keys.
 SCHEMA is NAME:TYPE joined by commas. TYPE is int, bool or text.
 
@@ -39,7 +43,7 @@ status, and what is printed:
   15   error 5: malformed file F at A           the record that begins at byte A is not CSV, or has more or fewer fields
   16   error 6: unsupported code C in file F    the file is compressed by gzip (31) or zstd (40)
   17   error 7: column not found: X             a name of the query is no column
-  18   error 8: schema mismatch: X              a filter compares column X with another type
+  18   error 8: schema mismatch: X              a filter or a join compares column X with another type
   19   error 9: duplicate column: X             two columns have one name
   20   error 10: not utf8, file F, at A         the record at byte A is not UTF-8
        error 10: ill typed, file F, at A        a field of the record at byte A does not fit its column
