@@ -1,0 +1,2 @@
+-- The proofs of these uses.
+mod JoinLemmas

@@ -1,0 +1,2 @@
+-- Joins of rows with one column.
+pub mod Joins

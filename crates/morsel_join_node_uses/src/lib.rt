@@ -1,0 +1,5 @@
+//! Uses of the node of a join as a query has it.
+#![tactic(auto)]
+
+#[cfg(test)]
+mod tests;
