@@ -7,13 +7,14 @@ use morsel_load::LoadJob;
 /// a load has some of them. Places are those that stretches go from and up to.
 pub trait RowsJob<K>: LoadJob<K> {
     ghost use Rattle.std.specs.Prelude.{◌≡◌, ◌++◌, ℕ, List, []};
+    ghost use Rattle.std.specs.List.{All};
     ghost use Rattle.morsel_meaning.specs.declared.value.Field.{Field};
     ghost use Rattle.morsel_meaning.specs.Values.{Row, Table};
     ghost use Rattle.morsel_load.specs.Sources.{SourceSeen};
     ghost use Rattle.morsel_load.specs.Loads.{LoadSeen, SeenMorsel};
     ghost use Rattle.morsel_load.specs.declared.morsels.Stretch.{Stretch};
     ghost use Rattle.morsel_join.specs.Sides.{KeptSide, rows_alone, rows_found};
-    ghost use Rattle.morsel_rows_job.specs.RowsJobs.{AreWholeRows, IsCutOf, alone_stretch};
+    ghost use Rattle.morsel_rows_job.specs.RowsJobs.{AreRowsWith, AreWholeRows, FollowCuts, IsCutFor, IsCutOf, RowsCut, alone_stretch, rows_of_cuts};
 
     /// Its loads are rows of these columns, in whole stretches.
     ghost gives_rows: { Self → List Field → Type 0 };
@@ -29,6 +30,16 @@ pub trait RowsJob<K>: LoadJob<K> {
 
     /// The second job is of one place, which gives the kept rows of this side that none of the first one's rows finds.
     ghost is_alone: { KeptSide → Self → Self → Type 0 };
+
+    /// Its loads are rows of these columns, in whole stretches or cut.
+    ghost gives_cuts: { Self → List Field → Type 0 };
+
+    /// All its places up to one give these rows at the end of what the lanes are for: behind a join what their rows find, or the one
+    /// place of the kept rows that none finds.
+    ghost yields: { Self → ℕ → List Row → Type 0 };
+
+    /// It is of one place, which gives these rows, of these columns.
+    ghost is_given: { List Field → List Row → Self → Type 0 };
 
     /// A load of rows in whole stretches is one.
     ghost are_rows: { (job : Self) (columns : List Field) (load : LoadSeen) → gives_rows job columns → Self.suits job load → AreWholeRows columns load };
@@ -49,4 +60,14 @@ pub trait RowsJob<K>: LoadJob<K> {
     /// Some of the kept rows that no row finds suit the job of their place.
     ghost alone_suit: { (side : KeptSide) (from to : Self) (asked : List Row) (found : Table) (seq : ℕ) (source : SourceSeen) (cut : Stretch) → is_alone side from to → is_all from asked
         → found.schema ≡ side.rules.output → IsCutOf (rows_alone side asked) alone_stretch found.rows cut → Self.suits to (SeenMorsel found seq source cut) };
+
+    /// A load of rows has its columns.
+    ghost are_cuts: { (job : Self) (columns : List Field) (load : LoadSeen) → gives_cuts job columns → Self.suits job load → AreRowsWith columns load };
+
+    /// Cuts that follow one another have the rows of all places up to where they end.
+    ghost cuts_yield: { (job : Self) (columns : List Field) (cuts : List RowsCut) (to : ℕ) → gives_cuts job columns → All (IsCutFor (λ made load. Self.suits made load) job) cuts → FollowCuts cuts to → yields job to (rows_of_cuts cuts) };
+
+    /// Some of the rows that are given suit the job of their place.
+    ghost given_suit: { (columns : List Field) (rows : List Row) (to : Self) (found : Table) (seq : ℕ) (source : SourceSeen) (cut : Stretch) → is_given columns rows to
+        → found.schema ≡ columns → IsCutOf rows alone_stretch found.rows cut → Self.suits to (SeenMorsel found seq source cut) };
 }
