@@ -2,11 +2,13 @@
 ghost use Rattle.std.specs.Prelude.{◌≡◌};
 ghost use Rattle.std.specs.Arc.{arc_value};
 ghost use Rattle.morsel_join.specs.BuildSides.{kept_side};
-ghost use Rattle.morsel_line.specs.RowStages.{AloneRows, FoundRows, ScannedRows};
+ghost use Rattle.morsel_line.specs.RowStages.{AloneRows, FoundRows, GivenRows, ScannedRows};
 
+use morsel_frame::Frame;
 use morsel_join::Build;
 use std::alloc::Global;
 use std::marker::Model;
+use std::snapshot::Snapshot;
 use std::sync::Arc;
 
 /// What rows are.
@@ -18,6 +20,8 @@ enum Rows {
     Found(Arc<Build, Global>),
     // The kept rows of a join that no row of the scan finds.
     Alone(Arc<Build, Global>),
+    // These rows.
+    Given(Snapshot<Frame>),
 }
 
 /// What the rows of a lane are: those of a scan, or what becomes of them.
@@ -59,6 +63,15 @@ impl RowStage {
     {
         RowStage {
             rows: Rows::Alone(build),
+        }
+    }
+
+    /// These rows. Contracts alone see them.
+    pub fn given(frame: &Frame) -> RowStage
+        ensures { result ≡ GivenRows frame.now.schema frame.now.rows }
+    {
+        RowStage {
+            rows: Rows::Given(Snapshot::of(frame)),
         }
     }
 }

@@ -20,7 +20,7 @@ use Rattle.morsel_scan.specs.StretchRows.{Gives}
 use Rattle.morsel_read.specs.ScanReads.{PiecesRead}
 use Rattle.morsel_drive.specs.Lines.{SuitsPart, IsDue}
 use Rattle.morsel_line.specs.Jobs.{Job}
-use Rattle.morsel_line.specs.RowStages.{StageSeen, ScannedRows, FoundRows, AloneRows, staged_columns}
+use Rattle.morsel_line.specs.RowStages.{StageSeen, ScannedRows, FoundRows, AloneRows, GivenRows, staged_columns}
 use Rattle.morsel_line.specs.ScanSources.{ReadsJob}
 use Rattle.morsel_line.specs.ScanJobs.{staged_text, job_axis, IsJobPiece, IsJobFault, IsPieceKind}
 
@@ -50,6 +50,7 @@ abbrev pub IsWholeIfScanned : StageSeen → Stretch → Type 0
 IsWholeIfScanned ScannedRows stretch = (stretch.skip ≡ 0) × (stretch.last ≡ true)
 IsWholeIfScanned (FoundRows side) stretch = Unit {0}
 IsWholeIfScanned (AloneRows side) stretch = Unit {0}
+IsWholeIfScanned (GivenRows fields rows) stretch = Unit {0}
 
 -- the columns of the rows of a lane
 abbrev pub lane_fields : LaneFor → List Field

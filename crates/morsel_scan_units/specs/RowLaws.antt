@@ -1,7 +1,10 @@
 -- What lanes of rows carry, before and behind a join.
-use Rattle.std.specs.Prelude.{ℕ, ◌+◌, ◌-◌, true, Ok, Err, List, [], ◌∷◌, ◌++◌, length, map, take, drop, slice_range}
-use Rattle.std.proofs.Common.{◌≡◌, refl, sym, ap, subst, ◌∙◌, arith, append-nil}
+use Rattle.std.specs.Prelude.{ℕ, ◌+◌, ◌-◌, Bool, true, false, Ok, Err, List, [], ◌∷◌, ◌++◌, length, map, take, drop, slice_range}
+use Rattle.std.specs.List.{All}
+use Rattle.std.proofs.Common.{◌≡◌, refl, sym, ap, subst, ◌∙◌, arith, append-nil, append_assoc}
+use Rattle.std.proofs.Math.Seq.{take-add}
 use Rattle.std.proofs.lemmas.List.{length-map, take_all, take-map, drop-map}
+use Rattle.std.proofs.lemmas.List.Elements.{All-head, All-tail, All-weaker}
 use Rattle.morsel_meaning.specs.declared.value.Field.{Field}
 use Rattle.morsel_meaning.specs.Values.{Row, Table}
 use Rattle.morsel_load.specs.Sources.{SourceSeen}
@@ -10,16 +13,17 @@ use Rattle.morsel_load.specs.declared.load.LoadKind.TheVariants.{Morsels, Pieces
 use Rattle.morsel_load.specs.declared.morsels.Stretch.{Stretch}
 use Rattle.morsel_scan.specs.ScanColumns.{output_fields}
 use Rattle.morsel_scan.specs.ScanRows.{followed_by}
+use Rattle.morsel_scan.specs.Ahead.{Axis}
 use Rattle.morsel_scan.specs.StretchRows.{Gives, collected, before_fault}
 use Rattle.morsel_scan.proofs.StretchLemmas.{Places, followed_by-ok, gives-append}
 use Rattle.morsel_join.specs.Sides.{KeptSide, rows_alone, rows_found}
 use Rattle.morsel_join.proofs.SideLemmas.{found-append}
-use Rattle.morsel_rows_job.specs.RowsJobs.{AreWholeRows, IsCutOf, alone_stretch}
+use Rattle.morsel_rows_job.specs.RowsJobs.{AreRowsWith, AreWholeRows, FollowCuts, GoOn, GoesOnBehind, IsCutFor, IsCutOf, RowsCut, alone_stretch, rows_of_cuts}
 use Rattle.morsel_line.specs.Jobs.{Job}
-use Rattle.morsel_line.specs.RowStages.{StageSeen, ScannedRows, FoundRows, AloneRows, given_found, staged_columns, staged_gives}
+use Rattle.morsel_line.specs.RowStages.{StageSeen, ScannedRows, FoundRows, AloneRows, GivenRows, given_found, staged_columns, staged_gives}
 use Rattle.morsel_line.specs.ScanJobs.{scan_axis, job_axis}
 use Rattle.morsel_scan_units.specs.LaneJobs.{LaneFor, TellsJob, SuitsLane, SuitsRows, IsWholeIfScanned}
-use Rattle.morsel_scan_units.specs.LaneRows.{CarriesRows, PlacesGive, AreScanRows, FindsBetween, AloneBetween}
+use Rattle.morsel_scan_units.specs.LaneRows.{CarriesCuts, CarriesRows, PlacesGive, PlacesYield, AreScanRows, FindsBetween, AloneBetween, IsGivenLane}
 
 -- the rows of a scan come in whole stretches
 pub are_whole : (lane : LaneFor) (columns : List Field) (load : LoadSeen) → CarriesRows lane columns → SuitsLane lane load → AreWholeRows columns load
@@ -120,3 +124,112 @@ alone_suits side from to asked found seq source cut alone all columns some =
             ends = λ last. some.ends last;
           });
     }
+
+-- rows have the columns of their lane
+pub have_columns : (lane : LaneFor) (columns : List Field) (load : LoadSeen) → CarriesCuts lane columns → SuitsLane lane load → AreRowsWith columns load
+have_columns lane columns (SeenMorsel frame seq source stretch) carries suits = suits.scan.0 ∙ carries.have
+have_columns lane columns (SeenPiece piece) carries suits = absurd (let both : Pieces ≡ Morsels = suits.kind ∙ carries.kind in cc)
+have_columns lane columns (SeenPart seq part) carries suits = absurd (let both : Parts ≡ Morsels = suits.kind ∙ carries.kind in cc)
+
+-- places give one list of rows
+gives_one : (gives : Places) (from to : ℕ) (a b : List Row) → Gives gives from to a → Gives gives from to b → a ≡ b
+gives_one gives from to a b g h = let x = g.all in let y = h.all in cc
+
+-- the rows of a cut are some of those that its stretch gives
+abbrev IsCutIn : Axis → RowsCut → Type 0
+IsCutIn axis cut = SuitsRows axis cut.frame.rows cut.stretch
+
+-- with the rows of its stretch before it, a cut has those up to its end
+cut-end : (axis : Axis) (cut : RowsCut) (all : List Row) → Gives axis.gives cut.stretch.from cut.stretch.to all → IsCutIn axis cut
+    → take cut.stretch.skip all ++ cut.frame.rows ≡ take (cut.stretch.skip + length cut.frame.rows) all
+cut-end axis cut all gives is =
+    let same : is.all ≡ all = gives_one axis.gives cut.stretch.from cut.stretch.to is.all all is.gives gives in
+    ap (λ rows. take cut.stretch.skip all ++ rows) (is.are ∙ ap (λ rows. take (length cut.frame.rows) (drop cut.stretch.skip rows)) same)
+    ∙ sym (take-add cut.stretch.skip (length cut.frame.rows) all)
+
+-- the last cut of a stretch has its last rows
+cut-last : (axis : Axis) (cut : RowsCut) (all : List Row) → Gives axis.gives cut.stretch.from cut.stretch.to all → IsCutIn axis cut → cut.stretch.last ≡ true
+    → take (cut.stretch.skip + length cut.frame.rows) all ≡ all
+cut-last axis cut all gives is last =
+    let same : is.all ≡ all = gives_one axis.gives cut.stretch.from cut.stretch.to is.all all is.gives gives in
+    let ends : cut.stretch.skip + length cut.frame.rows ≡ length all = is.ends last ∙ ap length same in
+    take_all (cut.stretch.skip + length cut.frame.rows) all (omega (arith, ends))
+
+-- rows of cuts after others, taken together
+cut-assoc : (before first rows others : List Row) → (before ++ first) ++ (rows ++ others) ≡ (before ++ (first ++ rows)) ++ others
+cut-assoc before first rows others = sym (append_assoc (before ++ first) rows others) ∙ ap (λ front. front ++ others) (append_assoc before first rows)
+
+-- cuts that go on after the rows before a place, and some of the stretch that begins there, give all up to their end
+cuts_go_on : (axis : Axis) (cut : RowsCut) (more : List RowsCut) (to : ℕ) (before all : List Row) → Gives axis.gives 0 cut.stretch.from before → Gives axis.gives cut.stretch.from cut.stretch.to all
+    → All (IsCutIn axis) (cut ∷ more) → GoOn cut more to → Gives axis.gives 0 to ((before ++ take cut.stretch.skip all) ++ rows_of_cuts (cut ∷ more))
+cuts_go_on axis cut [] to before all start gives are go =
+    let is = All-head (IsCutIn axis) cut [] are in
+    let whole : (before ++ take cut.stretch.skip all) ++ rows_of_cuts (cut ∷ []) ≡ before ++ all =
+    cut-assoc before (take cut.stretch.skip all) cut.frame.rows [] ∙ append-nil (before ++ (take cut.stretch.skip all ++ cut.frame.rows))
+    ∙ ap (λ rows. before ++ rows) (cut-end axis cut all gives is ∙ cut-last axis cut all gives is go.0) in
+    subst (λ (rows : List Row). Gives axis.gives 0 to rows) (sym whole)
+    (subst (λ end. Gives axis.gives 0 end (before ++ all)) go.1 (gives-append axis.gives 0 cut.stretch.from cut.stretch.to before all start gives))
+cuts_go_on axis cut (next ∷ more) to before all start gives are go = by cut.stretch.last refl go.0
+  where
+    is : IsCutIn axis cut
+    is = All-head (IsCutIn axis) cut (next ∷ more) are
+
+    later : All (IsCutIn axis) (next ∷ more)
+    later = All-tail (IsCutIn axis) cut (next ∷ more) are
+
+    front : (before ++ take cut.stretch.skip all) ++ rows_of_cuts (cut ∷ next ∷ more) ≡ (before ++ take (cut.stretch.skip + length cut.frame.rows) all) ++ rows_of_cuts (next ∷ more)
+    front = cut-assoc before (take cut.stretch.skip all) cut.frame.rows (rows_of_cuts (next ∷ more))
+        ∙ ap (λ rows. (before ++ rows) ++ rows_of_cuts (next ∷ more)) (cut-end axis cut all gives is)
+
+    by : (last : Bool) → cut.stretch.last ≡ last → GoesOnBehind last cut.stretch (length cut.frame.rows) next.stretch → Gives axis.gives 0 to ((before ++ take cut.stretch.skip all) ++ rows_of_cuts (cut ∷ next ∷ more))
+    by true last behind =
+        let next_is = All-head (IsCutIn axis) next more later in
+        let both : Gives axis.gives 0 cut.stretch.to (before ++ all) = gives-append axis.gives 0 cut.stretch.from cut.stretch.to before all start gives in
+        let there = cuts_go_on axis next more to (before ++ all) next_is.all (subst (λ place. Gives axis.gives 0 place (before ++ all)) (sym behind.0) both) next_is.gives later go.1 in
+        let none : (before ++ all) ++ take next.stretch.skip next_is.all ≡ before ++ all = ap (λ n. (before ++ all) ++ take n next_is.all) behind.1 ∙ append-nil (before ++ all) in
+        let same : (before ++ take cut.stretch.skip all) ++ rows_of_cuts (cut ∷ next ∷ more) ≡ ((before ++ all) ++ take next.stretch.skip next_is.all) ++ rows_of_cuts (next ∷ more) =
+        front ∙ ap (λ rows. (before ++ rows) ++ rows_of_cuts (next ∷ more)) (cut-last axis cut all gives is last) ∙ ap (λ rows. rows ++ rows_of_cuts (next ∷ more)) (sym none) in
+        subst (λ (rows : List Row). Gives axis.gives 0 to rows) (sym same) there
+    by false last behind =
+        let begun : Gives axis.gives 0 next.stretch.from before = subst (λ place. Gives axis.gives 0 place before) (sym behind.0) start in
+        let stretch : Gives axis.gives next.stretch.from next.stretch.to all = rw (behind.0, behind.1) gives in
+        let there = cuts_go_on axis next more to before all begun stretch later go.1 in
+        let same : (before ++ take cut.stretch.skip all) ++ rows_of_cuts (cut ∷ next ∷ more) ≡ (before ++ take next.stretch.skip all) ++ rows_of_cuts (next ∷ more) =
+        front ∙ ap (λ n. (before ++ take n all) ++ rows_of_cuts (next ∷ more)) (sym behind.2) in
+        subst (λ (rows : List Row). Gives axis.gives 0 to rows) (sym same) there
+
+-- cuts that follow one another from the first place give all up to their end
+cuts_follow : (axis : Axis) (cuts : List RowsCut) (to : ℕ) → All (IsCutIn axis) cuts → FollowCuts cuts to → Gives axis.gives 0 to (rows_of_cuts cuts)
+cuts_follow axis [] to are follow = subst (λ end. Gives axis.gives 0 end []) (sym follow) (record { order = omega arith; within = omega arith; all = refl })
+cuts_follow axis (cut ∷ more) to are follow =
+    let is = All-head (IsCutIn axis) cut more are in
+    let start : Gives axis.gives 0 cut.stretch.from [] = subst (λ place. Gives axis.gives 0 place []) (sym follow.0) (record { order = omega arith; within = omega arith; all = refl }) in
+    let there = cuts_go_on axis cut more to [] is.all start is.gives are follow.2 in
+    subst (λ skip. Gives axis.gives 0 to (take skip is.all ++ rows_of_cuts (cut ∷ more))) follow.1 there
+
+-- cuts of the lane's rows that follow one another have the rows of all places up to their end
+pub cuts_give : (lane : LaneFor) (cuts : List RowsCut) (to : ℕ) → All (IsCutFor (λ made load. SuitsLane made load) lane) cuts → FollowCuts cuts to → PlacesYield lane to (rows_of_cuts cuts)
+cuts_give lane cuts to are follow = λ job is.
+    cuts_follow (job_axis job) cuts to (All-weaker (IsCutFor (λ made load. SuitsLane made load) lane) (IsCutIn (job_axis job)) (λ cut suits. suits.1.told job is) cuts are) follow
+
+-- some of the rows that are given suit the lane of those
+pub given_suits : (columns : List Field) (rows : List Row) (to : LaneFor) (found : Table) (seq : ℕ) (source : SourceSeen) (cut : Stretch) → IsGivenLane columns rows to
+    → found.schema ≡ columns → IsCutOf rows alone_stretch found.rows cut → SuitsLane to (SeenMorsel found seq source cut)
+given_suits columns rows to found seq source cut given same some = record {
+  kind = sym given.0;
+  scan = (
+    same ∙ ap (λ (st : StageSeen). staged_columns st (output_fields to.scan.scan)) (sym given.1),
+    subst (λ (st : StageSeen). IsWholeIfScanned st cut) (sym given.1) tt,
+  );
+  told = λ job is. (let one : Gives (staged_gives (GivenRows columns rows) (scan_axis job).gives) 0 1 rows = record {
+    order = omega arith;
+    within = omega arith;
+    all = ap Ok (append-nil rows);
+  } in record {
+    all = rows;
+    gives = subst (λ (st : StageSeen). Gives (staged_gives st (scan_axis job).gives) cut.from cut.to rows) (sym (is.2 ∙ given.1)) (rw (some.from, some.to) one);
+    within = some.within;
+    are = some.are;
+    ends = λ last. some.ends last;
+  });
+}
