@@ -1,6 +1,7 @@
 -- What reads leave as it was, and what the loop keeps, turn by turn. `J` are the jobs that a line may be for, and what is told of a run is told for each job.
-use Rattle.std.specs.Prelude.{◌≡◌, ℕ, OnOk, IfErr, IfOk, Result, Ok, Err, List, [], ◌∷◌, ◌++◌}
-use Rattle.std.proofs.Common.{refl, ap, sym, subst, ◌∙◌, append-nil, inl, inr}
+use Rattle.std.specs.Prelude.{◌≡◌, ◌⊎◌, ℕ, ◌+◌, ◌-◌, ◌*◌, ◌≤◌, OnOk, IfErr, IfOk, Result, Ok, Err, List, [], ◌∷◌, ◌++◌}
+use Rattle.std.proofs.Common.{refl, ap, sym, subst, ◌∙◌, append-nil, inl, inr, arith}
+use Rattle.std.proofs.Math.Nat.{mul-add}
 use Rattle.std.specs.List.{flat_map, sum_by}
 use Rattle.std.proofs.lemmas.List.Concat.{flat_map-append}
 use Rattle.morsel_meaning.specs.declared.fault.Fault.{Fault}
@@ -20,6 +21,7 @@ use Rattle.morsel_drive.specs.Driving.{FitsInput, GivesInput, HasEnded}
 use Rattle.morsel_drive.specs.declared.caller.Input.{Input}
 use Rattle.morsel_drive.specs.declared.caller.Input.TheVariants.{Reading, Holding, Ended}
 use Rattle.morsel_drive.proofs.TransferLemmas.{each-append, either_reading, are_transfers, stays, readings_write_nothing}
+use Rattle.morsel_drain.specs.Finding.{HoldsRowsTo, IsRowsEnd}
 use Rattle.morsel_drain.specs.Draining.{EndsInput, LeavesAllElse, StopsReadsFor, DrainsAxis, Drains}
 
 -- reads fail no write
@@ -205,3 +207,15 @@ run_ended axis is_piece is_end is_due begun_reading begun_serving reads serves g
     when_ok : (result : Result ℕ Fault) (P : Type 0) → P → OnOk result P
     when_ok (Ok n) P holds = holds
     when_ok (Err fault) P holds = tt
+
+-- the rows that were seen are those of a piece of the input, if what is held now is one
+pub rows_seen : (is_piece : Piece → Type 0) (is_end : ℕ → ℕ → Type 0) (given asked : ℕ) (input : Input) (before after : ℕ) → IsRowsEnd is_piece before → (after ≡ before) ⊎ HoldsRowsTo input after
+    → FitsInput is_piece is_end given asked input → IsRowsEnd is_piece after
+rows_seen is_piece is_end given asked input before after was (inl same) fits = subst (IsRowsEnd is_piece) (sym same) was
+rows_seen is_piece is_end given asked Reading before after was (inr holds) fits = absurd holds
+rows_seen is_piece is_end given asked (Holding piece) before after was (inr holds) fits = inr (piece, fits, holds)
+rows_seen is_piece is_end given asked Ended before after was (inr holds) fits = absurd holds
+
+-- so many for each of some rows, and of those up to more
+pub rows_times : (per_row before after : ℕ) → before ≤ after → per_row * after ≡ per_row * before + per_row * (after - before)
+rows_times per_row before after within = ap (λ n. per_row * n) (let same : after ≡ before + (after - before) = omega (arith, within) in same) ∙ mul-add per_row before (after - before)

@@ -1,6 +1,7 @@
-use Rattle.std.proofs.Common.{ℕ, ◌≤◌, ◌∙◌, refl, subst, arith}
+use Rattle.std.proofs.Common.{ℕ, ◌≤◌, ◌∙◌, refl, subst, arith, inl}
 use Rattle.std.specs.Prelude.{List}
-use Rattle.morsel_drain.proofs.DrainLemmas.{leaves_all_else, midst_begun, midst_read, read_failed, midst_served, step_failed, run_ended}
+use Rattle.morsel_drain.specs.Finding.{IsRowsEnd}
+use Rattle.morsel_drain.proofs.DrainLemmas.{rows_seen, leaves_all_else, midst_begun, midst_read, read_failed, midst_served, step_failed, run_ended}
 use Rattle.morsel_drain.proofs.draining.drain.Goals as goal
 
 pub turns-init : goal.turns-init
@@ -12,6 +13,8 @@ turns-init g c = record {
   size = refl;
   within = let none = c.requires.given in omega (arith, none);
   few = omega arith;
+  small = omega arith;
+  found = λ job reading serving. inl refl;
   idle = omega arith;
   far = omega arith;
   same = refl;
@@ -81,9 +84,14 @@ turns-preserved g c =
       joined = c.in-Empty.ensures.joined c.in_default.ensures.joined;
       size = c.in-Ok.ensures.same_size (g.H.Io.seen c.args.io.now).sizes ∙ c.turns.invariant.size;
       within = omega (arith, size, within);
-      few = let few = c.turns.invariant.few in let one = c.in_default.ensures.counted in let more = c.after_sweep-reached.ensures.counted in omega (arith, few, one, more);
-      idle = c.after_sweep-reached.ensures.idle;
-      far = c.after_sweep-reached.ensures.within (g.S.PieceSource.size c.args.reader.now (g.H.Io.seen c.args.io.now).sizes) (omega (arith, size, within, given)) c.turns.invariant.far;
+      few = let few = c.turns.invariant.few in let one = c.in_default.ensures.counted in let found = c.see_rows-finding.ensures.spare in let more = c.after_finding-after.ensures.counted in
+          let same = c.after_finding-after.ensures.rows in rw same (omega (arith, few, one, found, more));
+      small = rw c.after_finding-after.ensures.rows (c.see_rows-finding.ensures.small c.turns.invariant.small);
+      found = λ job reading serving. rw c.after_finding-after.ensures.rows
+          (rows_seen (g.L.Job.LineJob.is_piece job) (g.L.Job.LineJob.is_end job) (g.S.PieceSource.given c.read_next.new.reader) (g.S.PieceSource.asked c.read_next.new.reader) c.in-Ok.input c.turns.finding.rows c.see_rows-finding.result.rows
+          (c.turns.invariant.found job reading serving) c.see_rows-finding.ensures.rows (read.sought_them job reading serving).fits);
+      idle = c.after_finding-after.ensures.idle;
+      far = c.after_finding-after.ensures.within (g.S.PieceSource.size c.args.reader.now (g.H.Io.seen c.args.io.now).sizes) (omega (arith, size, within, given)) c.turns.invariant.far;
       same = (leaves_all_else did.reads _ _ did.are did.does).sizes ∙ c.turns.invariant.same;
       fits = c.feed_on-input.ensures.fits;
       ended = λ end. c.in-Ok.ensures.ended (c.feed_on-input.ensures.ended end);
@@ -95,3 +103,52 @@ returns-clause-drains g c = run_ended _ _ _ _ _ _ _ _ _ _ _ _ _ _ _ _ _ _ c.turn
 
 pub returns-then-reached-ge-IDLE_SWEEPS-clause-drains : goal.returns-then-reached-ge-IDLE_SWEEPS-clause-drains
 returns-then-reached-ge-IDLE_SWEEPS-clause-drains g c = run_ended _ _ _ _ _ _ _ _ _ _ _ _ _ _ _ _ _ _ c.turns.invariant.reads tt (λ end. (c.turns.invariant.ended end, c.turns.invariant.suits))
+
+-- the rows of the pieces that were read before this turn, which is within the sweeps of its test
+pub returns-in-Err-clause-sweeps : goal.returns-in-Err-clause-sweeps
+returns-in-Err-clause-sweeps g c = record {
+  rows = c.turns.finding.rows;
+  few = let few = c.turns.invariant.few in let idle = c.turns.invariant.idle in let far = c.turns.invariant.far in omega (arith, few, idle, far);
+  small = c.turns.invariant.small;
+  within = c.turns.invariant.found;
+}
+
+pub returns-in-Err-step-clause-sweeps : goal.returns-in-Err-step-clause-sweeps
+returns-in-Err-step-clause-sweeps g c = record {
+  rows = c.turns.finding.rows;
+  few = let few = c.turns.invariant.few in let idle = c.if-reached-ge-IDLE_SWEEPS.false in let far = c.turns.invariant.far in let one = c.step.ensures.counted in omega (arith, few, idle, far, one);
+  small = c.turns.invariant.small;
+  within = c.turns.invariant.found;
+}
+
+pub returns-in-Whole-clause-sweeps : goal.returns-in-Whole-clause-sweeps
+returns-in-Whole-clause-sweeps g c = record {
+  rows = c.turns.finding.rows;
+  few = let few = c.turns.invariant.few in let idle = c.if-reached-ge-IDLE_SWEEPS.false in let far = c.turns.invariant.far in let one = c.in_default.ensures.counted in omega (arith, few, idle, far, one);
+  small = c.turns.invariant.small;
+  within = c.turns.invariant.found;
+}
+
+pub returns-in-Part-clause-sweeps : goal.returns-in-Part-clause-sweeps
+returns-in-Part-clause-sweeps g c = record {
+  rows = c.turns.finding.rows;
+  few = let few = c.turns.invariant.few in let idle = c.if-reached-ge-IDLE_SWEEPS.false in let far = c.turns.invariant.far in let one = c.in_default.ensures.counted in omega (arith, few, idle, far, one);
+  small = c.turns.invariant.small;
+  within = c.turns.invariant.found;
+}
+
+pub returns-clause-sweeps : goal.returns-clause-sweeps
+returns-clause-sweeps g c = record {
+  rows = c.turns.finding.rows;
+  few = let few = c.turns.invariant.few in let idle = c.turns.invariant.idle in let far = c.turns.invariant.far in omega (arith, few, idle, far);
+  small = c.turns.invariant.small;
+  within = c.turns.invariant.found;
+}
+
+pub returns-then-reached-ge-IDLE_SWEEPS-clause-sweeps : goal.returns-then-reached-ge-IDLE_SWEEPS-clause-sweeps
+returns-then-reached-ge-IDLE_SWEEPS-clause-sweeps g c = record {
+  rows = c.turns.finding.rows;
+  few = let few = c.turns.invariant.few in let idle = c.turns.invariant.idle in let far = c.turns.invariant.far in omega (arith, few, idle, far);
+  small = c.turns.invariant.small;
+  within = c.turns.invariant.found;
+}

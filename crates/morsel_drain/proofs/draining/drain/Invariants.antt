@@ -1,6 +1,7 @@
 use Rattle.std.proofs.Common.{◌≡◌, ◌+◌, ◌*◌, ◌≤◌}
 use Rattle.morsel_drive.specs.Lines.{ReadsFor}
 use Rattle.morsel_drive.specs.Driving.{HoldsFitting, HasEnded}
+use Rattle.morsel_drain.specs.Finding.{IsRowsEnd}
 use Rattle.morsel_drain.proofs.DrainLemmas.{ToldMidst}
 use Rattle.morsel_drain.proofs.draining.drain.Given as goal
 
@@ -13,7 +14,9 @@ invariant-turns g l = record {
   joined : g.L.Line.is_joined l.line;
   size : g.S.PieceSource.size l.reader (g.H.Io.seen l.fn.io).sizes ≡ g.S.PieceSource.size l.fn.reader (g.H.Io.seen l.fn.io).sizes;
   within : g.S.PieceSource.given l.reader ≤ g.S.PieceSource.size l.fn.reader (g.H.Io.seen l.fn.io).sizes;
-  few : l.steps ≤ l.fn.steps + 512 * l.reached.furthest + l.reached.idle;
+  few : l.steps + l.finding.spare ≤ l.fn.steps + 512 * l.reached.furthest + l.reached.idle + 512 * (l.per_row * l.finding.rows);
+  small : l.finding.rows ≤ 4294967295;
+  found : (job : g.row.L-Job.Denot) → g.S.PieceSource.reads l.fn.reader job (g.H.Io.seen l.fn.io) → g.L.Line.serves l.fn.line job → IsRowsEnd (g.L.Job.LineJob.is_piece job) l.finding.rows;
   idle : l.reached.idle ≤ 512;
   far : l.reached.furthest ≤ g.S.PieceSource.size l.fn.reader (g.H.Io.seen l.fn.io).sizes;
   same : (g.H.Io.seen l.io).sizes ≡ (g.H.Io.seen l.fn.io).sizes;
