@@ -12,4 +12,5 @@ pub use lone_giver::LoneGiver;
 pub use looked_up::{LookedUp, looked_in_order};
 pub use order::in_order;
 pub use probe_maker::ProbeMaker;
+pub use row_cutter::RowCutter;
 pub use row_keeper::{KeptRows, RowKeeper};

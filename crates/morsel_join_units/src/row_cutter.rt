@@ -11,19 +11,21 @@ use morsel_pipe::MorselSeq;
 /// Makes loads of the rows of one stretch, which have one number and the tokens of one source.
 #[derive(Drop)]
 pub struct RowCutter {
-    pub(crate) seq: MorselSeq,
-    pub(crate) source: SourceToken,
+    /// The number of its loads.
+    pub seq: MorselSeq,
+    /// The source of their tokens.
+    pub source: SourceToken,
     /// Where the stretch begins.
-    pub(crate) from: u64,
+    pub from: u64,
     /// Where it ends.
-    pub(crate) to: u64,
+    pub to: u64,
     /// How many of its rows were given.
-    pub(crate) given: u64,
+    pub given: u64,
 }
 
 impl RowCutter {
     /// The next rows of the stretch, as a load.
-    pub(crate) fn cut<K, J>(&mut self, some: SomeRows) -> Result<Morsel<K, J>, Fault>
+    pub fn cut<K, J>(&mut self, some: SomeRows) -> Result<Morsel<K, J>, Fault>
         ensures same { (self.new.seq ≡ self.old.seq) × (self.new.source ≡ self.old.source) × (self.new.from ≡ self.old.from) × (self.new.to ≡ self.old.to) }
         ensures given { OnOk result (self.new.given ≡ self.old.given + length some.frame.rows) }
         ensures frame { IfOk result (λ morsel. morsel.frame ≡ some.frame) }
