@@ -209,12 +209,13 @@ run_ended axis is_piece is_end is_due begun_reading begun_serving reads serves g
     when_ok (Err fault) P holds = tt
 
 -- the rows that were seen are those of a piece of the input, if what is held now is one
-pub rows_seen : (is_piece : Piece → Type 0) (is_end : ℕ → ℕ → Type 0) (given asked : ℕ) (input : Input) (before after : ℕ) → IsRowsEnd is_piece before → (after ≡ before) ⊎ HoldsRowsTo input after
+pub rows_seen : (is_piece : Piece → Type 0) (is_end : ℕ → ℕ → Type 0) (given asked : ℕ) (input : Input) (before held after : ℕ) → IsRowsEnd is_piece before → (held ≡ 0) ⊎ HoldsRowsTo input held → (after ≡ before) ⊎ (after ≡ held)
     → FitsInput is_piece is_end given asked input → IsRowsEnd is_piece after
-rows_seen is_piece is_end given asked input before after was (inl same) fits = subst (IsRowsEnd is_piece) (sym same) was
-rows_seen is_piece is_end given asked Reading before after was (inr holds) fits = absurd holds
-rows_seen is_piece is_end given asked (Holding piece) before after was (inr holds) fits = inr (piece, fits, holds)
-rows_seen is_piece is_end given asked Ended before after was (inr holds) fits = absurd holds
+rows_seen is_piece is_end given asked input before held after was holds (inl same) fits = subst (IsRowsEnd is_piece) (sym same) was
+rows_seen is_piece is_end given asked input before held after was (inl none) (inr same) fits = inl (same ∙ none)
+rows_seen is_piece is_end given asked Reading before held after was (inr holds) (inr same) fits = absurd holds
+rows_seen is_piece is_end given asked (Holding piece) before held after was (inr holds) (inr same) fits = inr (piece, fits, same ∙ holds)
+rows_seen is_piece is_end given asked Ended before held after was (inr holds) (inr same) fits = absurd holds
 
 -- so many for each of some rows, and of those up to more
 pub rows_times : (per_row before after : ℕ) → before ≤ after → per_row * after ≡ per_row * before + per_row * (after - before)

@@ -69,7 +69,8 @@ pub fn drain<H: Io, L: Line, S: PieceSource<H, <L as Line>::Job>, G: Gate, Y: Le
             Ok(input) => input,
             Err(fault) => return Err(fault),
         };
-        finding = see_rows(&input, per_row, finding);
+        let held = rows_held(&input);
+        finding = see_rows(held, per_row, finding);
         input = feed_on(line, input);
         if let Err(fault) = line.step(gate, steps) {
             return Err(fault);
@@ -120,17 +121,24 @@ fn read_next<H: Io, J: LineJob, S: PieceSource<H, J>>(
     }
 }
 
-/// The sweeps that rows may bring, with those of the piece that is held.
-fn see_rows(input: &Input, per_row: u64, finding: Finding) -> Finding
+/// The position behind the last row of the piece that is held.
+fn rows_held(input: &Input) -> u64
     requires fits { HoldsFitting input.now }
-    ensures rows { (result.rows ≡ finding.rows) ⊎ HoldsRowsTo input.now result.rows }
-    ensures small { finding.rows ≤ 4294967295 → result.rows ≤ 4294967295 }
+    ensures rows { (result ≡ 0) ⊎ HoldsRowsTo input.now result }
+    ensures small { result ≤ 4294967295 }
+{
+    match input {
+        Input::Holding(piece) => piece.first_row + piece.rows as u64,
+        _ => 0,
+    }
+}
+
+/// The sweeps that rows may still bring, up to those before this position.
+fn see_rows(rows: u64, per_row: u64, finding: Finding) -> Finding
+    ensures rows { (result.rows ≡ finding.rows) ⊎ (result.rows ≡ rows) }
+    ensures small { rows ≤ 4294967295 → finding.rows ≤ 4294967295 → result.rows ≤ 4294967295 }
     ensures spare { result.spare + 512 * (per_row * finding.rows) ≤ finding.spare + 512 * (per_row * result.rows) }
 {
-    let Input::Holding(piece) = input else {
-        return finding;
-    };
-    let rows = piece.first_row + piece.rows as u64;
     if rows <= finding.rows {
         return finding;
     }

@@ -1,5 +1,5 @@
--- The node of a join in each of its three phases, and what the lanes of ports are for.
-use Rattle.std.specs.Prelude.{◌≡◌, ℕ, List, [], ◌∷◌, Some}
+-- The node of a join in each of its three phases, nodes that keep and nodes that give with other ports or none, and what the lanes of ports are for.
+use Rattle.std.specs.Prelude.{◌≡◌, ℕ, List, [], ◌∷◌, Some, map}
 use Rattle.morsel_ports.specs.Nodes.{NodeSeen}
 use Rattle.morsel_ports.specs.declared.node.PortKind.{PortKind}
 use Rattle.morsel_ports.specs.declared.node.PortKind.TheVariants.{Absent, Serial, Parallel}
@@ -46,3 +46,22 @@ pub record AreForSending {J : Type 0} (to : J) (recv send : List J) : Type 0 whe
   pub second : J
   pub takes : recv ≡ first ∷ second ∷ []
   pub gives : send ≡ to ∷ []
+
+-- a node that was made ready for so many pipelines, and has no unit out, keeps what comes through its first port, whose lanes are for this job; nothing comes through its other receiving ports, and nothing goes through the sending one
+pub record KeepsFor {J : Type 0} (pipelines : ℕ) (job : J) (recv send : List J) (seen : NodeSeen) : Type 0 where
+  pub others : List J
+  pub unused : J
+  pub takes : recv ≡ job ∷ others
+  pub gives : send ≡ unused ∷ []
+  pub ready : seen.pipelines ≡ Some pipelines
+  pub none_out : seen.units ≡ 0
+  pub recv_kinds : seen.recv_kinds ≡ Parallel ∷ map (λ (other : J). Absent) others
+  pub send_kinds : seen.send_kinds ≡ Absent ∷ []
+
+-- a node that was made ready for so many pipelines, and has no unit out, gives through its sending port, whose lanes are for this job; nothing comes through its receiving ports
+pub record GivesFor {J : Type 0} (pipelines : ℕ) (job : J) (recv send : List J) (seen : NodeSeen) : Type 0 where
+  pub gives : send ≡ job ∷ []
+  pub ready : seen.pipelines ≡ Some pipelines
+  pub none_out : seen.units ≡ 0
+  pub recv_kinds : seen.recv_kinds ≡ map (λ (from : J). Absent) recv
+  pub send_kinds : seen.send_kinds ≡ Serial ∷ []

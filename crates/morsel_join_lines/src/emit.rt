@@ -5,7 +5,7 @@ ghost use Rattle.morsel_merge.specs.Ends.{IsNewReceiver, IsNewSender};
 ghost use Rattle.morsel_lane_pipe.specs.Tasks.{HoldsTokensOf};
 ghost use Rattle.morsel_phase.specs.Lines.{IsLineNode};
 ghost use Rattle.morsel_ports.specs.Pipes.{ToMerge, ToSpread, pipe_receivers, pipe_senders, pipelines_of, stage_of};
-ghost use Rattle.morsel_join_lines.specs.JoinNodes.{AreForOne, AreForSending, IsGiving};
+ghost use Rattle.morsel_join_lines.specs.JoinNodes.{AreForOne, GivesFor};
 ghost use Rattle.morsel_join_lines.specs.TasksOf.{AreTasksOf};
 
 use crate::ends::{merged_ends, spread_ends};
@@ -78,9 +78,8 @@ where
     M: ComputeNode<L, J> + Drop,
     Z: ComputeNode<L, J> + Drop,
     requires pipelines { (1 ≤ pipelines) × (pipelines ≤ 32768) }
-    requires first { IsGiving ready (M.seen nodes.first) }
+    requires first { GivesFor ready jobs.kept.now jobs.first.recv.now.items jobs.first.send.now.items (M.seen nodes.first) }
     requires last { IsLineNode pipelines (Z.seen nodes.last) }
-    requires first_jobs { AreForSending jobs.kept.now jobs.first.recv.now.items jobs.first.send.now.items }
     requires last_jobs { AreForOne jobs.kept.now jobs.given.now jobs.last.recv.now.items jobs.last.send.now.items }
     requires first_fits { M.fits nodes.first jobs.first.recv.now.items jobs.first.send.now.items }
     requires last_fits { Z.fits nodes.last jobs.last.recv.now.items jobs.last.send.now.items }

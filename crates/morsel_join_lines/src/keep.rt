@@ -5,7 +5,7 @@ ghost use Rattle.morsel_merge.specs.Ends.{IsNewReceiver, IsNewSender};
 ghost use Rattle.morsel_lane_pipe.specs.Tasks.{HoldsTokensOf};
 ghost use Rattle.morsel_phase.specs.Lines.{IsLineNode};
 ghost use Rattle.morsel_ports.specs.Pipes.{ToSpread, pipe_receivers, pipe_senders, pipelines_of, stage_of};
-ghost use Rattle.morsel_join_lines.specs.JoinNodes.{AreForFirst, AreForOne, IsKeeping};
+ghost use Rattle.morsel_join_lines.specs.JoinNodes.{AreForOne, KeepsFor};
 ghost use Rattle.morsel_join_lines.specs.TasksOf.{AreTasksOf};
 
 use crate::ends::{shared_ends, spread_ends};
@@ -75,9 +75,8 @@ where
     M: ComputeNode<L, J> + Drop,
     requires pipelines { (1 ≤ pipelines) × (pipelines ≤ 32768) }
     requires first { IsLineNode pipelines (A.seen nodes.first) }
-    requires last { IsKeeping pipelines (M.seen nodes.last) }
+    requires last { KeepsFor pipelines jobs.between.now jobs.last.recv.now.items jobs.last.send.now.items (M.seen nodes.last) }
     requires first_jobs { AreForOne jobs.fed.now jobs.between.now jobs.first.recv.now.items jobs.first.send.now.items }
-    requires last_jobs { AreForFirst jobs.between.now jobs.last.recv.now.items jobs.last.send.now.items }
     requires first_fits { A.fits nodes.first jobs.first.recv.now.items jobs.first.send.now.items }
     requires last_fits { M.fits nodes.last jobs.last.recv.now.items jobs.last.send.now.items }
     requires first_tokens { All (λ job. HoldsTokensOf J.holds L.token_home job (L.Board.id board.old).group_table) jobs.first.recv.now.items }

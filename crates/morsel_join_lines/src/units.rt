@@ -1,10 +1,12 @@
 //! The units of a node between the ends of its ports.
-ghost use Rattle.std.specs.Prelude.{◌≡◌, ℕ, ◌∷◌, [], All, IfOk, IsOkUnless, length};
+ghost use Rattle.std.specs.Prelude.{◌≡◌, ℕ, ◌∷◌, ◌++◌, [], All, List, IfOk, OnOk, IsOkUnless, length, replicate};
 ghost use Rattle.morsel_meaning.specs.declared.fault.Fault.TheVariants.{OutOfMemory};
 ghost use Rattle.morsel_merge.specs.Ends.{IsNewReceiver, IsNewSender};
 ghost use Rattle.morsel_lane_pipe.specs.Tasks.{HoldsTokensOf};
 ghost use Rattle.morsel_phase.specs.Lines.{IsLineNode};
-ghost use Rattle.morsel_join_lines.specs.JoinNodes.{AreForFirst, AreForOne, AreForSecond, AreForSending, IsFinding, IsGiving, IsKeeping};
+ghost use Rattle.morsel_ports.specs.declared.node.Ends.{Ends};
+ghost use Rattle.morsel_ports.specs.declared.node.Ends.TheVariants.{Absent};
+ghost use Rattle.morsel_join_lines.specs.JoinNodes.{AreForOne, AreForSecond, GivesFor, IsFinding, KeepsFor};
 ghost use Rattle.morsel_join_lines.specs.TasksOf.{AreTasksOf};
 
 use morsel_load::{Load, LoadJob};
@@ -43,6 +45,41 @@ fn two_ports<E: Drop>(alloc: Global, first: Ends<E>, second: Ends<E>) -> Result<
     let mut ports = Vec::new(alloc);
     ports.push(first)?;
     ports.push(second)?;
+    Ok(ports)
+}
+
+/// Gives no ends to so many more ports.
+fn add_absent<E: Drop>(ports: &mut Vec<Ends<E>>, more: usize) -> Result<(), Fault>
+    ensures ports { OnOk result (ports.new.items ≡ ports.old.items ++ replicate more Absent) }
+    ensures out_of_memory { IsOkUnless result OutOfMemory }
+{
+    for _ in 0..more {
+        ports.push(Ends::Absent)?;
+    }
+    Ok(())
+}
+
+/// What ports get of which the first one alone has ends; there is one for each of these jobs.
+fn first_ports<E: Drop, J>(
+    alloc: Global,
+    first: Ends<E>,
+    jobs: &Vec<J>,
+) -> Result<Vec<Ends<E>>, Fault>
+    ensures ports { (job : J) (others : List J) → jobs.now.items ≡ job ∷ others → IfOk result (λ ports. ports.items ≡ first ∷ replicate (length others) Absent) }
+    ensures out_of_memory { IsOkUnless result OutOfMemory }
+{
+    let mut ports = one_port(alloc, first)?;
+    add_absent(&mut ports, jobs.len().saturating_sub(1))?;
+    Ok(ports)
+}
+
+/// What ports get of which none has ends; there is one for each of these jobs.
+fn no_ports<E: Drop, J>(alloc: Global, jobs: &Vec<J>) -> Result<Vec<Ends<E>>, Fault>
+    ensures ports { IfOk result (λ ports. ports.items ≡ replicate (length jobs.now.items) Absent) }
+    ensures out_of_memory { IsOkUnless result OutOfMemory }
+{
+    let mut ports = Vec::new(alloc);
+    add_absent(&mut ports, jobs.len())?;
     Ok(ports)
 }
 
@@ -92,8 +129,7 @@ where
     L: Tokens + Lanes<Load<<L as Tokens>::Token, J>>,
     J: LoadJob<<L as Tokens>::Token>,
     N: ComputeNode<L, J> + Drop,
-    requires node { IsKeeping (length from.items) (N.seen node) }
-    requires jobs { AreForFirst job.now jobs.recv.now.items jobs.send.now.items }
+    requires node { KeepsFor (length from.items) job.now jobs.recv.now.items jobs.send.now.items (N.seen node) }
     requires fits { N.fits node jobs.recv.now.items jobs.send.now.items }
     requires from { All (IsNewReceiver L.Receiver.home L.Receiver.job L.Receiver.taken L.Receiver.is_whole L.Receiver.is_cut (L.Board.id board.old).lane_table job.now) from.items }
     requires tokens { All (λ job. HoldsTokensOf J.holds L.token_home job (L.Board.id board.old).group_table) jobs.recv.now.items }
@@ -102,7 +138,7 @@ where
     ensures out_of_memory { IsOkUnless result OutOfMemory }
     ensures same_board { L.Board.id board.new ≡ L.Board.id board.old }
 {
-    let recv = two_ports(alloc, Ends::Parallel(from), Ends::Absent)?;
+    let recv = first_ports(alloc, Ends::Parallel(from), jobs.recv)?;
     let send = one_port(alloc, Ends::Absent)?;
     let ports = NodePorts { recv, send };
     let (stage, tasks) = open_ports::<L, J, N>(alloc, board, node, ports, jobs.recv, jobs.send)?;
@@ -157,8 +193,7 @@ where
     L: Tokens + Lanes<Load<<L as Tokens>::Token, J>>,
     J: LoadJob<<L as Tokens>::Token>,
     N: ComputeNode<L, J> + Drop,
-    requires node { IsGiving pipelines (N.seen node) }
-    requires jobs { AreForSending job.now jobs.recv.now.items jobs.send.now.items }
+    requires node { GivesFor pipelines job.now jobs.recv.now.items jobs.send.now.items (N.seen node) }
     requires fits { N.fits node jobs.recv.now.items jobs.send.now.items }
     requires to { (room : ℕ) × IsNewSender L.Sender.home L.Sender.job L.Sender.room L.Sender.sent (L.Board.id board.old).lane_table job.now room to }
     requires tokens { All (λ job. HoldsTokensOf J.holds L.token_home job (L.Board.id board.old).group_table) jobs.recv.now.items }
@@ -166,7 +201,7 @@ where
     ensures out_of_memory { IsOkUnless result OutOfMemory }
     ensures same_board { L.Board.id board.new ≡ L.Board.id board.old }
 {
-    let recv = two_ports(alloc, Ends::Absent, Ends::Absent)?;
+    let recv = no_ports(alloc, jobs.recv)?;
     let send = one_port(alloc, Ends::Serial(to))?;
     let ports = NodePorts { recv, send };
     let (stage, tasks) = open_ports::<L, J, N>(alloc, board, node, ports, jobs.recv, jobs.send)?;

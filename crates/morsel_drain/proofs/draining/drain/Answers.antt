@@ -86,10 +86,10 @@ turns-preserved g c =
       within = omega (arith, size, within);
       few = let few = c.turns.invariant.few in let one = c.in_default.ensures.counted in let found = c.see_rows-finding.ensures.spare in let more = c.after_finding-after.ensures.counted in
           let same = c.after_finding-after.ensures.rows in rw same (omega (arith, few, one, found, more));
-      small = rw c.after_finding-after.ensures.rows (c.see_rows-finding.ensures.small c.turns.invariant.small);
+      small = rw c.after_finding-after.ensures.rows (c.see_rows-finding.ensures.small c.rows_held-held.ensures.small c.turns.invariant.small);
       found = λ job reading serving. rw c.after_finding-after.ensures.rows
-          (rows_seen (g.L.Job.LineJob.is_piece job) (g.L.Job.LineJob.is_end job) (g.S.PieceSource.given c.read_next.new.reader) (g.S.PieceSource.asked c.read_next.new.reader) c.in-Ok.input c.turns.finding.rows c.see_rows-finding.result.rows
-          (c.turns.invariant.found job reading serving) c.see_rows-finding.ensures.rows (read.sought_them job reading serving).fits);
+          (rows_seen (g.L.Job.LineJob.is_piece job) (g.L.Job.LineJob.is_end job) (g.S.PieceSource.given c.read_next.new.reader) (g.S.PieceSource.asked c.read_next.new.reader) c.in-Ok.input c.turns.finding.rows c.rows_held-held.result c.see_rows-finding.result.rows
+          (c.turns.invariant.found job reading serving) c.rows_held-held.ensures.rows c.see_rows-finding.ensures.rows (read.sought_them job reading serving).fits);
       idle = c.after_finding-after.ensures.idle;
       far = c.after_finding-after.ensures.within (g.S.PieceSource.size c.args.reader.now (g.H.Io.seen c.args.io.now).sizes) (omega (arith, size, within, given)) c.turns.invariant.far;
       same = (leaves_all_else did.reads _ _ did.are did.does).sizes ∙ c.turns.invariant.same;

@@ -65,4 +65,4 @@ returns-then-ended-clause-took g c given taken did took =
     )
 
 pub returns-then-ended-clause-ended : goal.returns-then-ended-clause-ended
-returns-then-ended-clause-ended g c = c.in-Ok.ensures.none_left (c.in-Ok-keep_some.ensures.ended c.then-ended)
+returns-then-ended-clause-ended g c = c.in-Ok.ensures.none_left (c.in-Ok-keep_some.ensures.ended c.if-ended.true)
