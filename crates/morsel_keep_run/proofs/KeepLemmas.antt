@@ -1,5 +1,5 @@
 -- A scan whose rows are kept, from what its caller's loop says.
-use Rattle.std.proofs.Common.{◌≡◌, ℕ, ◌≤◌, ap, subst, sym, refl, ◌∙◌, inl, inr}
+use Rattle.std.proofs.Common.{◌≡◌, ℕ, ◌≤◌, ap, subst, sym, refl, ◌∙◌, inl, inr, arith}
 use Rattle.std.specs.Prelude.{◌⊎◌, Some, None, Result, Ok, Err, IfErr, IfOk, OnOk, List, length}
 use Rattle.std.specs.List.{flat_map, sum_by}
 use Rattle.morsel_meaning.specs.declared.fault.Fault.{Fault}
@@ -13,15 +13,16 @@ use Rattle.morsel_scan.specs.Ahead.{asked_up_to}
 use Rattle.morsel_read.specs.ScanReads.{FilesAsked, PiecesRead, sizes_in, asked_to, CountsFromFirst, IsPiecesFaultOf}
 use Rattle.morsel_read.specs.PieceReads.{HasGivenAll}
 use Rattle.morsel_drain.specs.Draining.{StopsReadsFor, DrainsAxis, Drains}
+use Rattle.morsel_drain.specs.Finding.{IsRowsEnd, SweepsFinding}
 use Rattle.morsel_line.specs.Jobs.{Job}
 use Rattle.morsel_line.specs.RowStages.{ScannedRows}
-use Rattle.morsel_line.specs.ScanJobs.{job_axis, scan_axis, IsJobFault, IsJobEnd, IsPieceKind}
+use Rattle.morsel_line.specs.ScanJobs.{job_axis, scan_axis, IsJobFault, IsJobEnd, IsJobPiece, IsPieceKind}
 use Rattle.morsel_line.specs.ScanSources.{AskNextChunks, EndsInFailure, DidRead, ReadsJob}
 use Rattle.morsel_line.specs.ScanRuns.{JobGives, MeansRows, job_of}
 use Rattle.morsel_line.proofs.RunLemmas.{AtEnd}
 use Rattle.morsel_join_tasks.specs.Beside.{answer_beside}
 use Rattle.morsel_join_tasks.proofs.ReadLemmas.{asked_all, means_asked}
-use Rattle.morsel_keep_run.specs.KeepRuns.{StopsKeeping, KeepsScan}
+use Rattle.morsel_keep_run.specs.KeepRuns.{StopsKeeping, KeepsScan, SweepsKept}
 
 -- why a run has a fault
 stops_keeping : (old new : PiecesRead) (reads : List Action) (result : Result ℕ Fault) → new.sources ≡ old.sources
@@ -96,3 +97,28 @@ part_back (Err fault) (Ok end) part Q P is same so from = absurd (no_fault same)
   where
     no_fault : Ok end.1 ≡ Err fault → ⊥
     no_fault e = cc
+
+-- the same where what comes back has more than one part
+pub some_back : {N M : Type 0} (kept : Result (N × ℕ) Fault) (result : Result (M × ℕ) Fault) (of : N × ℕ → M × ℕ → Type 0) (Q : M × ℕ → Type 0) (P : N × ℕ → Type 0) → IfOk kept (λ kept. IfOk result (λ end. of kept end))
+    → answer_beside result ≡ answer_beside kept → IfOk kept P → ((whole : N × ℕ) (end : M × ℕ) → P whole → of whole end → Q end) → IfOk result Q
+some_back (Ok kept) (Ok end) of Q P is same so from = from kept end so is
+some_back kept (Err fault) of Q P is same so from = tt
+some_back (Err fault) (Ok end) of Q P is same so from = absurd (no_fault same)
+  where
+    no_fault : Ok end.1 ≡ Err fault → ⊥
+    no_fault e = cc
+
+-- how many sweeps are made, from what the caller's loop says
+pub kept_swept : (s : CsvScan) (old : PiecesRead) (before : Outside) (per_row from to : ℕ)
+    → SweepsFinding (sum_by (λ n. n) (sizes_in before.sizes old.sources.files)) per_row from to (λ rows. (job : Job) → ReadsJob old job before → (job.scan ≡ s) × (job.stage ≡ ScannedRows) → IsRowsEnd (IsJobPiece job) rows)
+    → SweepsKept s old per_row before from to
+kept_swept s old before per_row from to few = record {
+  rows = few.rows;
+  few = few.few;
+  small = few.small;
+  within = λ files had. few.within (job_of s old files) (record { given = had; names = refl; first = refl; opened = refl }) (refl, refl);
+}
+
+-- no sweep was made
+pub kept_unswept : (s : CsvScan) (r : PiecesRead) (per_row : ℕ) (opened : Outside) (steps : ℕ) → SweepsKept s r per_row opened steps steps
+kept_unswept s r per_row opened steps = record { rows = 0; few = omega arith; small = omega arith; within = λ files had. inl refl }

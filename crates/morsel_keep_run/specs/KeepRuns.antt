@@ -12,8 +12,9 @@ use Rattle.morsel_read.specs.ScanReads.{FilesAsked, PiecesRead, sizes_in, IsPiec
 use Rattle.morsel_read.specs.PieceReads.{HasGivenAll}
 use Rattle.morsel_drive.specs.Lines.{Each, IsReading, IsDue}
 use Rattle.morsel_drain.specs.Draining.{LeavesAllElse}
+use Rattle.morsel_drain.specs.Finding.{IsRowsEnd, SweepsFinding}
 use Rattle.morsel_line.specs.Jobs.{Job}
-use Rattle.morsel_line.specs.ScanJobs.{scan_axis, IsJobEnd, IsJobFault, IsPieceKind}
+use Rattle.morsel_line.specs.ScanJobs.{scan_axis, IsJobEnd, IsJobFault, IsJobPiece, IsPieceKind}
 use Rattle.morsel_line.specs.ScanSources.{AskNextChunks, DidRead, EndsInFailure}
 use Rattle.morsel_line.specs.ScanRuns.{JobGives, MeansRows, job_of}
 
@@ -49,3 +50,8 @@ pub record KeepsScan (s : CsvScan) (r : PiecesRead) (before : Outside) (result :
 -- the rows of the scan were kept; or memory ran out before anything was done
 abbrev pub KeepsOrNot : CsvScan → PiecesRead → Outside → Result ℕ Fault → Outside → Type 0
 KeepsOrNot s r before result after = ((result ≡ Err faults.OutOfMemory) × (after ≡ before)) ⊎ KeepsScan s r before result after
+
+-- how many sweeps are made where a row may find so many: few for each byte of the files, and for each row that the rows up to the last one of a piece may find
+abbrev pub SweepsKept : CsvScan → PiecesRead → ℕ → Outside → ℕ → ℕ → Type 0
+SweepsKept s r per_row opened before after = SweepsFinding (sum_by (λ n. n) (sizes_in opened.sizes r.sources.files)) per_row before after
+    (λ rows. (files : List (List ℕ)) → HasGivenRows s files opened r → IsRowsEnd (IsJobPiece (job_of s r files)) rows)

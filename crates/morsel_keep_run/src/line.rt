@@ -1,14 +1,13 @@
 //! A line that keeps what it is fed, made and run.
-ghost use Rattle.std.specs.Prelude.{◌≡◌, true, IfOk, IfSome, IsOk, IsSome, IsOkUnless, OnOk, ◌+◌, ◌*◌, ◌≤◌};
-ghost use Rattle.std.specs.List.{sum_by};
+ghost use Rattle.std.specs.Prelude.{◌≡◌, true, IfOk, IfSome, IsOk, IsSome, IsOkUnless, OnOk};
 ghost use Rattle.morsel_meaning.specs.declared.fault.Fault.TheVariants.{OutOfMemory};
 ghost use Rattle.morsel_load.specs.declared.load.LoadKind.TheVariants.{Pieces};
-ghost use Rattle.morsel_read.specs.ScanReads.{pieces_at_start, sizes_in, SuitsPieces};
+ghost use Rattle.morsel_read.specs.ScanReads.{pieces_at_start, SuitsPieces};
 ghost use Rattle.morsel_scan_units.specs.LaneJobs.{IsUnitFault};
 ghost use Rattle.morsel_join_lines.specs.TasksOf.{AreTasksOf};
 ghost use Rattle.morsel_join_tasks.specs.FedLanes.{IsFedBy};
 ghost use Rattle.morsel_join_tasks.specs.Beside.{answer_beside};
-ghost use Rattle.morsel_keep_run.specs.KeepRuns.{KeepsOrNot, KeepsScan};
+ghost use Rattle.morsel_keep_run.specs.KeepRuns.{KeepsOrNot, KeepsScan, SweepsKept};
 
 use morsel_drain::drain;
 use morsel_lane_line::{KeepLine, abandon_keep, take_keep_stage};
@@ -25,7 +24,8 @@ use morsel_stage_tasks::{StageTasks, StartedTasks, start_tasks};
 use std::alloc::Global;
 use std::sync::ledger::Ledger;
 
-/// Reads a scan's files, and feeds their pieces into a line that keeps what becomes of them; answers how many bytes were given.
+/// Reads a scan's files, and feeds their pieces into a line that keeps what becomes of them; answers how many bytes were given. A row
+/// finds at most so many, or none where it is kept itself.
 ///
 /// The line is lent, since the outside is too.
 fn run_keep<L, K, H, S, G, Y>(
@@ -33,6 +33,7 @@ fn run_keep<L, K, H, S, G, Y>(
     reader: ScanReader,
     line: &mut KeepLine<L, K, H, S>,
     gate: &G,
+    per_row: u64,
     steps: &mut Steps<Y>,
 ) -> Result<u64, Fault>
 where
@@ -47,14 +48,14 @@ where
     requires start { reader ≡ pieces_at_start reader.sources }
     requires lane { IsFedBy reader (H.seen io.old) line.old.lane }
     requires joined { line.old.left ≡ 0 }
-    ensures sweeps { steps.new ≤ steps.old + 512 * (sum_by (λ n. n) (sizes_in (H.seen io.old).sizes reader.sources.files) + 1) }
+    ensures sweeps { SweepsKept line.old.lane.scan reader per_row (H.seen io.old) steps.old steps.new }
     ensures whole { OnOk result (line.new.whole ≡ true) }
     ensures joined { OnOk result (line.new.left ≡ 0) }
     ensures stays { (begun : S) → S.stays begun line.old.stage → S.stays begun line.new.stage }
     ensures keeps { KeepsScan line.old.lane.scan reader (H.seen io.old) result (H.seen io.new) }
 {
     let mut source = ScanSource::new(reader);
-    drain(io, &mut source, line, gate, steps)
+    drain(io, &mut source, line, gate, per_row, steps)
 }
 
 /// What a line that keeps is made of: a board, the tasks of all its stages, and the caller's end.
@@ -138,6 +139,7 @@ where
 /// Makes a line that keeps, and runs it; answers how many bytes were given, and whose the tasks were.
 ///
 /// What the line is made of is lent, since the outside is too, and taken.
+#[tactic(auto, using(crate::proofs::KeepLemmas::kept_unswept))]
 pub fn keep_parts<L, K, H, S, G, Y>(
     alloc: Global,
     io: &mut H,
@@ -145,6 +147,7 @@ pub fn keep_parts<L, K, H, S, G, Y>(
     lane: &LaneJob<K, H>,
     parts: &mut Option<KeepParts<L, LaneJob<K, H>, S>>,
     gate: &G,
+    per_row: u64,
     steps: &mut Steps<Y>,
 ) -> Result<(S, u64), Fault>
 where
@@ -161,14 +164,14 @@ where
     requires some { IsSome parts.old }
     requires feed { IfSome parts.old (λ parts. (L.Sender.home parts.feed ≡ (L.Board.id parts.board).lane_table) × (L.Sender.job parts.feed ≡ lane.now)) }
     requires tasks { IfSome parts.old (λ parts. AreTasksOf S.owes S.fails (S.Task.can_poll (L.Board.id parts.board)) (IsUnitFault lane.now) parts.tasks.stage parts.tasks.tasks.items) }
-    ensures sweeps { steps.new ≤ steps.old + 512 * (sum_by (λ n. n) (sizes_in (H.seen io.old).sizes reader.sources.files) + 1) }
+    ensures sweeps { SweepsKept lane.now.scan reader per_row (H.seen io.old) steps.old steps.new }
     ensures stays { (begun : S) → IfSome parts.old (λ parts. S.stays begun parts.tasks.stage) → IfOk result (λ end. S.stays begun end.0) }
     ensures keeps { KeepsOrNot lane.now.scan reader (H.seen io.old) (answer_beside result) (H.seen io.new) }
 {
     let Ok(mut made_line) = make_keep::<L, K, H, S>(alloc, lane, parts) else {
         return Err(Fault::OutOfMemory);
     };
-    let answer = run_keep(io, reader, &mut made_line, gate, steps);
+    let answer = run_keep(io, reader, &mut made_line, gate, per_row, steps);
     let mut line = Ok(made_line);
     stage_beside(&mut line, answer)
 }

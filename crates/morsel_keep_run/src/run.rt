@@ -8,11 +8,11 @@ ghost use Rattle.morsel_pair.specs.Pairs.{ByEither};
 ghost use Rattle.morsel_phase.specs.Lines.{IsLineNode};
 ghost use Rattle.morsel_read.specs.ScanReads.{pieces_at_start, sizes_in, SuitsPieces};
 ghost use Rattle.morsel_scan_units.specs.LaneJobs.{IsUnitFault};
-ghost use Rattle.morsel_join_lines.specs.JoinNodes.{AreForFirst, AreForOne, IsKeeping};
+ghost use Rattle.morsel_join_lines.specs.JoinNodes.{AreForOne, KeepsFor};
 ghost use Rattle.morsel_join_lines.specs.TasksOf.{AreTasksOf};
 ghost use Rattle.morsel_join_tasks.specs.FedLanes.{IsFedBy};
 ghost use Rattle.morsel_join_tasks.specs.Beside.{answer_beside};
-ghost use Rattle.morsel_keep_run.specs.KeepRuns.{KeepsOrNot};
+ghost use Rattle.morsel_keep_run.specs.KeepRuns.{KeepsOrNot, SweepsKept};
 
 use crate::line::{KeepParts, keep_parts};
 use morsel_join_lines::{KeepJobs, KeepNodes, OpenKeep, open_keep};
@@ -95,24 +95,25 @@ fn node_of<L, J, N>(kept: Result<(NodeTasks<L, J, N>, u64), Fault>) -> Result<(N
 
 /// What a line that keeps is made of, but for the tasks of its pipe: a board, two stages, and the caller's end.
 #[derive(Drop)]
-struct KeepBase<L, J, S, T>
+pub(crate) struct KeepBase<L, J, S, T>
 where
     L: Tokens + Lanes<Load<<L as Tokens>::Token, J>>,
     J: LoadJob<<L as Tokens>::Token>,
     S: Stage<<L as Tokens>::Board>,
     T: Stage<<L as Tokens>::Board>,
 {
-    pub board: L::Board,
-    pub first: StageTasks<L::Board, S>,
-    pub last: StageTasks<L::Board, T>,
-    pub feed: L::Sender,
+    pub(crate) board: L::Board,
+    pub(crate) first: StageTasks<L::Board, S>,
+    pub(crate) last: StageTasks<L::Board, T>,
+    pub(crate) feed: L::Sender,
 }
 
 /// Makes the tasks of the pipe of a line that keeps, and runs it; answers how many bytes were given, and whose the tasks of the
-/// last stage were.
+/// last stage were. A row finds at most so many, or none where it is kept itself.
 ///
 /// What the line is made of is lent, and taken.
-fn keep_orders<L, K, H, S, T, P, G, Y>(
+#[tactic(auto, using(crate::proofs::KeepLemmas::kept_unswept))]
+pub(crate) fn keep_orders<L, K, H, S, T, P, G, Y>(
     alloc: Global,
     io: &mut H,
     reader: ScanReader,
@@ -120,6 +121,7 @@ fn keep_orders<L, K, H, S, T, P, G, Y>(
     base: &mut Option<KeepBase<L, LaneJob<K, H>, S, T>>,
     fed: &mut P,
     gate: &G,
+    per_row: u64,
     steps: &mut Steps<Y>,
 ) -> Result<(T, u64), Fault>
 where
@@ -140,7 +142,7 @@ where
     requires first { IfSome base.old (λ base. AreTasksOf S.owes S.fails (S.Task.can_poll (L.Board.id base.board)) (IsUnitFault lane.now) base.first.stage base.first.tasks.items) }
     requires last { IfSome base.old (λ base. AreTasksOf T.owes T.fails (T.Task.can_poll (L.Board.id base.board)) (IsUnitFault lane.now) base.last.stage base.last.tasks.items) }
     requires ready { IfSome base.old (λ base. P.ready fed.old lane.now (L.Board.id base.board)) }
-    ensures sweeps { steps.new ≤ steps.old + 512 * (sum_by (λ n. n) (sizes_in (H.seen io.old).sizes reader.sources.files) + 1) }
+    ensures sweeps { SweepsKept lane.now.scan reader per_row (H.seen io.old) steps.old steps.new }
     ensures stays { (begun : T) → IfSome base.old (λ base. T.stays begun base.last.stage) → IfOk result (λ end. T.stays begun end.0) }
     ensures keeps { KeepsOrNot lane.now.scan reader (H.seen io.old) (answer_beside result) (H.seen io.new) }
 {
@@ -163,22 +165,22 @@ where
     };
     let mut parts = Some(KeepParts { board, tasks, feed });
     let kept = keep_parts::<L, K, H, PairStage<PairStage<S, T>, PipeTasks<P::Task>>, G, Y>(
-        alloc, io, reader, lane, &mut parts, gate, steps,
+        alloc, io, reader, lane, &mut parts, gate, per_row, steps,
     );
     last_of(kept)
 }
 
 /// What a line that keeps is made of, and what makes the tasks of its pipe.
 #[derive(Drop)]
-struct KeepStart<L, J, S, T>
+pub(crate) struct KeepStart<L, J, S, T>
 where
     L: Tokens + Lanes<Load<<L as Tokens>::Token, J>>,
     J: LoadJob<<L as Tokens>::Token>,
     S: Stage<<L as Tokens>::Board>,
     T: Stage<<L as Tokens>::Board>,
 {
-    pub base: KeepBase<L, J, S, T>,
-    pub fed: PipeOrder<L, J>,
+    pub(crate) base: KeepBase<L, J, S, T>,
+    pub(crate) fed: PipeOrder<L, J>,
 }
 
 /// Gives two nodes their ends on a board, and takes their units. The nodes are lent, and taken.
@@ -201,13 +203,12 @@ where
     A: ComputeNode<L, LaneJob<K, H>> + Drop,
     M: ComputeNode<L, LaneJob<K, H>> + Drop,
     requires first_jobs { AreForOne jobs.fed.now jobs.between.now jobs.first.recv.now.items jobs.first.send.now.items }
-    requires last_jobs { AreForFirst jobs.between.now jobs.last.recv.now.items jobs.last.send.now.items }
     requires pipelines { (1 ≤ plan.pipelines) × (plan.pipelines ≤ 32768) }
     requires spread_room { (1 ≤ plan.rooms.spread) × (plan.rooms.spread ≤ 65536) }
     requires merge_room { (1 ≤ plan.rooms.merge) × (plan.rooms.merge ≤ 65536) }
     requires some { IsSome nodes.old }
     requires first { IfSome nodes.old (λ nodes. IsLineNode plan.pipelines (A.seen nodes.first)) }
-    requires last { IfSome nodes.old (λ nodes. IsKeeping plan.pipelines (M.seen nodes.last)) }
+    requires last { IfSome nodes.old (λ nodes. KeepsFor plan.pipelines jobs.between.now jobs.last.recv.now.items jobs.last.send.now.items (M.seen nodes.last)) }
     requires first_fits { IfSome nodes.old (λ nodes. A.fits nodes.first jobs.first.recv.now.items jobs.first.send.now.items) }
     requires last_fits { IfSome nodes.old (λ nodes. M.fits nodes.last jobs.last.recv.now.items jobs.last.send.now.items) }
     requires first_fails { IfSome nodes.old (λ nodes. (fault : Fault) → A.fails nodes.first jobs.first.recv.now.items fault → IsUnitFault jobs.fed.now fault) }
@@ -274,14 +275,13 @@ where
     requires start { reader ≡ pieces_at_start reader.sources }
     requires lane { IsFedBy reader (H.seen io.old) jobs.fed.now }
     requires first_jobs { AreForOne jobs.fed.now jobs.between.now jobs.first.recv.now.items jobs.first.send.now.items }
-    requires last_jobs { AreForFirst jobs.between.now jobs.last.recv.now.items jobs.last.send.now.items }
     requires pipelines { (1 ≤ plan.pipelines) × (plan.pipelines ≤ 32768) }
     requires spread_room { (1 ≤ plan.rooms.spread) × (plan.rooms.spread ≤ 65536) }
     requires merge_room { (1 ≤ plan.rooms.merge) × (plan.rooms.merge ≤ 65536) }
     requires some_board { IsSome board.old }
     requires some_nodes { IsSome nodes.old }
     requires first { IfSome nodes.old (λ nodes. IsLineNode plan.pipelines (A.seen nodes.first)) }
-    requires last { IfSome nodes.old (λ nodes. IsKeeping plan.pipelines (M.seen nodes.last)) }
+    requires last { IfSome nodes.old (λ nodes. KeepsFor plan.pipelines jobs.between.now jobs.last.recv.now.items jobs.last.send.now.items (M.seen nodes.last)) }
     requires first_fits { IfSome nodes.old (λ nodes. A.fits nodes.first jobs.first.recv.now.items jobs.first.send.now.items) }
     requires last_fits { IfSome nodes.old (λ nodes. M.fits nodes.last jobs.last.recv.now.items jobs.last.send.now.items) }
     requires first_fails { IfSome nodes.old (λ nodes. (fault : Fault) → A.fails nodes.first jobs.first.recv.now.items fault → IsUnitFault jobs.fed.now fault) }
@@ -311,6 +311,8 @@ where
         PipeOrder<L, LaneJob<K, H>>,
         G,
         Y,
-    >(alloc, io, reader, fed_job, &mut base, &mut fed, gate, steps);
+    >(
+        alloc, io, reader, fed_job, &mut base, &mut fed, gate, 0, steps,
+    );
     node_of(kept)
 }

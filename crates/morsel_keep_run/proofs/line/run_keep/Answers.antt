@@ -1,13 +1,12 @@
 -- The caller's loop over the reader of a scan and a line that keeps.
-use Rattle.std.proofs.Common.{◌+◌, ◌*◌, ◌≤◌, ap, subst, sym, ◌∙◌}
-use Rattle.std.specs.List.{sum_by}
+use Rattle.std.proofs.Common.{ap, subst, sym, ◌∙◌}
 use Rattle.morsel_outside.specs.Outside.{Outside}
-use Rattle.morsel_read.specs.ScanReads.{PiecesRead, asked_to, sizes_in}
+use Rattle.morsel_read.specs.ScanReads.{PiecesRead, asked_to}
 use Rattle.morsel_line.specs.Jobs.{Job}
 use Rattle.morsel_line.specs.ScanSources.{ReadsJob}
 use Rattle.morsel_scan_units.specs.LaneJobs.{TellsJob}
-use Rattle.morsel_keep_run.specs.KeepRuns.{KeepsScan}
-use Rattle.morsel_keep_run.proofs.KeepLemmas.{scan_kept}
+use Rattle.morsel_keep_run.specs.KeepRuns.{KeepsScan, SweepsKept}
+use Rattle.morsel_keep_run.proofs.KeepLemmas.{kept_swept, scan_kept}
 use Rattle.morsel_keep_run.proofs.line.run_keep.Goals as goal
 
 pub drain-requires-clause-told : goal.drain-requires-clause-told
@@ -19,7 +18,20 @@ drain-requires-clause-told g c job tells = (
 
 pub returns-clause-sweeps : goal.returns-clause-sweeps
 returns-clause-sweeps g c =
-    subst (λ (r : PiecesRead). c.drain.new.steps ≤ c.args.steps.now + 512 * (sum_by (λ n. n) (sizes_in (g.H.Io.seen c.args.io.now).sizes r.sources.files) + 1)) c.new-source.ensures c.drain.ensures.sweeps
+    let few = c.drain.ensures.sweeps in
+    subst (λ (r : PiecesRead). SweepsKept c.args.line.now.lane.scan r c.args.per_row (g.H.Io.seen c.args.io.now) c.args.steps.now c.drain.new.steps) c.new-source.ensures
+    (kept_swept c.args.line.now.lane.scan c.new-source.result (g.H.Io.seen c.args.io.now) c.args.per_row c.args.steps.now c.drain.new.steps
+    (record {
+      rows = few.rows;
+      few = few.few;
+      small = few.small;
+      within = λ job reads serves. few.within job reads (
+        serves.0,
+        subst (λ (r : PiecesRead). ReadsJob r job c.args.line.now.lane.outside) (c.new-source.ensures ∙ sym c.requires.lane.reader_is)
+            (subst (λ (o : Outside). ReadsJob c.new-source.result job o) (sym c.requires.lane.outside_is) reads),
+        serves.1 ∙ sym c.requires.lane.stage_is,
+      );
+    }))
 
 pub returns-clause-stays : goal.returns-clause-stays
 returns-clause-stays g c begun was = c.drain.ensures.stays (record c.args.line.now { stage = begun }) was

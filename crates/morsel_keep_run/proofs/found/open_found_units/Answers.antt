@@ -1,0 +1,39 @@
+use Rattle.std.proofs.Common.{sym, subst}
+use Rattle.morsel_keep_run.proofs.found.open_found_units.Goals as goal
+
+-- the faults of a node are those of its scan
+pub pair_units-requires-clause-first : goal.pair_units-requires-clause-first
+pair_units-requires-clause-first g c =
+    let tasks = rw (sym c.open_find_keep.ensures.same_board) at c.in_ok-first.ensures.middle in
+    let may = rw (sym c.in-Some.ensures.value) at c.requires.middle_fails in record {
+      owed = tasks.owed;
+      polled = tasks.polled;
+      faults = λ fault fails. may fault (tasks.faults fault fails);
+    }
+
+pub pair_units-requires-clause-second : goal.pair_units-requires-clause-second
+pair_units-requires-clause-second g c =
+    let tasks = rw (sym c.open_find_keep.ensures.same_board) at c.in_ok-first.ensures.last in
+    let may = rw (sym c.in-Some.ensures.value) at c.requires.last_fails in record {
+      owed = tasks.owed;
+      polled = tasks.polled;
+      faults = λ fault fails. may fault (tasks.faults fault fails);
+    }
+
+pub returns-clause-first : goal.returns-clause-first
+returns-clause-first g c =
+    let tasks = rw (sym c.open_find_keep.ensures.same_board) at c.in_ok-first.ensures.first in
+    let may = rw (sym c.in-Some.ensures.value) at c.requires.first_fails in record {
+      owed = tasks.owed;
+      polled = tasks.polled;
+      faults = λ fault fails. may fault (tasks.faults fault fails);
+    }
+
+-- what stays of a node as it was taken stays of it in its stage
+pub returns-clause-finding_stays : goal.returns-clause-finding_stays
+returns-clause-finding_stays g c begun was =
+    subst (λ (stage : _). g.M.ComputeNode.stays begun stage.node) (sym c.in_ok-both.ensures.stages.0) (c.in_ok-first.ensures.middle_stays begun (rw (sym c.in-Some.ensures.value) at was))
+
+pub returns-clause-keeping_stays : goal.returns-clause-keeping_stays
+returns-clause-keeping_stays g c begun was =
+    subst (λ (stage : _). g.Z.ComputeNode.stays begun stage.node) (sym c.in_ok-both.ensures.stages.1) (c.in_ok-first.ensures.last_stays begun (rw (sym c.in-Some.ensures.value) at was))
