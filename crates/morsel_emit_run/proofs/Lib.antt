@@ -1,1 +1,1 @@
-pub mod AloneLemmas
+pub mod PlaceLemmas

@@ -1,11 +1,10 @@
 //! A line into which nothing is fed, made and run.
 ghost use Rattle.std.specs.Prelude.{◌≡◌, true, IfSome, IsSome, OnOk, ◌<◌};
 ghost use Rattle.morsel_load.specs.declared.load.LoadKind.TheVariants.{Parts};
-ghost use Rattle.morsel_join.specs.Sides.{KeptSide};
-ghost use Rattle.morsel_line.specs.RowStages.{AloneRows};
+ghost use Rattle.morsel_line.specs.RowStages.{StageSeen};
 ghost use Rattle.morsel_scan_units.specs.LaneJobs.{IsUnitFault};
 ghost use Rattle.morsel_join_lines.specs.TasksOf.{AreTasksOf};
-ghost use Rattle.morsel_emit_run.specs.EmitRuns.{SweepsAlone, WritesAlone, WritesAloneOrNot};
+ghost use Rattle.morsel_emit_run.specs.EmitRuns.{IsOnePlaceStage, SweepsPlace, WritesPlace, WritesPlaceOrNot};
 
 use morsel_drain::pour;
 use morsel_join_tasks::{UnfedParts, start_unfed};
@@ -42,9 +41,9 @@ where
     requires made { 0 < (H.seen io.old).sinks }
     requires none_written { writer.rows ≡ 0 }
     requires joined { line.old.left ≡ 0 }
-    ensures sweeps { (side : KeptSide) → line.old.lane.stage ≡ AloneRows side → SweepsAlone line.old.lane.scan line.old.lane.reader line.old.lane.outside side steps.old steps.new }
+    ensures sweeps { (stage : StageSeen) → line.old.lane.stage ≡ stage → IsOnePlaceStage stage → SweepsPlace line.old.lane.scan line.old.lane.reader line.old.lane.outside stage steps.old steps.new }
     ensures whole { OnOk result (line.new.whole ≡ true) }
-    ensures writes { (side : KeptSide) → line.old.lane.stage ≡ AloneRows side → WritesAlone line.old.lane.scan line.old.lane.reader line.old.lane.outside side (H.seen io.old) result (H.seen io.new) }
+    ensures writes { (stage : StageSeen) → line.old.lane.stage ≡ stage → IsOnePlaceStage stage → WritesPlace line.old.lane.scan line.old.lane.reader line.old.lane.outside stage (H.seen io.old) result (H.seen io.new) }
 {
     pour(io, line, writer, gate, steps)
 }
@@ -52,7 +51,7 @@ where
 /// Makes a line into which nothing is fed, and runs it; answers how many rows were written.
 ///
 /// What the line is made of is lent, since the outside is too, and taken. What is left of the line is abandoned.
-#[tactic(auto, using(crate::proofs::AloneLemmas::alone_unswept))]
+#[tactic(auto, using(crate::proofs::PlaceLemmas::place_unswept))]
 pub fn emit_parts<L, K, H, S, G, Y>(
     alloc: Global,
     io: &mut H,
@@ -76,8 +75,8 @@ where
     requires some { IsSome parts.old }
     requires take { IfSome parts.old (λ parts. (L.Receiver.home parts.take ≡ (L.Board.id parts.board).lane_table) × (L.Receiver.job parts.take ≡ lane.now)) }
     requires tasks { IfSome parts.old (λ parts. AreTasksOf S.owes S.fails (S.Task.can_poll (L.Board.id parts.board)) (IsUnitFault lane.now) parts.tasks.stage parts.tasks.tasks.items) }
-    ensures sweeps { (side : KeptSide) → lane.now.stage ≡ AloneRows side → SweepsAlone lane.now.scan lane.now.reader lane.now.outside side steps.old steps.new }
-    ensures writes { (side : KeptSide) → lane.now.stage ≡ AloneRows side → WritesAloneOrNot lane.now.scan lane.now.reader lane.now.outside side (H.seen io.old) result (H.seen io.new) }
+    ensures sweeps { (stage : StageSeen) → lane.now.stage ≡ stage → IsOnePlaceStage stage → SweepsPlace lane.now.scan lane.now.reader lane.now.outside stage steps.old steps.new }
+    ensures writes { (stage : StageSeen) → lane.now.stage ≡ stage → IsOnePlaceStage stage → WritesPlaceOrNot lane.now.scan lane.now.reader lane.now.outside stage (H.seen io.old) result (H.seen io.new) }
 {
     let mut line = start_unfed::<L, K, H, S>(alloc, lane, parts);
     let Ok(made_line) = &mut line else {

@@ -6,12 +6,11 @@ ghost use Rattle.morsel_load.specs.declared.load.LoadKind.TheVariants.{Parts};
 ghost use Rattle.morsel_lane_pipe.specs.Tasks.{HoldsTokensOf};
 ghost use Rattle.morsel_pair.specs.Pairs.{ByEither};
 ghost use Rattle.morsel_phase.specs.Lines.{IsLineNode};
-ghost use Rattle.morsel_join.specs.Sides.{KeptSide};
-ghost use Rattle.morsel_line.specs.RowStages.{AloneRows};
+ghost use Rattle.morsel_line.specs.RowStages.{StageSeen};
 ghost use Rattle.morsel_scan_units.specs.LaneJobs.{IsUnitFault};
-ghost use Rattle.morsel_join_lines.specs.JoinNodes.{AreForOne, AreForSending, IsGiving};
+ghost use Rattle.morsel_join_lines.specs.JoinNodes.{AreForOne, GivesFor};
 ghost use Rattle.morsel_join_lines.specs.TasksOf.{AreTasksOf};
-ghost use Rattle.morsel_emit_run.specs.EmitRuns.{SweepsAlone, WritesAloneOrNot};
+ghost use Rattle.morsel_emit_run.specs.EmitRuns.{IsOnePlaceStage, SweepsPlace, WritesPlaceOrNot};
 
 use crate::line::emit_parts;
 use morsel_join_lines::{EmitJobs, EmitNodes, OpenEmit, open_emit};
@@ -89,7 +88,7 @@ struct EmitLanes<'a, J> {
 /// Makes the tasks of the pipes of a line into which nothing is fed, and runs it; answers how many rows were written.
 ///
 /// What the line is made of is lent, and taken.
-#[tactic(auto, using(crate::proofs::AloneLemmas::alone_unswept))]
+#[tactic(auto, using(crate::proofs::PlaceLemmas::place_unswept))]
 fn emit_orders<L, K, H, S, T, P, G, Y>(
     alloc: Global,
     io: &mut H,
@@ -120,8 +119,8 @@ where
     requires last { IfSome base.old (λ base. AreTasksOf T.owes T.fails (T.Task.can_poll (L.Board.id base.board)) (IsUnitFault lanes.given.now) base.last.stage base.last.tasks.items) }
     requires kept_ready { IfSome base.old (λ base. P.ready kept.old lanes.between.now (L.Board.id base.board)) }
     requires given_ready { IfSome base.old (λ base. P.ready given.old lanes.given.now (L.Board.id base.board)) }
-    ensures sweeps { (side : KeptSide) → lanes.entry.given.now.stage ≡ AloneRows side → SweepsAlone lanes.entry.given.now.scan lanes.entry.given.now.reader lanes.entry.given.now.outside side steps.old steps.new }
-    ensures writes { (side : KeptSide) → lanes.entry.given.now.stage ≡ AloneRows side → WritesAloneOrNot lanes.entry.given.now.scan lanes.entry.given.now.reader lanes.entry.given.now.outside side (H.seen io.old) result (H.seen io.new) }
+    ensures sweeps { (stage : StageSeen) → lanes.entry.given.now.stage ≡ stage → IsOnePlaceStage stage → SweepsPlace lanes.entry.given.now.scan lanes.entry.given.now.reader lanes.entry.given.now.outside stage steps.old steps.new }
+    ensures writes { (stage : StageSeen) → lanes.entry.given.now.stage ≡ stage → IsOnePlaceStage stage → WritesPlaceOrNot lanes.entry.given.now.scan lanes.entry.given.now.reader lanes.entry.given.now.outside stage (H.seen io.old) result (H.seen io.new) }
 {
     let Some(
         EmitBase {
@@ -207,13 +206,12 @@ where
     H: Io,
     M: ComputeNode<L, LaneJob<K, H>> + Drop,
     Z: ComputeNode<L, LaneJob<K, H>> + Drop,
-    requires first_jobs { AreForSending jobs.kept.now jobs.first.recv.now.items jobs.first.send.now.items }
     requires last_jobs { AreForOne jobs.kept.now jobs.given.now jobs.last.recv.now.items jobs.last.send.now.items }
     requires pipelines { (1 ≤ plan.pipelines) × (plan.pipelines ≤ 32768) }
     requires spread_room { (1 ≤ plan.rooms.spread) × (plan.rooms.spread ≤ 65536) }
     requires merge_room { (1 ≤ plan.rooms.merge) × (plan.rooms.merge ≤ 65536) }
     requires some { IsSome nodes.old }
-    requires first { IfSome nodes.old (λ nodes. IsGiving ready (M.seen nodes.first)) }
+    requires first { IfSome nodes.old (λ nodes. GivesFor ready jobs.kept.now jobs.first.recv.now.items jobs.first.send.now.items (M.seen nodes.first)) }
     requires last { IfSome nodes.old (λ nodes. IsLineNode plan.pipelines (Z.seen nodes.last)) }
     requires first_fits { IfSome nodes.old (λ nodes. M.fits nodes.first jobs.first.recv.now.items jobs.first.send.now.items) }
     requires last_fits { IfSome nodes.old (λ nodes. Z.fits nodes.last jobs.last.recv.now.items jobs.last.send.now.items) }
@@ -260,12 +258,12 @@ where
     Ok(EmitStart { base, kept, given })
 }
 
-/// Writes the kept rows that no row of a scan finds into the last sink: one node gives them, and another makes their text; answers
-/// how many rows were written.
+/// Writes rows of one place into the last sink: one node gives them, and another makes their text; answers how many rows were written.
+/// They are the kept rows of a join that no row of a scan finds, or rows that are given.
 ///
 /// The board and the nodes are lent, and taken. The first node was made ready for so many pipelines, and the last one for those of the
 /// plan. The writer has written no row.
-#[tactic(auto, using(crate::proofs::AloneLemmas::alone_unswept))]
+#[tactic(auto, using(crate::proofs::PlaceLemmas::place_unswept))]
 pub fn emit_nodes<L, K, H, M, Z, G, Y>(
     alloc: Global,
     io: &mut H,
@@ -291,14 +289,13 @@ where
     requires made { 0 < (H.seen io.old).sinks }
     requires none_written { writer.rows ≡ 0 }
     requires kind { jobs.given.now.kind ≡ Parts }
-    requires first_jobs { AreForSending jobs.kept.now jobs.first.recv.now.items jobs.first.send.now.items }
     requires last_jobs { AreForOne jobs.kept.now jobs.given.now jobs.last.recv.now.items jobs.last.send.now.items }
     requires pipelines { (1 ≤ plan.pipelines) × (plan.pipelines ≤ 32768) }
     requires spread_room { (1 ≤ plan.rooms.spread) × (plan.rooms.spread ≤ 65536) }
     requires merge_room { (1 ≤ plan.rooms.merge) × (plan.rooms.merge ≤ 65536) }
     requires some_board { IsSome board.old }
     requires some_nodes { IsSome nodes.old }
-    requires first { IfSome nodes.old (λ nodes. IsGiving ready (M.seen nodes.first)) }
+    requires first { IfSome nodes.old (λ nodes. GivesFor ready jobs.kept.now jobs.first.recv.now.items jobs.first.send.now.items (M.seen nodes.first)) }
     requires last { IfSome nodes.old (λ nodes. IsLineNode plan.pipelines (Z.seen nodes.last)) }
     requires first_fits { IfSome nodes.old (λ nodes. M.fits nodes.first jobs.first.recv.now.items jobs.first.send.now.items) }
     requires last_fits { IfSome nodes.old (λ nodes. Z.fits nodes.last jobs.last.recv.now.items jobs.last.send.now.items) }
@@ -308,8 +305,8 @@ where
     requires first_tokens { IfSome board.old (λ board. All (λ job. HoldsTokensOf ⟦<LaneJob<K, H> as LoadJob<<L as Tokens>::Token>>⟧.holds L.token_home job (L.Board.id board).group_table) jobs.first.recv.now.items) }
     requires last_tokens { IfSome board.old (λ board. All (λ job. HoldsTokensOf ⟦<LaneJob<K, H> as LoadJob<<L as Tokens>::Token>>⟧.holds L.token_home job (L.Board.id board).group_table) jobs.last.recv.now.items) }
     requires given_tokens { IfSome board.old (λ board. HoldsTokensOf ⟦<LaneJob<K, H> as LoadJob<<L as Tokens>::Token>>⟧.holds L.token_home jobs.given.now (L.Board.id board).group_table) }
-    ensures sweeps { (side : KeptSide) → jobs.entry.given.now.stage ≡ AloneRows side → SweepsAlone jobs.entry.given.now.scan jobs.entry.given.now.reader jobs.entry.given.now.outside side steps.old steps.new }
-    ensures writes { (side : KeptSide) → jobs.entry.given.now.stage ≡ AloneRows side → WritesAloneOrNot jobs.entry.given.now.scan jobs.entry.given.now.reader jobs.entry.given.now.outside side (H.seen io.old) result (H.seen io.new) }
+    ensures sweeps { (stage : StageSeen) → jobs.entry.given.now.stage ≡ stage → IsOnePlaceStage stage → SweepsPlace jobs.entry.given.now.scan jobs.entry.given.now.reader jobs.entry.given.now.outside stage steps.old steps.new }
+    ensures writes { (stage : StageSeen) → jobs.entry.given.now.stage ≡ stage → IsOnePlaceStage stage → WritesPlaceOrNot jobs.entry.given.now.scan jobs.entry.given.now.reader jobs.entry.given.now.outside stage (H.seen io.old) result (H.seen io.new) }
 {
     let Some(board) = board.take() else {
         unreachable!()
