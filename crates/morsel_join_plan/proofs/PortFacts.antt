@@ -1,6 +1,6 @@
 -- What the ports of a join's nodes ask of their lanes.
 use Rattle.std.proofs.Common.{◌≡◌, ◌⊎◌, inl, inr, ◌∷◌, [], List, Option, Some, None, Result, Ok, Err, All, IfOk, IfSome, refl, sym, ap, subst, ◌∙◌}
-use Rattle.std.proofs.lemmas.List.Elements.{All-cons, All-nil}
+use Rattle.std.proofs.lemmas.List.Elements.{All-cons, All-nil, All-weaker}
 use Rattle.atomic_table.specs.Seated.{TableId}
 use Rattle.morsel_meaning.specs.declared.fault.Fault.{Fault}
 use Rattle.morsel_meaning.specs.declared.fault.Fault.TheVariants as faults
@@ -43,6 +43,14 @@ module _ {Token : Type 0} (holds : LaneFor → Token → Type 0) (home : Token �
 
   pub holds_two : (lane : LaneFor) (lanes : List LaneFor) → lane.tokens ≡ tokens → lanes ≡ lane ∷ lane ∷ [] → HoldsTokensAt holds home tokens table → All (λ (one : LaneFor). HoldsTokensOf holds home one table) lanes
   holds_two lane lanes of are hold = subst (All (λ (one : LaneFor). HoldsTokensOf holds home one table)) (sym are) (All-cons (λ (one : LaneFor). HoldsTokensOf holds home one table) lane (lane ∷ []) (hold lane of) (All-cons (λ (one : LaneFor). HoldsTokensOf holds home one table) lane [] (hold lane of) (All-nil (λ (one : LaneFor). HoldsTokensOf holds home one table))))
+
+  pub holds_all : (lanes : List LaneFor) → All (λ (one : LaneFor). one.tokens ≡ tokens) lanes → HoldsTokensAt holds home tokens table → All (λ (one : LaneFor). HoldsTokensOf holds home one table) lanes
+  holds_all lanes of hold = All-weaker (λ (one : LaneFor). one.tokens ≡ tokens) (λ (one : LaneFor). HoldsTokensOf holds home one table) (λ one is. hold one is) lanes of
+
+-- both lanes of a join's receiving ports have tokens of one table
+pub tokens_two : (lane : LaneFor) (lanes : List LaneFor) → lanes ≡ lane ∷ lane ∷ [] → All (λ (one : LaneFor). one.tokens ≡ lane.tokens) lanes
+tokens_two lane lanes are = subst (All (λ (one : LaneFor). one.tokens ≡ lane.tokens)) (sym are)
+    (All-cons (λ (one : LaneFor). one.tokens ≡ lane.tokens) lane (lane ∷ []) refl (All-cons (λ (one : LaneFor). one.tokens ≡ lane.tokens) lane [] refl (All-nil (λ (one : LaneFor). one.tokens ≡ lane.tokens))))
 
 -- a fault of a node of one receiving port is one of a unit of its lane
 pub maker_fault : (lane : LaneFor) (lanes : List LaneFor) (fault : Fault) → lanes ≡ lane ∷ [] → (fault ≡ faults.OutOfMemory) ⊎ ((one : LaneFor) × (lanes ≡ one ∷ []) × IsUnitFault one fault) → IsUnitFault lane fault

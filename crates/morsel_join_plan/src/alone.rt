@@ -1,5 +1,5 @@
 //! The last phase of a join of two scans: the kept rows follow that none of the other scan's rows finds.
-ghost use Rattle.std.specs.Prelude.{◌≡◌, ◌∷◌, [], Some, IfSome, IsSome, IsOkUnless, OnOk, ◌<◌, ◌≤◌};
+ghost use Rattle.std.specs.Prelude.{◌≡◌, ◌∷◌, [], All, Some, IfSome, IsSome, IsOkUnless, OnOk, ◌<◌, ◌≤◌};
 ghost use Rattle.std.specs.Arc.{arc_value};
 ghost use Rattle.atomic_table.specs.Seated.{TableId};
 ghost use Rattle.morsel_meaning.specs.declared.fault.Fault.{Fault};
@@ -7,12 +7,11 @@ ghost use Rattle.morsel_meaning.specs.declared.fault.Fault.TheVariants.{OutOfMem
 ghost use Rattle.morsel_load.specs.declared.load.LoadKind.TheVariants.{Parts};
 ghost use Rattle.morsel_join.specs.declared.build_side.Build.{Build};
 ghost use Rattle.morsel_join.specs.BuildSides.{kept_side};
-ghost use Rattle.morsel_join.specs.Sides.{KeptSide};
 ghost use Rattle.morsel_scan.specs.ScanColumns.{output_fields};
-ghost use Rattle.morsel_line.specs.RowStages.{AloneRows, staged_columns};
+ghost use Rattle.morsel_line.specs.RowStages.{AloneRows, StageSeen, staged_columns};
 ghost use Rattle.morsel_scan_units.specs.LaneJobs.{LaneFor};
-ghost use Rattle.morsel_join_lines.specs.JoinNodes.{AreForOne, IsGiving};
-ghost use Rattle.morsel_emit_run.specs.EmitRuns.{SweepsAlone, WritesAloneOrNot};
+ghost use Rattle.morsel_join_lines.specs.JoinNodes.{AreForOne, GivesFor};
+ghost use Rattle.morsel_emit_run.specs.EmitRuns.{IsOnePlaceStage, SweepsAlone, SweepsPlace, WritesAloneOrNot, WritesPlaceOrNot};
 ghost use Rattle.morsel_probe_run.specs.ProbeRuns.{AreAllUpTo};
 ghost use Rattle.morsel_join_plan.specs.JoinLanes.{HasAskedTo, HasJust, HoldsTokensAt, rows_lane};
 
@@ -40,7 +39,7 @@ use std::sync::ledger::Ledger;
 
 /// Moves a join on whose units looked rows up: from now on it gives the kept rows that none found. It tests that all units were given
 /// back, and that rows were looked up to this place; where that is not so, it answers that there is no memory.
-fn end_looking_up<L, K, H>(join: &mut ScanJoin<L, K, H>, given: u64) -> Result<(), Fault>
+pub fn end_looking_up<L, K, H>(join: &mut ScanJoin<L, K, H>, given: u64) -> Result<(), Fault>
 where
     L: Tokens + Lanes<Load<<L as Tokens>::Token, LaneJob<K, H>>>,
     <L as Tokens>::Token: AtHome,
@@ -64,11 +63,11 @@ where
     Ok(())
 }
 
-/// Writes the kept rows of a node that no row found into the last sink; answers how many there are.
+/// Writes the rows of one place that a node gives into the last sink; answers how many there are.
 ///
 /// The node, which was made ready, and the board are lent, and taken. The columns of the sink are those of these rows.
 // Apart from the join, so that no proof names the units of both nodes.
-fn give_into<L, K, H, M, G, Y>(
+pub fn give_into<L, K, H, M, G, Y>(
     alloc: Global,
     io: &mut H,
     board: &mut Option<L::Board>,
@@ -97,16 +96,15 @@ where
     requires rows { lanes.now.rows ≡ rows_lane lanes.now.rows.scan lanes.now.rows.reader lanes.now.rows.outside lanes.now.rows.tokens }
     requires kept { lanes.now.kept ≡ record lanes.now.rows { stage = lanes.now.given.stage } }
     requires texts { lanes.now.given ≡ record lanes.now.rows { kind = Parts; stage = lanes.now.given.stage } }
-    requires first_recv { lanes.now.first.recv.items ≡ lanes.now.rows ∷ lanes.now.rows ∷ [] }
-    requires first_send { lanes.now.first.send.items ≡ lanes.now.kept ∷ [] }
+    requires first_tokens { All (λ (lane : LaneFor). lane.tokens ≡ lanes.now.rows.tokens) lanes.now.first.recv.items }
     requires last { AreForOne lanes.now.kept lanes.now.given lanes.now.last.recv.items lanes.now.last.send.items }
     requires columns { arc_value sink ≡ staged_columns lanes.now.given.stage (output_fields lanes.now.rows.scan.scan) }
     requires some_first { IsSome first.old }
-    requires gives { IfSome first.old (λ first. IsGiving run.line.pipelines (M.seen first)) }
+    requires gives { IfSome first.old (λ first. GivesFor run.line.pipelines lanes.now.kept lanes.now.first.recv.items lanes.now.first.send.items (M.seen first)) }
     requires fits { IfSome first.old (λ first. M.fits first lanes.now.first.recv.items lanes.now.first.send.items) }
     requires fails { IfSome first.old (λ first. (fault : Fault) → M.fails first lanes.now.first.recv.items fault → fault ≡ OutOfMemory) }
-    ensures sweeps { (side : KeptSide) → lanes.now.given.stage ≡ AloneRows side → SweepsAlone lanes.now.rows.scan lanes.now.rows.reader lanes.now.rows.outside side steps.old steps.new }
-    ensures writes { (side : KeptSide) → lanes.now.given.stage ≡ AloneRows side → WritesAloneOrNot lanes.now.rows.scan lanes.now.rows.reader lanes.now.rows.outside side (H.seen io.old) result (H.seen io.new) }
+    ensures sweeps { (stage : StageSeen) → lanes.now.given.stage ≡ stage → IsOnePlaceStage stage → SweepsPlace lanes.now.rows.scan lanes.now.rows.reader lanes.now.rows.outside stage steps.old steps.new }
+    ensures writes { (stage : StageSeen) → lanes.now.given.stage ≡ stage → IsOnePlaceStage stage → WritesPlaceOrNot lanes.now.rows.scan lanes.now.rows.reader lanes.now.rows.outside stage (H.seen io.old) result (H.seen io.new) }
 {
     let Some(first) = first.take() else {
         unreachable!()

@@ -58,20 +58,22 @@ pub struct JoinWriters {
 }
 
 /// What the lanes of a join on one thread carry.
-type JoinLoad<H> = Load<PlainToken, LaneJob<PlainGroup, H>>;
+pub type JoinLoad<H> = Load<PlainToken, LaneJob<PlainGroup, H>>;
 
 /// The node of a join on one thread.
-type PlainJoin<H> = ScanJoin<PlainLanes<JoinLoad<H>>, PlainGroup, H>;
+pub type PlainJoin<H> = ScanJoin<PlainLanes<JoinLoad<H>>, PlainGroup, H>;
 
 /// A board, and the group whose tokens its rows may hold.
 #[derive(Drop)]
-struct JoinBoard<H: Io> {
-    board: PlainBoard<JoinLoad<H>>,
-    group: PlainGroup,
+pub struct JoinBoard<H: Io> {
+    /// The board.
+    pub board: PlainBoard<JoinLoad<H>>,
+    /// The group.
+    pub group: PlainGroup,
 }
 
 /// A board with a group.
-fn new_board<H: Io>(alloc: Global) -> Result<JoinBoard<H>, Fault>
+pub fn new_board<H: Io>(alloc: Global) -> Result<JoinBoard<H>, Fault>
     ensures home { IfOk result (λ made. (⟦<PlainBoard<JoinLoad<H>> as Board>⟧.id made.board).group_table ≡ ⟦<PlainGroup as AtHome>⟧.home made.group) }
     ensures out_of_memory { IsOkUnless result OutOfMemory }
 {
@@ -81,7 +83,7 @@ fn new_board<H: Io>(alloc: Global) -> Result<JoinBoard<H>, Fault>
 }
 
 /// The kept rows of a join, while rows are looked up in them.
-fn kept_rows<K, J: RowsJob<K>>(join: &EquiJoinNode<K, J>) -> Result<Arc<Build, Global>, Fault>
+pub fn kept_rows<K, J: RowsJob<K>>(join: &EquiJoinNode<K, J>) -> Result<Arc<Build, Global>, Fault>
     ensures build { IfOk result (λ build. build_of join.now.phase ≡ Some (arc_value build)) }
     ensures out_of_memory { IsOkUnless result OutOfMemory }
 {

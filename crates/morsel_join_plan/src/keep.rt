@@ -1,5 +1,5 @@
 //! The first phase of a join of two scans: the rows of one of them are kept.
-ghost use Rattle.std.specs.Prelude.{◌≡◌, ◌∷◌, [], Some, None, IfErr, IfOk, IfSome, IsSome, IsOkUnless, OnOk, ◌+◌, ◌*◌, ◌<◌, ◌≤◌};
+ghost use Rattle.std.specs.Prelude.{◌≡◌, ◌∷◌, [], All, Some, None, IfErr, IfOk, IfSome, IsSome, IsOkUnless, OnOk, ◌+◌, ◌*◌, ◌<◌, ◌≤◌};
 ghost use Rattle.std.specs.Arc.{arc_value};
 ghost use Rattle.std.specs.List.{sum_by};
 ghost use Rattle.morsel_meaning.specs.declared.fault.Fault.{Fault};
@@ -11,7 +11,7 @@ ghost use Rattle.morsel_read.specs.ScanReads.{pieces_at_start, sizes_in, SuitsPi
 ghost use Rattle.morsel_scan.specs.ScanColumns.{output_fields};
 ghost use Rattle.morsel_scan_units.specs.LaneJobs.{LaneFor};
 ghost use Rattle.morsel_scan_units.specs.LaneRows.{AloneBetween, AreScanRows, CarriesRows, FindsBetween, PlacesGive};
-ghost use Rattle.morsel_join_lines.specs.JoinNodes.{AreForOne, IsKeeping};
+ghost use Rattle.morsel_join_lines.specs.JoinNodes.{AreForOne, KeepsFor};
 ghost use Rattle.morsel_join_tasks.specs.Beside.{answer_beside};
 ghost use Rattle.morsel_join_phases.specs.declared.places.JoinAt.{JoinAt};
 ghost use Rattle.morsel_join_phases.specs.JoinPhases.{FitsJoin, HadRules, StaysJoin, at_of};
@@ -50,7 +50,7 @@ pub type ScanJoin<L, K, H> = EquiJoinNode<<L as Tokens>::Token, LaneJob<K, H>>;
 ///
 /// The node, which was made ready, and the board are lent, and taken.
 // Apart from the join, so that no proof names the units of both nodes.
-fn keep_with<L, K, H, M, G, Y>(
+pub fn keep_with<L, K, H, M, G, Y>(
     alloc: Global,
     io: &mut H,
     board: &mut Option<L::Board>,
@@ -80,10 +80,9 @@ where
     requires rows { lanes.now.rows ≡ rows_lane (arc_value source) reader (H.seen io.old) lanes.now.rows.tokens }
     requires fed { lanes.now.fed ≡ record lanes.now.rows { kind = Pieces } }
     requires first { AreForOne lanes.now.fed lanes.now.rows lanes.now.first.recv.items lanes.now.first.send.items }
-    requires last_recv { lanes.now.last.recv.items ≡ lanes.now.rows ∷ lanes.now.rows ∷ [] }
-    requires last_send { lanes.now.last.send.items ≡ lanes.now.rows ∷ [] }
+    requires last_tokens { All (λ (lane : LaneFor). lane.tokens ≡ lanes.now.rows.tokens) lanes.now.last.recv.items }
     requires some_last { IsSome last.old }
-    requires keeps { IfSome last.old (λ last. IsKeeping run.line.pipelines (M.seen last)) }
+    requires keeps { IfSome last.old (λ last. KeepsFor run.line.pipelines lanes.now.rows lanes.now.last.recv.items lanes.now.last.send.items (M.seen last)) }
     requires fits { IfSome last.old (λ last. M.fits last lanes.now.last.recv.items lanes.now.last.send.items) }
     requires fails { IfSome last.old (λ last. (fault : Fault) → M.fails last lanes.now.last.recv.items fault → fault ≡ OutOfMemory) }
     ensures sweeps { steps.new ≤ steps.old + 512 * (sum_by (λ n. n) (sizes_in (H.seen io.old).sizes reader.sources.files) + 1) }

@@ -1,7 +1,8 @@
 use Rattle.std.proofs.Common.{sym, ap, ◌∙◌}
 use Rattle.morsel_ports.specs.Nodes.{NodeSeen}
 use Rattle.morsel_join_phases.specs.JoinTables.{recv_kinds_at, send_kinds_at}
-use Rattle.morsel_join_plan.proofs.PortFacts.{if_ok, some_here}
+use Rattle.morsel_join_lines.proofs.PortLemmas.{keeps_by_first}
+use Rattle.morsel_join_plan.proofs.PortFacts.{if_ok, some_here, tokens_two}
 use Rattle.morsel_join_plan.proofs.NodeFacts.{stays_same}
 use Rattle.morsel_join_plan.proofs.keep.keep_rows.Goals as goal
 
@@ -12,12 +13,15 @@ pub keep_with-requires-clause-keeps : goal.keep_with-requires-clause-keeps
 keep_with-requires-clause-keeps g c =
     let place = rw (sym c.in-Some.ensures.value) at c.requires.at in
     let new = rw (sym c.in-Some.ensures.value) at c.requires.new in
-    let ready = c.initialize.ensures.ready in record {
+    let ready = c.initialize.ensures.ready in
+    keeps_by_first c.args.run.line.pipelines c.args.lanes.now.rows c.args.lanes.now.last.recv.items c.args.lanes.now.last.send.items _
+    (record {
       ready = ap (λ (s : NodeSeen). s.pipelines) ready;
       takes = ap (λ (s : NodeSeen). s.recv_kinds) ready ∙ ap recv_kinds_at place;
       gives = ap (λ (s : NodeSeen). s.send_kinds) ready ∙ ap send_kinds_at place;
       none_out = ap (λ (s : NodeSeen). s.units) ready ∙ new.1;
-    }
+    })
+    (record { other = c.args.lanes.now.rows; unused = c.args.lanes.now.rows; takes = c.requires.last_recv; gives = c.requires.last_send })
 
 pub keep_with-requires-clause-fits : goal.keep_with-requires-clause-fits
 keep_with-requires-clause-fits g c =
@@ -61,11 +65,8 @@ keep_with-requires-clause-fed g c = c.requires.fed
 pub keep_with-requires-clause-first : goal.keep_with-requires-clause-first
 keep_with-requires-clause-first g c = c.requires.first
 
-pub keep_with-requires-clause-last_recv : goal.keep_with-requires-clause-last_recv
-keep_with-requires-clause-last_recv g c = c.requires.last_recv
-
-pub keep_with-requires-clause-last_send : goal.keep_with-requires-clause-last_send
-keep_with-requires-clause-last_send g c = c.requires.last_send
+pub keep_with-requires-clause-last_tokens : goal.keep_with-requires-clause-last_tokens
+keep_with-requires-clause-last_tokens g c = tokens_two c.args.lanes.now.rows c.args.lanes.now.last.recv.items c.requires.last_recv
 
 pub returns-clause-sweeps : goal.returns-clause-sweeps
 returns-clause-sweeps g c = c.keep_with.ensures.sweeps

@@ -1,23 +1,15 @@
-use Rattle.std.proofs.Common.{ap, refl, subst, sym, ◌∙◌}
+use Rattle.std.proofs.Common.{ap, subst, sym, ◌∙◌}
 use Rattle.std.specs.Arc.{arc_value}
 use Rattle.morsel_scan.specs.Scans.{CsvScan}
 use Rattle.morsel_scan_units.specs.LaneJobs.{DecodesBetween, LaneFor}
 use Rattle.morsel_join_tasks.specs.Beside.{answer_beside}
 use Rattle.morsel_keep_run.specs.KeepRuns.{KeepsOrNot}
 use Rattle.morsel_join_plan.proofs.LaneFacts.{unit_out_of_memory}
-use Rattle.morsel_join_plan.proofs.PortFacts.{decodes_rows, fed_by, holds_one, holds_two, maker_fault, some_follows}
+use Rattle.morsel_join_plan.proofs.PortFacts.{decodes_rows, fed_by, holds_all, holds_one, maker_fault, some_follows}
 use Rattle.morsel_join_plan.proofs.keep.keep_with.Goals as goal
 
 pub keep_nodes-requires-clause-lane : goal.keep_nodes-requires-clause-lane
 keep_nodes-requires-clause-lane g c = fed_by _ _ _ _ _ _ c.requires.rows c.requires.fed
-
-pub keep_nodes-requires-clause-last_jobs : goal.keep_nodes-requires-clause-last_jobs
-keep_nodes-requires-clause-last_jobs g c = record {
-  other = c.args.lanes.now.rows;
-  unused = c.args.lanes.now.rows;
-  takes = c.requires.last_recv;
-  gives = c.requires.last_send;
-}
 
 pub keep_nodes-requires-clause-first_fits : goal.keep_nodes-requires-clause-first_fits
 keep_nodes-requires-clause-first_fits g c =
@@ -45,7 +37,7 @@ pub keep_nodes-requires-clause-first_tokens : goal.keep_nodes-requires-clause-fi
 keep_nodes-requires-clause-first_tokens g c = some_follows _ _ c.args.board.now c.requires.tokens (λ board hold. holds_one _ _ _ _ c.args.lanes.now.fed _ (ap (λ (lane : LaneFor). lane.tokens) c.requires.fed) c.requires.first.0 hold)
 
 pub keep_nodes-requires-clause-last_tokens : goal.keep_nodes-requires-clause-last_tokens
-keep_nodes-requires-clause-last_tokens g c = some_follows _ _ c.args.board.now c.requires.tokens (λ board hold. holds_two _ _ _ _ c.args.lanes.now.rows _ refl c.requires.last_recv hold)
+keep_nodes-requires-clause-last_tokens g c = some_follows _ _ c.args.board.now c.requires.tokens (λ board hold. holds_all _ _ _ _ c.args.lanes.now.last.recv.items c.requires.last_tokens hold)
 
 pub returns-clause-stays : goal.returns-clause-stays
 returns-clause-stays g c begun was = c.keep_nodes.ensures.stays begun (rw (sym c.in-Some.ensures.value) at was)
