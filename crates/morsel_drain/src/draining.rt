@@ -15,6 +15,7 @@ use morsel_outside::{Gate, Io};
 use std::sync::ledger::Ledger;
 
 /// How many sweeps rows may still bring that find many.
+#[derive(Clone, Copy, Debug)]
 struct Finding {
     /// The position behind the last row of the pieces that were read.
     rows: u64,

@@ -2,12 +2,14 @@
 #![tactic(auto)]
 
 mod alone;
+mod found;
 mod join;
 mod keep;
 mod lanes;
 mod look_up;
 
 pub use alone::{end_looking_up, give_into};
+pub use found::keep_found;
 pub use join::{
     JoinBoard, JoinLoad, JoinSide, JoinWriters, PlainJoin, kept_rows, new_board, write_join,
 };

@@ -159,6 +159,30 @@ cut-last axis cut all gives is last =
 cut-assoc : (before first rows others : List Row) → (before ++ first) ++ (rows ++ others) ≡ (before ++ (first ++ rows)) ++ others
 cut-assoc before first rows others = sym (append_assoc (before ++ first) rows others) ∙ ap (λ front. front ++ others) (append_assoc before first rows)
 
+-- what a cut and those behind it give, where it is known what those behind it do
+cut-behind : (axis : Axis) (cut next : RowsCut) (more : List RowsCut) (to : ℕ) (before all : List Row) → Gives axis.gives 0 cut.stretch.from before → Gives axis.gives cut.stretch.from cut.stretch.to all
+    → IsCutIn axis cut → IsCutIn axis next → (last : Bool) → cut.stretch.last ≡ last → GoesOnBehind last cut.stretch (length cut.frame.rows) next.stretch
+    → ((front rest : List Row) → Gives axis.gives 0 next.stretch.from front → Gives axis.gives next.stretch.from next.stretch.to rest → Gives axis.gives 0 to ((front ++ take next.stretch.skip rest) ++ rows_of_cuts (next ∷ more)))
+    → Gives axis.gives 0 to ((before ++ take cut.stretch.skip all) ++ rows_of_cuts (cut ∷ next ∷ more))
+cut-behind axis cut next more to before all start gives is next_is true last behind go_on =
+    let both : Gives axis.gives 0 cut.stretch.to (before ++ all) = gives-append axis.gives 0 cut.stretch.from cut.stretch.to before all start gives in
+    let there = go_on (before ++ all) next_is.all (subst (λ place. Gives axis.gives 0 place (before ++ all)) (sym behind.0) both) next_is.gives in
+    let none : (before ++ all) ++ take next.stretch.skip next_is.all ≡ before ++ all = ap (λ n. (before ++ all) ++ take n next_is.all) behind.1 ∙ append-nil (before ++ all) in
+    let same : (before ++ take cut.stretch.skip all) ++ rows_of_cuts (cut ∷ next ∷ more) ≡ ((before ++ all) ++ take next.stretch.skip next_is.all) ++ rows_of_cuts (next ∷ more) =
+    cut-assoc before (take cut.stretch.skip all) cut.frame.rows (rows_of_cuts (next ∷ more))
+    ∙ ap (λ rows. (before ++ rows) ++ rows_of_cuts (next ∷ more)) (cut-end axis cut all gives is ∙ cut-last axis cut all gives is last)
+    ∙ ap (λ rows. rows ++ rows_of_cuts (next ∷ more)) (sym none) in
+    subst (λ (rows : List Row). Gives axis.gives 0 to rows) (sym same) there
+cut-behind axis cut next more to before all start gives is next_is false last behind go_on =
+    let begun : Gives axis.gives 0 next.stretch.from before = subst (λ place. Gives axis.gives 0 place before) (sym behind.0) start in
+    let stretch : Gives axis.gives next.stretch.from next.stretch.to all = rw (behind.0, behind.1) gives in
+    let there = go_on before all begun stretch in
+    let same : (before ++ take cut.stretch.skip all) ++ rows_of_cuts (cut ∷ next ∷ more) ≡ (before ++ take next.stretch.skip all) ++ rows_of_cuts (next ∷ more) =
+    cut-assoc before (take cut.stretch.skip all) cut.frame.rows (rows_of_cuts (next ∷ more))
+    ∙ ap (λ rows. (before ++ rows) ++ rows_of_cuts (next ∷ more)) (cut-end axis cut all gives is)
+    ∙ ap (λ n. (before ++ take n all) ++ rows_of_cuts (next ∷ more)) (sym behind.2) in
+    subst (λ (rows : List Row). Gives axis.gives 0 to rows) (sym same) there
+
 -- cuts that go on after the rows before a place, and some of the stretch that begins there, give all up to their end
 cuts_go_on : (axis : Axis) (cut : RowsCut) (more : List RowsCut) (to : ℕ) (before all : List Row) → Gives axis.gives 0 cut.stretch.from before → Gives axis.gives cut.stretch.from cut.stretch.to all
     → All (IsCutIn axis) (cut ∷ more) → GoOn cut more to → Gives axis.gives 0 to ((before ++ take cut.stretch.skip all) ++ rows_of_cuts (cut ∷ more))
@@ -169,34 +193,10 @@ cuts_go_on axis cut [] to before all start gives are go =
     ∙ ap (λ rows. before ++ rows) (cut-end axis cut all gives is ∙ cut-last axis cut all gives is go.0) in
     subst (λ (rows : List Row). Gives axis.gives 0 to rows) (sym whole)
     (subst (λ end. Gives axis.gives 0 end (before ++ all)) go.1 (gives-append axis.gives 0 cut.stretch.from cut.stretch.to before all start gives))
-cuts_go_on axis cut (next ∷ more) to before all start gives are go = by cut.stretch.last refl go.0
-  where
-    is : IsCutIn axis cut
-    is = All-head (IsCutIn axis) cut (next ∷ more) are
-
-    later : All (IsCutIn axis) (next ∷ more)
-    later = All-tail (IsCutIn axis) cut (next ∷ more) are
-
-    front : (before ++ take cut.stretch.skip all) ++ rows_of_cuts (cut ∷ next ∷ more) ≡ (before ++ take (cut.stretch.skip + length cut.frame.rows) all) ++ rows_of_cuts (next ∷ more)
-    front = cut-assoc before (take cut.stretch.skip all) cut.frame.rows (rows_of_cuts (next ∷ more))
-        ∙ ap (λ rows. (before ++ rows) ++ rows_of_cuts (next ∷ more)) (cut-end axis cut all gives is)
-
-    by : (last : Bool) → cut.stretch.last ≡ last → GoesOnBehind last cut.stretch (length cut.frame.rows) next.stretch → Gives axis.gives 0 to ((before ++ take cut.stretch.skip all) ++ rows_of_cuts (cut ∷ next ∷ more))
-    by true last behind =
-        let next_is = All-head (IsCutIn axis) next more later in
-        let both : Gives axis.gives 0 cut.stretch.to (before ++ all) = gives-append axis.gives 0 cut.stretch.from cut.stretch.to before all start gives in
-        let there = cuts_go_on axis next more to (before ++ all) next_is.all (subst (λ place. Gives axis.gives 0 place (before ++ all)) (sym behind.0) both) next_is.gives later go.1 in
-        let none : (before ++ all) ++ take next.stretch.skip next_is.all ≡ before ++ all = ap (λ n. (before ++ all) ++ take n next_is.all) behind.1 ∙ append-nil (before ++ all) in
-        let same : (before ++ take cut.stretch.skip all) ++ rows_of_cuts (cut ∷ next ∷ more) ≡ ((before ++ all) ++ take next.stretch.skip next_is.all) ++ rows_of_cuts (next ∷ more) =
-        front ∙ ap (λ rows. (before ++ rows) ++ rows_of_cuts (next ∷ more)) (cut-last axis cut all gives is last) ∙ ap (λ rows. rows ++ rows_of_cuts (next ∷ more)) (sym none) in
-        subst (λ (rows : List Row). Gives axis.gives 0 to rows) (sym same) there
-    by false last behind =
-        let begun : Gives axis.gives 0 next.stretch.from before = subst (λ place. Gives axis.gives 0 place before) (sym behind.0) start in
-        let stretch : Gives axis.gives next.stretch.from next.stretch.to all = rw (behind.0, behind.1) gives in
-        let there = cuts_go_on axis next more to before all begun stretch later go.1 in
-        let same : (before ++ take cut.stretch.skip all) ++ rows_of_cuts (cut ∷ next ∷ more) ≡ (before ++ take next.stretch.skip all) ++ rows_of_cuts (next ∷ more) =
-        front ∙ ap (λ n. (before ++ take n all) ++ rows_of_cuts (next ∷ more)) (sym behind.2) in
-        subst (λ (rows : List Row). Gives axis.gives 0 to rows) (sym same) there
+cuts_go_on axis cut (next ∷ more) to before all start gives are go =
+    let later = All-tail (IsCutIn axis) cut (next ∷ more) are in
+    cut-behind axis cut next more to before all start gives (All-head (IsCutIn axis) cut (next ∷ more) are) (All-head (IsCutIn axis) next more later) cut.stretch.last refl go.0
+    (λ front rest begun stretch. cuts_go_on axis next more to front rest begun stretch later go.1)
 
 -- cuts that follow one another from the first place give all up to their end
 cuts_follow : (axis : Axis) (cuts : List RowsCut) (to : ℕ) → All (IsCutIn axis) cuts → FollowCuts cuts to → Gives axis.gives 0 to (rows_of_cuts cuts)
