@@ -38,10 +38,10 @@ loads-preserved g c = record {
   took = λ given taken did took.
       let before = c.loads.invariant.took given taken did took in (
         before.0 ++ made_loads c.in-Ok.given,
-        subst (g.G.LoadsGiver.did c.next.new.giver) (append_assoc given before.0 (made_loads c.in-Ok.given)) (c.in-Ok.ensures.did (given ++ before.0) before.1),
+        subst (g.G.LoadsGiver.did c.next.new.self) (append_assoc given before.0 (made_loads c.in-Ok.given)) (c.in-Ok.ensures.did (given ++ before.0) before.1),
         subst (g.P.LoadKeeper.took c.keep_some.new.keeper) (append_assoc taken before.0 (made_loads c.in-Ok.given)) (c.in-Ok-keep_some.ensures.took (taken ++ before.0) before.2),
       );
-  given_later = g.met.G.LoadsGiver.later_next c.args.giver.now c.loads.giver c.next.new.giver c.loads.invariant.given_later c.in-Ok.ensures.later;
+  given_later = g.met.G.LoadsGiver.later_next c.args.giver.now c.loads.giver c.next.new.self c.loads.invariant.given_later c.in-Ok.ensures.later;
   kept_later = g.met.P.LoadKeeper.later_next c.args.keeper.now c.loads.keeper c.keep_some.new.keeper c.loads.invariant.kept_later c.in-Ok-keep_some.ensures.later;
 }
 
@@ -60,9 +60,31 @@ pub returns-then-ended-clause-took : goal.returns-then-ended-clause-took
 returns-then-ended-clause-took g c given taken did took =
     let before = c.loads.invariant.took given taken did took in (
       before.0 ++ made_loads c.in-Ok.given,
-      subst (g.G.LoadsGiver.did c.next.new.giver) (append_assoc given before.0 (made_loads c.in-Ok.given)) (c.in-Ok.ensures.did (given ++ before.0) before.1),
+      subst (g.G.LoadsGiver.did c.next.new.self) (append_assoc given before.0 (made_loads c.in-Ok.given)) (c.in-Ok.ensures.did (given ++ before.0) before.1),
       subst (g.P.LoadKeeper.took c.keep_some.new.keeper) (append_assoc taken before.0 (made_loads c.in-Ok.given)) (c.in-Ok-keep_some.ensures.took (taken ++ before.0) before.2),
     )
 
 pub returns-then-ended-clause-ended : goal.returns-then-ended-clause-ended
 returns-then-ended-clause-ended g c = c.in-Ok.ensures.none_left (c.in-Ok-keep_some.ensures.ended c.if-ended.true)
+
+-- both are later states
+pub returns-in-Err-clause-later : goal.returns-in-Err-clause-later
+returns-in-Err-clause-later g c = (
+  g.met.G.LoadsGiver.later_next c.args.giver.now c.loads.giver c.next.new.self c.loads.invariant.given_later c.in-Err.ensures.later,
+  c.loads.invariant.kept_later,
+)
+
+pub returns-in-Err-keep_some-clause-later : goal.returns-in-Err-keep_some-clause-later
+returns-in-Err-keep_some-clause-later g c = (
+  g.met.G.LoadsGiver.later_next c.args.giver.now c.loads.giver c.next.new.self c.loads.invariant.given_later c.in-Ok.ensures.later,
+  g.met.P.LoadKeeper.later_next c.args.keeper.now c.loads.keeper c.keep_some.new.keeper c.loads.invariant.kept_later c.in-Err-keep_some.ensures.later,
+)
+
+pub returns-then-ended-clause-later : goal.returns-then-ended-clause-later
+returns-then-ended-clause-later g c = (
+  g.met.G.LoadsGiver.later_next c.args.giver.now c.loads.giver c.next.new.self c.loads.invariant.given_later c.in-Ok.ensures.later,
+  g.met.P.LoadKeeper.later_next c.args.keeper.now c.loads.keeper c.keep_some.new.keeper c.loads.invariant.kept_later c.in-Ok-keep_some.ensures.later,
+)
+
+pub returns-clause-later : goal.returns-clause-later
+returns-clause-later g c = (c.loads.invariant.given_later, c.loads.invariant.kept_later)
