@@ -1,4 +1,4 @@
-use Rattle.std.proofs.Common.{sym, subst}
+use Rattle.std.proofs.Common.{sym}
 use Rattle.morsel_keep_run.proofs.found.open_found_units.Goals as goal
 
 -- the faults of a node are those of its scan
@@ -31,9 +31,7 @@ returns-clause-first g c =
 
 -- what stays of a node as it was taken stays of it in its stage
 pub returns-clause-finding_stays : goal.returns-clause-finding_stays
-returns-clause-finding_stays g c begun was =
-    subst (λ (stage : _). g.M.ComputeNode.stays begun stage.node) (sym c.in_ok-both.ensures.stages.0) (c.in_ok-first.ensures.middle_stays begun (rw (sym c.in-Some.ensures.value) at was))
+returns-clause-finding_stays g c begun was = rw (c.in_ok-both.ensures.stages.0) (c.in_ok-first.ensures.middle_stays begun (rw (sym c.in-Some.ensures.value) at was))
 
 pub returns-clause-keeping_stays : goal.returns-clause-keeping_stays
-returns-clause-keeping_stays g c begun was =
-    subst (λ (stage : _). g.Z.ComputeNode.stays begun stage.node) (sym c.in_ok-both.ensures.stages.1) (c.in_ok-first.ensures.last_stays begun (rw (sym c.in-Some.ensures.value) at was))
+returns-clause-keeping_stays g c begun was = rw (c.in_ok-both.ensures.stages.1) (c.in_ok-first.ensures.last_stays begun (rw (sym c.in-Some.ensures.value) at was))
