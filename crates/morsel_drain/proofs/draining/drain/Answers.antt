@@ -1,6 +1,5 @@
 use Rattle.std.proofs.Common.{ℕ, ◌≤◌, ◌∙◌, refl, subst, arith, inl}
 use Rattle.std.specs.Prelude.{List}
-use Rattle.morsel_drain.specs.Finding.{IsRowsEnd}
 use Rattle.morsel_drain.proofs.DrainLemmas.{rows_seen, leaves_all_else, midst_begun, midst_read, read_failed, midst_served, step_failed, run_ended}
 use Rattle.morsel_drain.proofs.draining.drain.Goals as goal
 
