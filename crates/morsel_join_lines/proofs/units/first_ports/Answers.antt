@@ -7,7 +7,8 @@ use Rattle.morsel_join_lines.proofs.units.first_ports.Goals as goal
 pub returns-clause-ports : goal.returns-clause-ports
 returns-clause-ports g c job others are =
     let many : length c.args.jobs.now.items ≡ length others + 1 = ap length are in
-    let len = c.len.ensures.len in
+    let len = c.len.ensures in
+    let known = c.args.jobs.now.ok.0 in
     let less = c.saturating_sub.ensures in
-    let same : c.saturating_sub.result ≡ length others = omega (arith, many, len, less) in
+    let same : c.saturating_sub.result ≡ length others = omega (arith, many, len, known, less) in
     c.in_ok-add_absent.ensures.ports ∙ ap (λ items. items ++ replicate c.saturating_sub.result Absent) c.in_ok-ports.ensures.ports ∙ ap (λ (n : ℕ). c.args.first ∷ replicate n Absent) same
