@@ -67,6 +67,28 @@ impl<G: AtHome, H: Io> LaneJob<G, H> {
             stage: Snapshot::of(stage),
         }
     }
+
+    /// The same, for rows of another stage.
+    pub fn with_stage(self, stage: &RowStage) -> LaneJob<G, H>
+        ensures { result ≡ record self { stage = stage.now } }
+    {
+        let LaneJob {
+            kind,
+            scan,
+            reader,
+            outside,
+            group,
+            ..
+        } = self;
+        LaneJob {
+            kind,
+            scan,
+            reader,
+            outside,
+            group,
+            stage: Snapshot::of(stage),
+        }
+    }
 }
 
 impl<K: AtHome, G: AtHome, H: Io> LoadJob<K> for LaneJob<G, H> {
