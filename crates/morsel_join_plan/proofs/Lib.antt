@@ -1,8 +1,9 @@
-mod KnownFacts
-mod PhaseFacts
-mod LaneFacts
-mod PortFacts
-mod CourseLemmas
-mod SweepLemmas
-mod TurnFacts
-mod NodeFacts
+-- Lemmas of the runs of a join, which are those of other nodes too.
+pub mod KnownFacts
+pub mod PhaseFacts
+pub mod LaneFacts
+pub mod PortFacts
+pub mod CourseLemmas
+pub mod SweepLemmas
+pub mod TurnFacts
+pub mod NodeFacts
