@@ -50,7 +50,7 @@ finds side (Ok first ∷ gives) rows e =
       both.4 ∙ ap (λ (rs : List Row). rs ++ both.1) (sym k) ∙ ap (λ (rs : List Row). rows_found side first ++ rs) later.2 ∙ sym (found-append side first later.0),
     )
 
-found_of : (side : KeptSide) (gives : Places) (to : ℕ) (rows : List Row) → Gives (map (given_found side) gives) 0 to rows → (asked : List Row) × Gives gives 0 to asked × (rows ≡ rows_found side asked)
+pub found_of : (side : KeptSide) (gives : Places) (to : ℕ) (rows : List Row) → Gives (map (given_found side) gives) 0 to rows → (asked : List Row) × Gives gives 0 to asked × (rows ≡ rows_found side asked)
 found_of side gives to rows given =
     let same : slice_range (map (given_found side) gives) 0 to ≡ map (given_found side) (slice_range gives 0 to) = ap (take (to - 0)) (drop-map (given_found side) 0 gives) ∙ take-map (given_found side) (to - 0) (drop 0 gives) in
     let it = finds side (slice_range gives 0 to) rows (ap collected (sym same) ∙ given.all) in (
