@@ -50,9 +50,9 @@ pub serial_for : {E J : Type 0} (P : J → E → Type 0) (ports : List (Ends E))
 serial_for {E} {J} P ports jobs end job are for this = one_for P ports jobs (Serial end) job are for (All-cons (P job) end [] this (all_none (P job)))
 
 -- ports that have no ends are of no kind
-absent_kinds : {E J : Type 0} (others : List J) → map (kind_of_ends {E = E}) (replicate (length others) Absent) ≡ map (λ (other : J). kinds.Absent) others
-absent_kinds [] = refl
-absent_kinds {E} {J} (other ∷ others) = ap (λ (of : List PortKind). kinds.Absent ∷ of) (absent_kinds {E = E} {J = J} others)
+absent_kinds : (E J : Type 0) (others : List J) → map (kind_of_ends {E = E}) (replicate (length others) Absent) ≡ map (λ (other : J). kinds.Absent) others
+absent_kinds E J [] = refl
+absent_kinds E J (other ∷ others) = ap (λ (of : List PortKind). kinds.Absent ∷ of) (absent_kinds E J others)
 
 absent_ends : {E J : Type 0} (P : J → E → Type 0) (others : List J) → AreEndsFor P (replicate (length others) Absent) others
 absent_ends P [] = tt
@@ -62,7 +62,7 @@ absent_ends P (other ∷ others) = (all_none (P other), absent_ends P others)
 pub first_kinds : {E J : Type 0} (pipelines : Option ℕ) (of : List PortKind) (ports : List (Ends E)) (first : Ends E) (others : List J) → ports ≡ first ∷ replicate (length others) Absent
     → of ≡ kind_of_ends first ∷ map (λ (other : J). kinds.Absent) others → HasEachPipeline pipelines first → AreEndsOfKinds of pipelines ports
 first_kinds {E} {J} pipelines of ports first others are same each = record {
-  same = ap (map kind_of_ends) are ∙ ap (λ (more : List PortKind). kind_of_ends first ∷ more) (absent_kinds {E = E} {J = J} others) ∙ sym same;
+  same = ap (map kind_of_ends) are ∙ ap (λ (more : List PortKind). kind_of_ends first ∷ more) (absent_kinds E J others) ∙ sym same;
   each = All-same (HasEachPipeline {E = E} pipelines) ports (first ∷ replicate (length others) Absent) are
       (All-cons (HasEachPipeline {E = E} pipelines) first (replicate (length others) Absent) each (All-replicate (HasEachPipeline {E = E} pipelines) (length others) Absent tt));
 }
@@ -75,7 +75,7 @@ first_of_more {E} {J} P ports jobs first one others are for these =
 -- the kinds of ports of which none has ends, and that they are for any jobs
 pub no_kinds : {E J : Type 0} (pipelines : Option ℕ) (of : List PortKind) (ports : List (Ends E)) (jobs : List J) → ports ≡ replicate (length jobs) Absent → of ≡ map (λ (from : J). kinds.Absent) jobs → AreEndsOfKinds of pipelines ports
 no_kinds {E} {J} pipelines of ports jobs are same = record {
-  same = ap (map kind_of_ends) are ∙ absent_kinds {E = E} {J = J} jobs ∙ sym same;
+  same = ap (map kind_of_ends) are ∙ absent_kinds E J jobs ∙ sym same;
   each = All-same (HasEachPipeline {E = E} pipelines) ports (replicate (length jobs) Absent) are (All-replicate (HasEachPipeline {E = E} pipelines) (length jobs) Absent tt);
 }
 

@@ -9,5 +9,5 @@ loop-init g c = sym (append-nil c.args.ports.now.items)
 
 pub loop-preserved : goal.loop-preserved
 loop-preserved g c =
-    c.in_ok.ensures.items ∙ ap (λ items. items ++ Absent ∷ []) c.loop.invariant ∙ append_assoc c.args.ports.now.items (replicate c.loop.counter Absent) (Absent ∷ [])
+    c.in_ok-push.ensures.items ∙ ap (λ items. items ++ Absent ∷ []) c.loop.invariant ∙ append_assoc c.args.ports.now.items (replicate c.loop.counter Absent) (Absent ∷ [])
     ∙ ap (λ more. c.args.ports.now.items ++ more) (replicate_more c.loop.counter Absent)

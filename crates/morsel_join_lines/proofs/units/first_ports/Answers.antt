@@ -6,7 +6,8 @@ use Rattle.morsel_join_lines.proofs.units.first_ports.Goals as goal
 -- there is one port for each job
 pub returns-clause-ports : goal.returns-clause-ports
 returns-clause-ports g c job others are =
-    let many : length c.args.jobs.now.items ≡ length others + 1 = ap length are in
+    let there : length c.args.jobs.now.items ≡ length (job ∷ others) = ap length are in
+    let many : length c.args.jobs.now.items ≡ length others + 1 = omega (arith, there) in
     let len = c.len.ensures in
     let known = c.args.jobs.now.ok.0 in
     let less = c.saturating_sub.ensures in

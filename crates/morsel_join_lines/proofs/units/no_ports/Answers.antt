@@ -9,4 +9,4 @@ returns-clause-ports g c =
     let len = c.len.ensures in
     let known = c.args.jobs.now.ok.0 in
     let same : c.len.result ≡ length c.args.jobs.now.items = omega (arith, len, known) in
-    c.in_ok.ensures.ports ∙ ap (λ items. items ++ replicate c.len.result Absent) c.new-ports.ensures.items ∙ ap (λ (n : ℕ). replicate n Absent) same
+    c.in_ok-add_absent.ensures.ports ∙ ap (λ items. items ++ replicate c.len.result Absent) c.new-ports.ensures.items ∙ ap (λ (n : ℕ). replicate n Absent) same
