@@ -150,7 +150,7 @@ key_rows shape rows key =
     ∙ ap (map (λ (r : RowAt). r.row)) (by_number-passing (λ (r : RowAt). r.at) (λ r. same_key key (key_of shape r)) rows)
 
 -- what a reduction says by what was kept
-said : (shape : GroupShape) (rows : List RowAt) (key : Row) (agg : Reducer) → finished agg.op (kept_at shape rows agg key) ≡ reduced_rows (rows_of_key shape key (in_order rows)) agg
+pub said : (shape : GroupShape) (rows : List RowAt) (key : Row) (agg : Reducer) → finished agg.op (kept_at shape rows agg key) ≡ reduced_rows (rows_of_key shape key (in_order rows)) agg
 said shape rows key agg =
     let own = rows_at_key shape key rows in
     reduces_by_place agg.op (valued agg own)

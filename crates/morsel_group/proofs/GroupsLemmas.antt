@@ -27,7 +27,7 @@ use Rattle.morsel_group.proofs.CountLemmas.{grown_len}
 use Rattle.morsel_group.proofs.HeldLemmas.{entries_in, many_keys, long_group, few_joined, none_placed, kept_updated}
 use Rattle.morsel_group.proofs.TakeLemmas.{numbered, numbers_keys, takes_rows}
 
-reads_same : (fields : List Field) (states : GroupStates) (entries : List (Option Entry)) (column : Option ℕ) → ReadsColumn fields states column → ReadsColumn fields (record states { entries = entries }) column
+pub reads_same : (fields : List Field) (states : GroupStates) (entries : List (Option Entry)) (column : Option ℕ) → ReadsColumn fields states column → ReadsColumn fields (record states { entries = entries }) column
 reads_same fields states entries None reads = reads
 reads_same fields states entries (Some at) reads = reads
 

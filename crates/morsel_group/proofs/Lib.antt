@@ -7,3 +7,8 @@ mod FreshLemmas
 mod JoinLemmas
 mod HeldLemmas
 mod GroupsLemmas
+mod OthersLemmas
+mod FinishLemmas
+mod BlankLemmas
+mod CauseLemmas
+pub mod LocalLemmas

@@ -73,7 +73,15 @@ name_found fields name (Some at) e none = named fields at (λ (field : Field). b
     named : (fs : List Field) (k : ℕ) (test : Field → Bool) → k < length fs → names_of (take 1 (drop k fs)) ≡ (get_or fs k (record { name = []; kind = types.Int })).name ∷ []
     named fs k test within = ap names_of (field-at fs k (record { name = []; kind = types.Int }) within)
 
-first_none : (a b : Option Fault) → first_fault a b ≡ None → (a ≡ None) × (b ≡ None)
+-- a name that is found is the name of a column
+pub name_within : (fields : List Field) (name : List ℕ) (at : Option ℕ) → place_of fields name ≡ at → (if is_some at then None else Some (faults.ColumnNotFound name)) ≡ None → place_or_first at < length fields
+name_within fields name None e none = absurd (some_none none)
+  where
+    some_none : Some (faults.ColumnNotFound name) ≡ None → ⊥
+    some_none e = cc
+name_within fields name (Some at) e none = (position-Some (λ (field : Field). bytes_eq field.name name) fields at (record { name = []; kind = types.Int }) e).0
+
+pub first_none : (a b : Option Fault) → first_fault a b ≡ None → (a ≡ None) × (b ≡ None)
 first_none None b e = (refl, e)
 first_none (Some f) b e = cc
 

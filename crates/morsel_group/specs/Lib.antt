@@ -7,4 +7,6 @@ pub mod Takes
 pub mod Parts
 pub mod Fresh
 pub mod Arrivals
+pub mod GroupCauses
 pub mod Locals
+pub mod CauseLaws

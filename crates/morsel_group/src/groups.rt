@@ -1,18 +1,21 @@
 //! Groups of rows, and how more rows and the groups of others come to them.
-ghost use Rattle.std.specs.Prelude.{◌≡◌, ◌++◌, ◌+◌, List, Some, length, OnOk, IfErr};
+ghost use Rattle.std.specs.Prelude.{◌≡◌, ◌++◌, ◌+◌, List, Some, length, OnOk, IfOk, IfErr, IsOkUnless};
+ghost use Rattle.std.specs.List.{range_with_len};
 ghost use Rattle.morsel_keys.specs.Reductions.{input_place};
 ghost use Rattle.morsel_group.specs.Grouping.{RowAt};
 ghost use Rattle.morsel_group.specs.Takes.{placed_rows};
 ghost use Rattle.morsel_group.specs.Locals.{held_in, AreGroups, AreSameGroupBy, HasGroupedRows, IsGroupFault};
 
-use crate::counts::count_rows;
+use crate::counts::{count_others, count_rows};
 use crate::fresh::take_keys;
-use crate::part::{AggStates, update_parts};
+use crate::part::{AggStates, merge_parts, update_parts};
 use crate::table::GroupKeys;
 use morsel_frame::{Frame, Schema};
-use morsel_meaning::Fault;
+use morsel_keys::Reduction;
+use morsel_meaning::{ColType, Fault};
 use morsel_states::States;
 use std::alloc::Global;
+use std::mem;
 
 /// Keys in order of arrival, and what each reduction has of each.
 #[derive(Drop)]
@@ -98,4 +101,83 @@ fn put_numbered(
     }
     groups.took = took;
     Ok(())
+}
+
+/// Puts the rows of another group-by of the same to groups. After a fault the groups are of no use.
+pub fn put_groups(groups: &mut Groups, other: &mut Groups) -> Result<(), Fault>
+    requires groups { AreGroups groups.old }
+    requires other { AreGroups other.old }
+    requires alike { AreSameGroupBy (Some (held_in groups.old)) (Some (held_in other.old)) }
+    ensures groups { OnOk result (AreGroups groups.new) }
+    ensures same { OnOk result (AreSameGroupBy (Some (held_in groups.old)) (Some (held_in groups.new))) }
+    ensures rows { (rows more : List RowAt) → HasGroupedRows (held_in groups.old) rows → HasGroupedRows (held_in other.old) more → OnOk result (HasGroupedRows (held_in groups.new) (rows ++ more)) }
+    ensures refused { (rows more : List RowAt) → HasGroupedRows (held_in groups.old) rows → HasGroupedRows (held_in other.old) more → IfErr result (IsGroupFault (held_in groups.old).shape (rows ++ more)) }
+{
+    let Some(took) = groups.took.checked_add(other.took) else {
+        return Err(Fault::OutOfMemory);
+    };
+    let places = first_places(groups.alloc, groups.keys.len())?;
+    let mut numbers = vec![in groups.alloc; 0u32; other.key_rows.height()]?;
+    match join_numbered(groups, other, &places, &mut numbers, took) {
+        Ok(()) => Ok(()),
+        Err(fault) => Err(fault),
+    }
+}
+
+/// Puts the rows of another group-by of the same to groups, with the places of the keys in its own, a place for the number of each, and how many
+/// rows there are then.
+fn join_numbered(
+    groups: &mut Groups,
+    other: &mut Groups,
+    places: &[usize],
+    numbers: &mut [u32],
+    took: u64,
+) -> Result<(), Fault>
+    requires groups { AreGroups groups.old }
+    requires other { AreGroups other.old }
+    requires alike { AreSameGroupBy (Some (held_in groups.old)) (Some (held_in other.old)) }
+    requires places { places.now ≡ range_with_len 0 (length groups.old.keys.items) }
+    requires len { length numbers.old ≡ length other.old.key_rows.rows }
+    requires took { took ≡ groups.old.took + other.old.took }
+    ensures groups { OnOk result (AreGroups groups.new) }
+    ensures same { OnOk result (AreSameGroupBy (Some (held_in groups.old)) (Some (held_in groups.new))) }
+    ensures rows { (rows more : List RowAt) → HasGroupedRows (held_in groups.old) rows → HasGroupedRows (held_in other.old) more → OnOk result (HasGroupedRows (held_in groups.new) (rows ++ more)) }
+    ensures refused { (rows more : List RowAt) → HasGroupedRows (held_in groups.old) rows → HasGroupedRows (held_in other.old) more → IfErr result (IsGroupFault (held_in groups.old).shape (rows ++ more)) }
+{
+    let count = match take_keys(
+        groups.alloc,
+        &mut groups.table,
+        &mut groups.key_rows,
+        &other.key_rows,
+        places,
+        numbers,
+    ) {
+        Ok(count) => count,
+        Err(fault) => return Err(fault),
+    };
+    let blank = States::new(groups.alloc, Reduction::Len, ColType::Int);
+    let counts = mem::replace(&mut other.counts, blank);
+    match count_others(&mut groups.counts, counts, numbers, count) {
+        Ok(()) => {}
+        Err(fault) => return Err(fault),
+    }
+    let parts = mem::replace(&mut other.parts, Vec::new(groups.alloc));
+    match merge_parts(&mut groups.parts, parts, numbers, count) {
+        Ok(()) => {}
+        Err(fault) => return Err(fault),
+    }
+    groups.took = took;
+    Ok(())
+}
+
+/// The first so many places.
+fn first_places(alloc: Global, count: usize) -> Result<Vec<usize>, Fault>
+    ensures ok { IfOk result (λ places. places.items ≡ range_with_len 0 count) }
+    ensures out_of_memory { IsOkUnless result Fault.OutOfMemory }
+{
+    let mut places = Vec::new(alloc);
+    for at in 0..count {
+        places.push(at)?;
+    }
+    Ok(places)
 }
