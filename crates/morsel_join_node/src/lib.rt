@@ -10,5 +10,5 @@ mod units;
 
 pub use join_unit::{JoinOut, JoinTask, JoinUnit};
 pub use node::EquiJoinNode;
-pub use unit_maker::UnitMaker;
+pub use unit_maker::{UnitMaker, units_behind};
 pub use units::{KeepingUnits, ProbingUnits};
