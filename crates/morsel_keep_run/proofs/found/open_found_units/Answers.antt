@@ -1,4 +1,5 @@
-use Rattle.std.proofs.Common.{sym}
+use Rattle.std.proofs.Common.{◌≤◌, ℕ, refl, sym, ap, subst}
+use Rattle.morsel_ports.specs.Pipes.{is_direct, is_made}
 use Rattle.morsel_keep_run.proofs.found.open_found_units.Goals as goal
 
 -- the faults of a node are those of its scan
@@ -35,3 +36,21 @@ returns-clause-finding_stays g c begun was = rw (c.in_ok-both.ensures.stages.0) 
 
 pub returns-clause-keeping_stays : goal.returns-clause-keeping_stays
 returns-clause-keeping_stays g c begun was = rw (c.in_ok-both.ensures.stages.1) (c.in_ok-first.ensures.last_stays begun (rw (sym c.in-Some.ensures.value) at was))
+
+-- the pipe before the first node is ready
+pub returns-clause-ready : goal.returns-clause-ready
+returns-clause-ready g c =
+    let first = c.in_ok-first.ensures in
+    let same = sym c.open_find_keep.ensures.same_board in (
+      refl,
+      c.requires.spread_room,
+      c.requires.merge_room,
+      rw same at c.requires.fed_tokens,
+      (
+        ap is_made first.fed_stage,
+        ap is_direct first.fed_stage,
+        subst (λ (n : ℕ). (1 ≤ n) × (n ≤ 32768)) (sym first.fed_pipelines) c.requires.pipelines,
+        rw same at first.fed_senders,
+        rw same at first.fed_receivers,
+      ),
+    )
