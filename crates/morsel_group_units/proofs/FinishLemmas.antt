@@ -1,5 +1,5 @@
 -- The rows of a group-by, or why there are none.
-use Rattle.std.proofs.Common.{◌≡◌, ◌≤◌, ◌⊎◌, [], ◌∷◌, ◌++◌, List, Option, None, Some, All, length, get_or, refl, sym, ap, subst, ◌∙◌, arith, inl, inr}
+use Rattle.std.proofs.Common.{◌≡◌, ◌≤◌, ◌<◌, ◌⊎◌, [], ◌∷◌, ◌++◌, List, ℕ, Option, None, Some, All, length, get_or, refl, sym, ap, subst, ◌∙◌, arith, inl, inr}
 use Rattle.std.specs.List.{flat_map, sum_by}
 use Rattle.std.proofs.lemmas.List.{append-nil, flat_map_more, length-append}
 use Rattle.std.proofs.lemmas.List.Elements.{All-get_or, All-push}
@@ -13,14 +13,14 @@ use Rattle.morsel_group.specs.Asked.{GroupAsked, GroupShape}
 use Rattle.morsel_group.specs.Grouping.{Grouped, RowAt, in_order}
 use Rattle.morsel_group.specs.CauseLaws.{GroupsHaveCauses, SumsHaveCauses}
 use Rattle.morsel_group.specs.GroupCauses.{GroupCause}
-use Rattle.morsel_group.specs.Locals.{HasShape, HasTakenRows, HaveTaken, HeldGroups, IsGroupBy, IsGroupFault, IsSumFault, StaysGroupBy}
+use Rattle.morsel_group.specs.Locals.{AreSameGroupBy, HasShape, HasTakenRows, HaveTaken, HeldGroups, IsGroupBy, IsGroupFault, IsSumFault, StaysGroupBy}
 use Rattle.morsel_group_units.specs.GroupAsks.{GroupRulesSeen, rules_output, rules_shape}
 use Rattle.morsel_group_units.specs.GroupKeepers.{AreGroupedRows}
 use Rattle.morsel_group_units.specs.TakenLoads.{PlacesRise, placed_loads, rows_taken}
 use Rattle.morsel_group_units.specs.LocalTakings.{HaveFault, HoldAllLoads, HoldAllRows}
 use Rattle.morsel_group_units.specs.declared.taken_load.TakenLoad.{TakenLoad}
 use Rattle.morsel_group_units.proofs.PlaceLemmas.{as_long, in_order_taken, many_placed}
-use Rattle.morsel_group_units.proofs.TakingLemmas.{group_by_same, has_shape}
+use Rattle.morsel_group_units.proofs.TakingLemmas.{both_same, group_by_same, has_shape}
 
 -- a fault of rows, in whatever order they came, has its cause in all rows in the order of the input
 cause_of_groups : GroupsHaveCauses → (shape : GroupShape) (some others : List RowAt) (loads : List TakenLoad) (fault : Fault) → AsOften (some ++ others) (placed_loads loads) → PlacesRise 0 loads → IsGroupFault shape some fault
@@ -93,11 +93,20 @@ taken_none locals now local lists pushed taken none = subst (λ ls. HaveTaken ls
 pub rows_none : (lists : List (List RowAt)) → rows_in (lists ++ [] ∷ []) ≡ rows_in lists
 rows_none lists = sym (flat_map_more (λ (own : List RowAt). own) [] lists []) ∙ append-nil (rows_in lists)
 
--- the first of groups that are all one group-by
-pub first_is : (fields : List Field) (asked : GroupAsked) (locals now : List (Option HeldGroups)) (local : Option HeldGroups) → now ≡ locals ++ local ∷ [] → All (IsGroupBy fields asked) locals → IsGroupBy fields asked local → IsGroupBy fields asked (get_or now 0 None)
-first_is fields asked locals now local pushed all is =
-    subst (λ (ls : List (Option HeldGroups)). IsGroupBy fields asked (get_or ls 0 None)) (sym pushed)
-    (All-get_or (IsGroupBy fields asked) (locals ++ local ∷ []) 0 None (let many = length-append locals (local ∷ []) in omega (arith, many)) (All-push (IsGroupBy fields asked) locals local all is))
+-- groups that are all one group-by, and one more
+pub all_are : (fields : List Field) (asked : GroupAsked) (locals now : List (Option HeldGroups)) (local : Option HeldGroups) → now ≡ locals ++ local ∷ [] → All (IsGroupBy fields asked) locals → IsGroupBy fields asked local → All (IsGroupBy fields asked) now
+all_are fields asked locals now local pushed all is = subst (All (IsGroupBy fields asked)) (sym pushed) (All-push (IsGroupBy fields asked) locals local all is)
+
+-- the first of them
+pub first_is : (fields : List Field) (asked : GroupAsked) (locals now : List (Option HeldGroups)) (local : Option HeldGroups) → now ≡ locals ++ local ∷ [] → All (IsGroupBy fields asked) now → IsGroupBy fields asked (get_or now 0 None)
+first_is fields asked locals now local pushed all =
+    let many = length-append locals (local ∷ []) in
+    let long = ap (λ (ls : List (Option HeldGroups)). length ls) pushed in
+    All-get_or (IsGroupBy fields asked) now 0 None (omega (arith, many, long)) all
+
+-- any two of them are the same
+pub alike_all : (fields : List Field) (asked : GroupAsked) (now : List (Option HeldGroups)) → All (IsGroupBy fields asked) now → (i j : ℕ) → i < length now → j < length now → AreSameGroupBy (get_or now i None) (get_or now j None)
+alike_all fields asked now all i j one other = both_same fields asked (get_or now i None) (get_or now j None) (All-get_or (IsGroupBy fields asked) now i None one all) (All-get_or (IsGroupBy fields asked) now j None other all)
 
 -- the shape of what they are together
 pub shape_together : (rules : GroupRulesSeen) (first whole : Option HeldGroups) → IsGroupBy rules.columns rules.asked first → StaysGroupBy first whole → HasShape whole (rules_shape rules)

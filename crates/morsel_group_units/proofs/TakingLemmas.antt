@@ -15,7 +15,7 @@ use Rattle.morsel_keys.specs.Reductions.{input_place}
 use Rattle.morsel_group.specs.Asked.{GroupAsked, GroupShape, group_fields, shape_of}
 use Rattle.morsel_group.specs.Grouping.{RowAt}
 use Rattle.morsel_group.specs.Takes.{placed_rows}
-use Rattle.morsel_group.specs.Locals.{HasOutput, HasShape, HasTakenRows, HaveTaken, HeldGroups, IsGroupBy, IsGroupFault, StaysGroupBy}
+use Rattle.morsel_group.specs.Locals.{AreSameGroupBy, HasOutput, HasShape, HasTakenRows, HaveTaken, HeldGroups, IsGroupBy, IsGroupFault, StaysGroupBy}
 use Rattle.morsel_group_units.specs.GroupAsks.{GroupRulesSeen, rules_shape}
 use Rattle.morsel_group_units.specs.TakenLoads.{placed_load, placed_loads}
 use Rattle.morsel_group_units.specs.LocalTakings.{HaveFault, HoldAllLoads, HoldAllRows, HoldsLoads, HoldsRows}
@@ -31,6 +31,11 @@ group_by_same fields asked (Some held) (Some other) is same = (same.0 ∙ is.0, 
 pub has_shape : (fields : List Field) (asked : GroupAsked) (local : Option HeldGroups) → IsGroupBy fields asked local → HasShape local (shape_of fields asked)
 has_shape fields asked None is = absurd is
 has_shape fields asked (Some held) is = is.1
+
+pub both_same : (fields : List Field) (asked : GroupAsked) (one other : Option HeldGroups) → IsGroupBy fields asked one → IsGroupBy fields asked other → AreSameGroupBy one other
+both_same fields asked None other is too = absurd is
+both_same fields asked (Some held) None is too = absurd too
+both_same fields asked (Some held) (Some other) is too = (too.0 ∙ sym is.0, too.1 ∙ sym is.1, too.2 ∙ sym is.2)
 
 pub output_same : (fields columns : List Field) (asked : GroupAsked) (one other : Option HeldGroups) → IsGroupBy fields asked one → StaysGroupBy one other → HasOutput other columns → columns ≡ group_fields fields asked
 output_same fields columns asked None other is same out = absurd is
