@@ -125,21 +125,24 @@ pub fn beside(alloc: Global, frame: Frame, other: Frame) -> Result<Frame, Fault>
     frame.hstack(alloc, other)
 }
 
+/// The frame of a column of the rows.
+fn column_framed(
+    alloc: Global,
+    name: &str,
+    kind: ColType,
+    rows: &[Row],
+    part: Part,
+) -> Result<Frame, Fault> {
+    framed(alloc, name, column_of(alloc, kind, rows, part)?)
+}
+
 /// The two keys of the rows.
 fn keys_of(alloc: Global, rows: &[Row]) -> Result<Frame, Fault> {
-    let first = framed(
-        alloc,
-        "k",
-        column_of(alloc, ColType::Text, rows, Part::Key)?,
-    )?;
+    let first = column_framed(alloc, "k", ColType::Text, rows, Part::Key)?;
     beside(
         alloc,
         first,
-        framed(
-            alloc,
-            "o",
-            column_of(alloc, ColType::Int, rows, Part::Other)?,
-        )?,
+        column_framed(alloc, "o", ColType::Int, rows, Part::Other)?,
     )
 }
 
@@ -149,7 +152,7 @@ fn table_of(alloc: Global, kind: ColType, rows: &[Row]) -> Result<Frame, Fault> 
     beside(
         alloc,
         keys,
-        framed(alloc, "v", column_of(alloc, kind, rows, Part::Value)?)?,
+        column_framed(alloc, "v", kind, rows, Part::Value)?,
     )
 }
 

@@ -50,36 +50,54 @@ fn reduced(
     grouped(alloc, table, &spec, parts)
 }
 
-/// The number of a row in a column.
-fn number_at(frame: &Frame, column: usize, row: usize) -> Option<i64> {
-    if column >= frame.width() || row >= frame.height() {
+/// The groups of rows with these numbers in `g` and in `x`.
+fn groups_of(
+    alloc: Global,
+    keys: &[&str],
+    op: Reduction,
+    groups: &[i64],
+    numbers: &[i64],
+    parts: usize,
+) -> Result<Frame, Fault>
+    requires { 0 < parts }
+{
+    let table = table_of(alloc, groups, numbers)?;
+    reduced(alloc, keys, op, &table, parts)
+}
+
+/// What is said of the first group, where it is a number.
+fn said_first(frame: &Frame) -> Option<i64> {
+    let width = frame.width();
+    if width == 0 || frame.height() == 0 {
         return None;
     }
-    match frame.column(column).get(row) {
+    match frame.column(width - 1).get(0) {
         Cell::Int(number) => Some(number),
         _ => None,
     }
 }
 
-/// The number of a row in the column of what is said by one key.
-fn said_at(answer: &Result<Frame, Fault>, row: usize) -> Option<i64> {
-    match answer {
-        Ok(frame) => number_at(frame, 1, row),
-        Err(_) => None,
-    }
+/// How many groups there are, and what is said of the first.
+fn answer_of(
+    alloc: Global,
+    keys: &[&str],
+    op: Reduction,
+    groups: &[i64],
+    numbers: &[i64],
+    parts: usize,
+) -> Result<(usize, Option<i64>), Fault>
+    requires { 0 < parts }
+{
+    let frame = groups_of(alloc, keys, op, groups, numbers, parts)?;
+    Ok((frame.height(), said_first(&frame)))
 }
 
-fn height_of(answer: &Result<Frame, Fault>) -> Option<usize> {
-    match answer {
-        Ok(frame) => Some(frame.height()),
-        Err(_) => None,
-    }
-}
-
-/// Whether a sum is too large.
-fn is_too_large(answer: &Result<Frame, Fault>) -> bool {
+/// Whether the sum of two numbers of one group is too large.
+fn is_sum_too_large(alloc: Global, numbers: &[i64], parts: usize) -> bool
+    requires { 0 < parts }
+{
     matches!(
-        answer,
+        answer_of(alloc, &["g"], Reduction::Sum, &[1, 1], numbers, parts),
         Err(Fault::ComputeError {
             kind: ComputeKind::SumTooLarge,
             ..
@@ -89,53 +107,63 @@ fn is_too_large(answer: &Result<Frame, Fault>) -> bool {
 
 #[test]
 fn a_sum_that_leaves_64_bits_and_comes_back_is_whole(rt: HostRuntime) -> Result<(), Fail> {
-    let table = table_of(rt.alloc(), &[1, 1, 1], &[i64::MAX, 1, -1])?;
+    let numbers = [i64::MAX, 1, -1];
     for parts in 1..4 {
-        let answer = reduced(rt.alloc(), &["g"], Reduction::Sum, &table, parts);
-        assert_eq!(rt; height_of(&answer), Some(1));
-        assert_eq!(rt; said_at(&answer, 0), Some(i64::MAX));
+        let answer = answer_of(
+            rt.alloc(),
+            &["g"],
+            Reduction::Sum,
+            &[1, 1, 1],
+            &numbers,
+            parts,
+        )?;
+        assert_eq!(rt; answer, (1, Some(i64::MAX)));
     }
     Ok(())
 }
 
 #[test]
 fn a_whole_sum_outside_64_bits_is_refused(rt: HostRuntime) -> Result<(), Fail> {
-    let table = table_of(rt.alloc(), &[1, 1], &[i64::MAX, 1])?;
-    assert!(rt; is_too_large(&reduced(rt.alloc(), &["g"], Reduction::Sum, &table, 1)));
-    assert!(rt; is_too_large(&reduced(rt.alloc(), &["g"], Reduction::Sum, &table, 2)));
+    assert!(rt; is_sum_too_large(rt.alloc(), &[i64::MAX, 1], 1));
+    assert!(rt; is_sum_too_large(rt.alloc(), &[i64::MAX, 1], 2));
     Ok(())
 }
 
 #[test]
 fn no_rows_have_no_groups(rt: HostRuntime) -> Result<(), Fail> {
-    let table = table_of(rt.alloc(), &[], &[])?;
-    let answer = reduced(rt.alloc(), &["g"], Reduction::Len, &table, 2);
-    assert_eq!(rt; height_of(&answer), Some(0));
+    let answer = answer_of(rt.alloc(), &["g"], Reduction::Len, &[], &[], 2)?;
+    assert_eq!(rt; answer, (0, None));
     Ok(())
 }
 
 #[test]
 fn five_locals_with_keys_of_their_own_have_five_groups(rt: HostRuntime) -> Result<(), Fail> {
-    let table = table_of(rt.alloc(), &[1, 2, 3, 4, 5], &[1, 2, 3, 4, 5])?;
-    let answer = reduced(rt.alloc(), &["g"], Reduction::Sum, &table, 5);
-    assert_eq!(rt; height_of(&answer), Some(5));
+    let numbers = [1, 2, 3, 4, 5];
+    let answer = answer_of(rt.alloc(), &["g"], Reduction::Sum, &numbers, &numbers, 5)?;
+    assert_eq!(rt; answer.0, 5);
     Ok(())
 }
 
 #[test]
 fn first_and_last_go_by_the_number_of_the_morsel(rt: HostRuntime) -> Result<(), Fail> {
-    let table = table_of(rt.alloc(), &[1, 1, 1], &[4, 5, 6])?;
-    let first = reduced(rt.alloc(), &["g"], Reduction::First, &table, 2);
-    assert_eq!(rt; said_at(&first, 0), Some(4));
-    let last = reduced(rt.alloc(), &["g"], Reduction::Last, &table, 2);
-    assert_eq!(rt; said_at(&last, 0), Some(6));
+    let numbers = [4, 5, 6];
+    let first = answer_of(
+        rt.alloc(),
+        &["g"],
+        Reduction::First,
+        &[1, 1, 1],
+        &numbers,
+        2,
+    )?;
+    assert_eq!(rt; first, (1, Some(4)));
+    let last = answer_of(rt.alloc(), &["g"], Reduction::Last, &[1, 1, 1], &numbers, 2)?;
+    assert_eq!(rt; last, (1, Some(6)));
     Ok(())
 }
 
 #[test]
 fn rows_without_keys_are_one_group(rt: HostRuntime) -> Result<(), Fail> {
-    let table = table_of(rt.alloc(), &[1, 2, 3], &[3, 4, 5])?;
-    let answer = reduced(rt.alloc(), &[], Reduction::Sum, &table, 2);
-    assert_eq!(rt; height_of(&answer), Some(1));
+    let answer = answer_of(rt.alloc(), &[], Reduction::Sum, &[1, 2, 3], &[3, 4, 5], 2)?;
+    assert_eq!(rt; answer, (1, Some(12)));
     Ok(())
 }

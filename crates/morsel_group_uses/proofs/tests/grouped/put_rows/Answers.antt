@@ -3,5 +3,5 @@ use Rattle.morsel_meaning.specs.Values.{Table}
 use Rattle.morsel_group.specs.Locals.{TakesColumns}
 use Rattle.morsel_group_uses.proofs.tests.grouped.put_rows.Goals as goal
 
-pub insert-requires-clause-columns : goal.insert-requires-clause-columns
-insert-requires-clause-columns c = subst (λ (t : Table). TakesColumns t.schema c.args.local.now) (sym c.in_ok-frame.ensures.ok) c.requires.columns
+pub insert-requires : goal.insert-requires
+insert-requires c = record { columns = subst (λ (t : Table). TakesColumns t.schema c.args.local.now) (sym c.in_ok-frame.ensures.ok) c.requires.columns }
