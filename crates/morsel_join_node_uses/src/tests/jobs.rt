@@ -49,6 +49,13 @@ impl RowsJob<PlainToken> for Rows {
 
     ghost is_alone = { λ side from to. (load : LoadSeen) → AreWholeRows to.columns.value load };
 
+    // No group-by is behind it.
+    ghost gives_cuts = { λ job columns. ⊥ };
+
+    ghost yields = { λ job to rows. ⊤ };
+
+    ghost is_given = { λ columns rows to. ⊥ };
+
     ghost are_rows = { λ job columns load gives suits. subst (λ (fields : List Field). AreWholeRows fields load) gives suits };
 
     ghost rows_are = { λ job columns frame seq source stretch gives suits. tt };
@@ -60,6 +67,12 @@ impl RowsJob<PlainToken> for Rows {
     ghost found_suit = { λ side from to asked found seq source other stretch cut finds suits columns some same. finds (SeenMorsel found seq other cut) };
 
     ghost alone_suit = { λ side from to asked found seq source cut alone all columns some. alone (SeenMorsel found seq source cut) };
+
+    ghost are_cuts = { λ job columns load none suits. absurd none };
+
+    ghost cuts_yield = { λ job columns cuts to none each follow. tt };
+
+    ghost given_suit = { λ columns rows to found seq source cut none same some. absurd none };
 }
 
 /// Rows with one column.

@@ -1,0 +1,2 @@
+-- Rows with one column.
+pub mod Groups
