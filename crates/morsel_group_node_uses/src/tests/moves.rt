@@ -135,15 +135,3 @@ fn no_rows_have_no_groups(rt: HostRuntime) {
     assert_eq!(rt; group.taken_to(), None);
     assert_eq!(rt; height_of(&group), Some(0));
 }
-
-/// A group-by takes the rows of other lanes behind those of its first ones.
-#[test]
-fn rows_of_other_lanes_follow(rt: HostRuntime) {
-    let rows = rows_of(&rt, rt.alloc());
-    let mut group = group_of(&rt, rt.alloc(), &rows);
-    group.take_from(&rows).expect(&rt, "memory");
-    <Group as ComputeNode<Plain, Rows>>::initialize(&mut group, 2);
-    assert_eq!(rt; group.taken_to(), Some(0));
-    moves_on::<Plain, Rows>(&rt, &mut group, &[([Done, Ready], SOURCE)]);
-    assert_eq!(rt; height_of(&group), Some(0));
-}
