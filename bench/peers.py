@@ -9,6 +9,9 @@ from urllib.parse import quote
 HERE = os.path.dirname(os.path.abspath(__file__))
 DEBIAN_CRATES = "/usr/share/cargo/registry"
 
+# The queries that join the facts with the dims.
+JOINED = ("q5", "q6")
+
 SQLITE = """create table f(id int, g int, v int, name text);
 .import --csv --skip 1 {facts} f
 {join}.mode list
@@ -23,6 +26,9 @@ SQLITE_DIMS = """create table d(g integer primary key, label text);
 SELECTS = {
     "q1": "select json_object('id', id, 'g', g, 'v', nullif(v, ''), 'name', name) from f",
     "q2": "select json_object('id', id, 'name', name) from f where nullif(v, '') > 900",
+    "q3": "select json_object('g', g, 's', coalesce(sum(nullif(v, '')), 0), 'n', count(*)) from f group by g",
+    "q4": "select json_object('name', name, 's', coalesce(sum(nullif(v, '')), 0), 'n', count(*)) from f group by name",
+    "q5": "select json_object('label', label, 's', coalesce(sum(nullif(v, '')), 0), 'n', count(*)) from f join d using (g) group by label",
     "q6": "select json_object('id', id, 'g', g, 'v', nullif(v, ''), 'name', name, 'label', label) from f join d using (g)",
 }
 
@@ -31,26 +37,38 @@ import sys, pandas
 facts = pandas.read_csv(sys.argv[1], dtype={"v": "Int64", "name": str}, keep_default_na=False, na_values={"v": [""]})
 if sys.argv[3] == "q2":
     facts = facts.loc[facts.v > 900, ["id", "name"]]
-if sys.argv[3] == "q6":
+if sys.argv[3] in ("q5", "q6"):
     facts = facts.merge(pandas.read_csv(sys.argv[4]), on="g")
+by = {"q3": "g", "q4": "name", "q5": "label"}.get(sys.argv[3])
+if by:
+    facts = facts.groupby(by, sort=False)["v"].agg(s="sum", n="size").reset_index()
 facts.to_json(sys.argv[2], orient="records", lines=True, force_ascii=False)
 """
 
 MAWK = {
     "q1": r"""NR > 1 { print "{\"id\":" $1 ",\"g\":" $2 ",\"v\":" ($3 == "" ? "null" : $3) ",\"name\":\"" $4 "\"}" }""",
     "q2": r"""NR > 1 && $3 > 900 { print "{\"id\":" $1 ",\"name\":\"" $4 "\"}" }""",
+    "q3": r"""NR > 1 { s[$2] += $3; n[$2]++ } END { for (k in n) print "{\"g\":" k ",\"s\":" s[k] ",\"n\":" n[k] "}" }""",
+    "q4": r"""NR > 1 { s[$4] += $3; n[$4]++ } END { for (k in n) print "{\"name\":\"" k "\",\"s\":" s[k] ",\"n\":" n[k] "}" }""",
+    "q5": r"""NR == FNR { l[$1] = $2; next } FNR > 1 && $2 in l { k = l[$2]; s[k] += $3; n[k]++ } END { for (k in n) print "{\"label\":\"" k "\",\"s\":" s[k] ",\"n\":" n[k] "}" }""",
     "q6": r"""NR == FNR { l[$1] = $2; next } FNR > 1 && $2 in l { print "{\"id\":" $1 ",\"g\":" $2 ",\"v\":" ($3 == "" ? "null" : $3) ",\"name\":\"" $4 "\",\"label\":\"" l[$2] "\"}" }""",
 }
 
 MILLER = {
     "q1": ["cat"],
     "q2": ["filter", 'is_not_empty($v) && $v > 900', "then", "cut", "-f", "id,name"],
+    "q3": ["stats1", "-a", "sum,count", "-f", "v", "-g", "g"],
+    "q4": ["stats1", "-a", "sum,count", "-f", "v", "-g", "name"],
+    "q5": ["join", "-j", "g", "-f", "{dims}", "then", "stats1", "-a", "sum,count", "-f", "v", "-g", "label"],
     "q6": ["join", "-j", "g", "-f", "{dims}"],
 }
 
 CLICKHOUSE = {
     "q1": "SELECT id, g, v, name FROM {table} FORMAT JSONEachRow",
     "q2": "SELECT id, name FROM {table} WHERE v > 900 FORMAT JSONEachRow",
+    "q3": "SELECT g, ifNull(sum(v), 0) AS s, count() AS n FROM {table} GROUP BY g FORMAT JSONEachRow",
+    "q4": "SELECT name, ifNull(sum(v), 0) AS s, count() AS n FROM {table} GROUP BY name FORMAT JSONEachRow",
+    "q5": "SELECT label, ifNull(sum(v), 0) AS s, count() AS n FROM {table} ANY INNER JOIN {dims} USING g GROUP BY label FORMAT JSONEachRow",
     "q6": "SELECT id, g, v, name, label FROM {table} ANY INNER JOIN {dims} USING g FORMAT JSONEachRow",
 }
 COLUMNS = "id Int64, g Int64, v Nullable(Int64), name String"
@@ -102,7 +120,7 @@ def sqlite(folder, facts, dims, query, out):
     version = said(["sqlite3", "--version"])
     script = f"{folder}/{query}.sql"
     with open(script, "w", encoding="utf-8") as it:
-        join = SQLITE_DIMS.format(dims=dims) if query == "q6" else ""
+        join = SQLITE_DIMS.format(dims=dims) if query in JOINED else ""
         it.write(SQLITE.format(facts=facts, join=join, out=out, select=SELECTS[query]))
     return f"sqlite3 {(version or '').partition(' ')[0]}, in memory", version and ["sh", "-c", 'exec sqlite3 :memory: < "$1"', "", script], "no sqlite3"
 
@@ -123,7 +141,7 @@ def pandas(folder, facts, dims, query, out):
 
 
 def mawk(folder, facts, dims, query, out):
-    is_there, files = shutil.which("mawk"), [dims, facts] if query == "q6" else [facts]
+    is_there, files = shutil.which("mawk"), [dims, facts] if query in JOINED else [facts]
     script = 'out="$1"; shift; exec mawk -F, "$@" > "$out"'
     return "mawk, splitting at each comma", is_there and ["sh", "-c", script, "", out, MAWK[query], *files], "no mawk"
 
@@ -149,7 +167,7 @@ def clickhouse_server(folder, facts, dims, query, out):
     if not version:
         return name, None, "CLICKHOUSE does not answer"
     facts = with_nulls(folder, facts)
-    if query == "q6" and not files:
+    if query in JOINED and not files:
         return name, None, "CLICKHOUSE_FILES names no folder for the dims"
     words, table, more = [], f"file('{os.path.basename(facts)}', 'CSVWithNames', '{COLUMNS}')", {}
     if files:

@@ -3,8 +3,9 @@
 
 usage: python3 bench/run.py [--size MEGABYTES] [--rounds N] [--folder FOLDER] [--program FILE] [--memory | --shapes]
 
-The queries are q1, all rows of a CSV file as NDJSON, q2, two columns of the rows whose v is above 900, and q6, all rows with the labels that
-a second file has for their g. They are written into FOLDER as query files, and run by `morsel local`.
+The queries are q1, all rows of a CSV file as NDJSON, q2, two columns of the rows whose v is above 900, q3 and q4, the sum of v and the number
+of rows by g and by name, q5, the same by the labels that a second file has for g, and q6, all rows with these labels. They are written into
+FOLDER as query files, and run by `morsel local`.
 
 The data and the outputs lie in FOLDER (none: morsel-bench in the folder for temporary files; best one in memory, as /dev/shm/morsel-bench).
 The program is the one that `rt ci` or `rt run` has built, if it is newer than its sources; else `rt run` proves and builds it first, which
@@ -42,18 +43,25 @@ SCHEMA = [["id", "int"], ["g", "int"], ["v", "int"], ["name", "text"]]
 QUERIES = {
     "q1": ("CSV to NDJSON", {}),
     "q2": ("two columns of the rows with v > 900", {"filter": ["gt", "v", {"lit": 900}], "columns": ["id", "name"]}),
+    "q3": ("v summed and rows counted by g", {}),
+    "q4": ("v summed and rows counted by name", {}),
+    "q5": ("the rows joined with the dims on g, v summed and rows counted by label", {}),
     "q6": ("the rows joined with the dims on g", {}),
 }
+# The keys of the queries with a group-by.
+KEYS = {"q3": "g", "q4": "name", "q5": "label"}
 DIMS_SCHEMA = [["g", "int"], ["label", "text"]]
 SLOW = 5
 
 
-def query_file(folder, name, files, schema, join=None, **parts):
-    """The path of a query file over these files, with further parts of its scan, and with this join."""
+def query_file(folder, name, files, schema, join=None, group=None, **parts):
+    """The path of a query file over these files, with further parts of its scan, and with this join and this group-by."""
     path = f"{folder}/{name}.json"
     query = {"left": {"format": "csv", "files": files, "schema": schema, **parts}, "sink": {"format": "ndjson"}}
     if join:
         query["join"] = join
+    if group:
+        query["group"] = group
     with open(path, "w", encoding="utf-8") as it:
         json.dump(query, it)
     return path
@@ -62,6 +70,11 @@ def query_file(folder, name, files, schema, join=None, **parts):
 def join_with(dims):
     """The join of the facts with the dims, which are kept while the facts are read."""
     return {"right": {"format": "csv", "files": [dims], "schema": DIMS_SCHEMA}, "on": [["g", "g"]], "order": "left"}
+
+
+def group_by(key):
+    """The sum of v and the number of rows for each key."""
+    return {"keys": [key], "aggs": [["sum", "v", "s"], ["len", None, "n"]]}
 
 
 def build():
@@ -170,8 +183,9 @@ def time_query(morsel, query, facts, dims, given):
     """Runs one query beside the peers, and prints its table."""
     says, parts = QUERIES[query]
     out = f"{given.folder}/out.ndjson"
-    join = join_with(dims) if query == "q6" else None
-    runs = [("morsel", [morsel, "local", query_file(given.folder, query, [facts], SCHEMA, join, **parts), out])]
+    join = join_with(dims) if query in peers.JOINED else None
+    group = group_by(KEYS[query]) if query in KEYS else None
+    runs = [("morsel", [morsel, "local", query_file(given.folder, query, [facts], SCHEMA, join, group, **parts), out])]
     for name, words, why in peers.all_peers(given.folder, facts, dims, query, out):
         if words:
             runs.append((name, words))

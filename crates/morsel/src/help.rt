@@ -20,6 +20,9 @@ QUERY is a JSON object. \"left\" says which files are read, which columns they h
   right, on                a second scan, as \"left\" is one; a list of [LEFT COLUMN, RIGHT COLUMN] that are to be equal
   kind, order              \"inner\", \"left\", \"right\" or \"full\"; \"none\", \"left\", \"right\", \"left_right\" or \"right_left\"
   nulls, coalesce, suffix  whether nulls are equal; whether a pair's columns become one; what tells equal names apart
+\"group\", where there is one, gives one row for each distinct key of these rows:
+  keys, aggs               the columns of the key; a list of [OP, COLUMN, NAME], where OP is \"sum\", \"min\", \"max\",
+                           \"first\" or \"last\", or [\"len\", null, NAME], which counts the rows
 \"sink\" is {\"format\": \"ndjson\"}, and \"options\" may set numbers such as chunk_bytes. docs/FORMATS.md has all keys.
 SCHEMA is NAME:TYPE joined by commas. TYPE is int, bool or text.
 
@@ -43,11 +46,12 @@ status, and what is printed:
   15   error 5: malformed file F at A           the record that begins at byte A is not CSV, or has more or fewer fields
   16   error 6: unsupported code C in file F    the file is compressed by gzip (31) or zstd (40)
   17   error 7: column not found: X             a name of the query is no column
-  18   error 8: schema mismatch: X              a filter or a join compares column X with another type
+  18   error 8: schema mismatch: X              a filter or a join compares column X with another type, or X has no sum
   19   error 9: duplicate column: X             two columns have one name
   20   error 10: not utf8, file F, at A         the record at byte A is not UTF-8
        error 10: ill typed, file F, at A        a field of the record at byte A does not fit its column
        error 10: negative slice, too many rows, or index too large
+       error 10: sum too large, len too large, or too many groups, where rows are grouped
   21   error 11: query text                     QUERY is no query
   22   error 12: usage                          the words are not a command, or SCHEMA is not a schema
 Files are counted from 0 as the query names them; 4294967295 is QUERY. For 12 and 13, standard error tells the file and

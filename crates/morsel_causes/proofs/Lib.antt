@@ -5,3 +5,4 @@ pub mod BeginLemmas
 pub mod CauseLemmas
 pub mod ReachLemmas
 pub mod NoCauseLemmas
+pub mod GroupLemmas

@@ -1,2 +1,3 @@
--- Laws of the faults of CSV files.
+-- Laws of the faults of CSV files, and of groups.
 pub mod FileFaults
+pub mod GroupFaults

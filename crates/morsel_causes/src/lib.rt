@@ -1,7 +1,8 @@
-//! Laws of the faults of CSV files, each the contract of a function that does nothing.
+//! Laws of the faults of CSV files and of groups, each the contract of a function that does nothing.
 #![tactic(auto)]
 
 ghost use Rattle.morsel_causes.specs.FileFaults.{EachFaultHasItsCause, ValidFilesHaveNoFault, FilesWithRowsAreOfGrammar, FilesWithRowsHaveNoCause, FilesWithoutRowsHaveCause};
+ghost use Rattle.morsel_causes.specs.GroupFaults.{GroupsFitWithoutCause};
 
 /// Each fault that is due by the files has its cause in them: a record, a row, the number of rows, or the first bytes of a file.
 pub fn each_fault_has_its_cause()
@@ -26,4 +27,9 @@ pub fn files_with_rows_have_no_cause()
 /// Where a scan of files has no meaning, the fault that is told in its place has its cause.
 pub fn files_without_rows_have_a_cause()
     ensures { FilesWithoutRowsHaveCause }
+{}
+
+/// A group-by of rows has an answer, if there is memory, exactly where no fault has a cause in them.
+pub fn groups_fit_without_a_cause()
+    ensures { GroupsFitWithoutCause }
 {}

@@ -1,5 +1,5 @@
 -- The sides of a join as they are run, and the join of the sides that are meant.
-use Rattle.std.proofs.Common.{◌≡◌, ℕ, zero, suc, ◌+◌, ◌-◌, ◌*◌, ◌^◌, ◌<◌, ◌≤◌, ap, sym, subst, refl, ◌∙◌, inl, inr, arith}
+use Rattle.std.proofs.Common.{◌≡◌, ℕ, zero, suc, ◌-◌, ◌*◌, ◌^◌, ◌<◌, ◌≤◌, ap, sym, subst, ◌∙◌, inr, arith}
 use Rattle.std.specs.Prelude.{min, Bool, true, false, Result, List, length}
 use Rattle.morsel_meaning.specs.declared.fault.Fault.{Fault}
 use Rattle.morsel_meaning.specs.declared.value.Field.{Field}
@@ -14,10 +14,12 @@ use Rattle.morsel_join.specs.declared.rules.JoinRules.{JoinRules}
 use Rattle.morsel_join.specs.Rows.{FitRules, keeps_left}
 use Rattle.morsel_join.specs.Sides.{FitSides}
 use Rattle.morsel_join_plan.specs.JoinRuns.{JoinScan, JoinsScans, SweepsJoin}
+use Rattle.morsel_group_units.specs.GroupAsks.{GroupRulesSeen}
+use Rattle.morsel_group_plan.specs.GroupRuns.{GroupsJoin, SweepsGroupsJoin}
 use Rattle.morsel_query.specs.RunOptions.{RunOptions, pieces_ahead}
 use Rattle.morsel_query.specs.Queries.{file_scan}
 use Rattle.morsel_query.specs.Meanings.{csv_scan}
-use Rattle.morsel_engine.specs.Stages.{bytes_bound, IsOpenSide, side_scan, JoinsSides, JoinsFiles, SweepsSides, SweepsFiles}
+use Rattle.morsel_engine.specs.Stages.{bytes_bound, IsOpenSide, side_scan, JoinsSides, JoinsFiles, SweepsSides, SweepsFiles, GroupsSides, JoinsGroups, SweepsGroupSides, SweepsJoinedGroups}
 use Rattle.morsel_engine.proofs.ToldLemmas.{suits_at_first}
 
 -- a scan and its reader
@@ -55,7 +57,7 @@ pub made_columns_are : (o : Outside) (spec : ScanSpec) (columns : List Field) (n
 made_columns_are o spec columns numbers first options node made_columns reader open_side made =
     made.columns_are ∙ open_side.columns_are ∙ sym (ap (λ (s : CsvScan). output_fields s.scan) made.node_is)
 
-scan_is : (spec : ScanSpec) (columns : List Field) (numbers : List FileNo) (first : ℕ) (options : RunOptions) (node : CsvScan) (made_columns : List Field) (reader : PiecesRead)
+pub scan_is : (spec : ScanSpec) (columns : List Field) (numbers : List FileNo) (first : ℕ) (options : RunOptions) (node : CsvScan) (made_columns : List Field) (reader : PiecesRead)
     → IsMade spec columns numbers first options node made_columns reader → the_scan node reader ≡ side_scan (file_scan spec) numbers first options
 scan_is spec columns numbers first options node made_columns reader made =
     ap (λ (s : CsvScan). the_scan s reader) made.node_is ∙ ap (the_scan (csv_scan (file_scan spec))) made.reader_is
@@ -127,4 +129,45 @@ module _ (o new : Outside) (left right : ScanSpec) (left_columns right_columns :
     subst (λ (b : Bool). SweepsSides b (side_scan (file_scan left) lefts 0 options) (side_scan (file_scan right) rights (length left.sources.items) options) o before after) (sym keeps)
         (subst (λ (s : JoinScan). SweepsJoin (side_scan (file_scan right) rights (length left.sources.items) options) s o before after) left_is
         (subst (λ (s : JoinScan). SweepsJoin s (the_scan left_node left_reader) o before after) right_is sweeps)),
+  )
+
+  -- what holds of the scans as they are run holds of the sides
+  as_sides : (P : JoinScan → JoinScan → Type 0) → P (the_scan left_node left_reader) (the_scan right_node right_reader)
+      → P (side_scan (file_scan left) lefts 0 options) (side_scan (file_scan right) rights (length left.sources.items) options)
+  as_sides P is = subst (λ (s : JoinScan). P s (side_scan (file_scan right) rights (length left.sources.items) options)) left_is (subst (λ (s : JoinScan). P (the_scan left_node left_reader) s) right_is is)
+
+  pub groups_left : (group : GroupRulesSeen) (result : Result ℕ Fault) → keeps_left rules.how rules.maintain_order ≡ true → GroupsJoin (the_scan left_node left_reader) (the_scan right_node right_reader) rules group o result new
+      → JoinsGroups o (file_scan left) (file_scan right) lefts rights rules group options result new
+  groups_left group result keeps groups = inr (
+    left_made.fit,
+    right_made.fit,
+    subst (λ (b : Bool). GroupsSides b (side_scan (file_scan left) lefts 0 options) (side_scan (file_scan right) rights (length left.sources.items) options) rules group o result new) (sym keeps)
+        (as_sides (λ s t. GroupsJoin s t rules group o result new) groups),
+  )
+
+  pub groups_right : (group : GroupRulesSeen) (result : Result ℕ Fault) → keeps_left rules.how rules.maintain_order ≡ false → GroupsJoin (the_scan right_node right_reader) (the_scan left_node left_reader) rules group o result new
+      → JoinsGroups o (file_scan left) (file_scan right) lefts rights rules group options result new
+  groups_right group result keeps groups = inr (
+    left_made.fit,
+    right_made.fit,
+    subst (λ (b : Bool). GroupsSides b (side_scan (file_scan left) lefts 0 options) (side_scan (file_scan right) rights (length left.sources.items) options) rules group o result new) (sym keeps)
+        (as_sides (λ s t. GroupsJoin t s rules group o result new) groups),
+  )
+
+  pub group_sweeps_left : (before after : ℕ) → keeps_left rules.how rules.maintain_order ≡ true → SweepsGroupsJoin (the_scan left_node left_reader) (the_scan right_node right_reader) o before after
+      → SweepsJoinedGroups o (file_scan left) (file_scan right) lefts rights rules options before after
+  group_sweeps_left before after keeps sweeps = inr (
+    left_made.fit,
+    right_made.fit,
+    subst (λ (b : Bool). SweepsGroupSides b (side_scan (file_scan left) lefts 0 options) (side_scan (file_scan right) rights (length left.sources.items) options) o before after) (sym keeps)
+        (as_sides (λ s t. SweepsGroupsJoin s t o before after) sweeps),
+  )
+
+  pub group_sweeps_right : (before after : ℕ) → keeps_left rules.how rules.maintain_order ≡ false → SweepsGroupsJoin (the_scan right_node right_reader) (the_scan left_node left_reader) o before after
+      → SweepsJoinedGroups o (file_scan left) (file_scan right) lefts rights rules options before after
+  group_sweeps_right before after keeps sweeps = inr (
+    left_made.fit,
+    right_made.fit,
+    subst (λ (b : Bool). SweepsGroupSides b (side_scan (file_scan left) lefts 0 options) (side_scan (file_scan right) rights (length left.sources.items) options) o before after) (sym keeps)
+        (as_sides (λ s t. SweepsGroupsJoin t s o before after) sweeps),
   )

@@ -5,7 +5,6 @@ use Rattle.std.proofs.lemmas.List.Elements.{filter-append}
 use Rattle.std.specs.Prelude.{Bool, false, not, if◌then◌else◌, Result, Ok, Err, List, [], ◌∷◌, ◌++◌, map, length}
 use Rattle.std.specs.List.{flat_map, filter}
 use Rattle.morsel_meaning.specs.declared.fault.Fault.{Fault}
-use Rattle.morsel_meaning.specs.declared.fault.Fault.TheVariants as faults
 use Rattle.morsel_meaning.specs.Values.{Row, names_of}
 use Rattle.morsel_ndjson.specs.Ndjson.{json_line, ndjson}
 use Rattle.morsel_outside.specs.Outside.{Outside}

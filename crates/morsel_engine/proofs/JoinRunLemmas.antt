@@ -2,7 +2,7 @@
 use Rattle.std.proofs.Common.{◌≡◌, ◌⊎◌, ℕ, ◌+◌, ◌≤◌, ap, sym, subst, refl, ◌∙◌, inl, inr, arith, append-nil, append_assoc}
 use Rattle.std.proofs.lemmas.List.Concat.{flat_map-append}
 use Rattle.std.proofs.lemmas.List.Sums.{sum_by-append, sum_by-cons}
-use Rattle.std.specs.Prelude.{Bool, true, false, None, Result, Ok, Err, List, [], ◌∷◌, ◌++◌, map, length}
+use Rattle.std.specs.Prelude.{Bool, true, false, Option, None, Result, Ok, Err, List, [], ◌∷◌, ◌++◌, map, length}
 use Rattle.std.specs.List.{flat_map, filter, fold, sum_by}
 use Rattle.morsel_meaning.specs.declared.fault.Fault.{Fault}
 use Rattle.morsel_meaning.specs.declared.fault.Fault.TheVariants as faults
@@ -25,13 +25,13 @@ use Rattle.morsel_line.specs.ScanRuns.{StopsScan}
 use Rattle.morsel_join_plan.specs.PhaseRuns.{KeepsScan, StopsKeeping, WritesAlone, WritesFound}
 use Rattle.morsel_join_plan.specs.JoinRuns.{HasKept, and_more, IsLeftSo, EndsJoin, WritesJoin, JoinsScans}
 use Rattle.morsel_query.specs.RunOptions.{RunOptions}
-use Rattle.morsel_query.specs.Queries.{QueryParts}
+use Rattle.morsel_query.specs.Queries.{FileScan, JoinPart, QueryParts}
 use Rattle.morsel_query.specs.Plans.{query_fault}
-use Rattle.morsel_query.specs.Meanings.{csv_scan, rows_over, Meaning, text_of, IsValid}
+use Rattle.morsel_query.specs.Meanings.{csv_scan, rows_over, MeansBy, Meaning, text_of, IsValid}
 use Rattle.morsel_engine.specs.Courses.{AsksUpTo, AsksSides, SidesAsked, IsShort}
 use Rattle.morsel_engine.specs.Stages.{bytes_bound}
-use Rattle.morsel_engine.specs.Runs.{TellsBytes, ScansAsked, MeansAsked, IsAskedWhole, AreAskedWhole, HasCauseInRun, IsFrontOfMeaning, IsFrontOfText, ReadsAheadBy, Runs}
-use Rattle.morsel_engine.proofs.AskLemmas.{ask_next, are_short, asks_up_to, failures_read, FailsAt, fails_on}
+use Rattle.morsel_engine.specs.Runs.{TellsBytes, ScansAsked, MeansAskedBy, MeansAsked, IsAskedWhole, AreAskedWhole, HasCauseInRun, IsFrontOfMeaning, IsFrontOfText, LeavesNoRowBy, ReadsAheadBy, Runs}
+use Rattle.morsel_engine.proofs.AskLemmas.{ask_next, are_short, asks_up_to, failures_read, fails_on}
 use Rattle.morsel_engine.proofs.ScanLemmas.{Begun, GoesOn, goes_on, AsksOn, none_fail, stands_none, runs_on}
 use Rattle.morsel_engine.proofs.OpenScanLemmas.{OpenScan, numbers_of, reader_of, open_job, open_rows, IsOfQuery, had_nothing, means_asked, valid_rows, no_fault, whole, cause, out_of_memory, told_back}
 use Rattle.morsel_engine.proofs.JoinSideLemmas.{fails_within, fails-append}
@@ -42,21 +42,27 @@ abbrev pub sides_asked : Bool → ℕ → ℕ → SidesAsked
 sides_asked true kept asked = record { left = kept; right = asked }
 sides_asked false kept asked = record { left = asked; right = kept }
 
--- the two scans are the sides of the query's join
-pub record AreSides (is_left : Bool) (rules : JoinRules) (options : RunOptions) (old : Outside) (query : QueryParts) (files : List (List ℕ)) (kept asked : OpenScan) : Type 0 where
+-- the two scans are the sides of a join
+pub record AreSides (is_left : Bool) (rules : JoinRules) (old : Outside) (left : FileScan) (join : Option JoinPart) (files : List (List ℕ)) (kept asked : OpenScan) : Type 0 where
   pub once : (to other : ℕ) (first later : List IoEvent) → AsksUpTo kept.number (map length kept.files) to first → AsksUpTo asked.number (map length asked.files) other later
-      → AsksSides query.left query.join (length old.sizes) (map length files) (sides_asked is_left to other) (first ++ later)
-  pub ahead : (events : List IoEvent) → ReadsAheadBy query.join query options (length old.sizes) files events
+      → AsksSides left join (length old.sizes) (map length files) (sides_asked is_left to other) (first ++ later)
   pub means : (to other : ℕ) (rows others : List Row) → ScansAsked kept.scan kept.first to kept.files rows → ScansAsked asked.scan asked.first other asked.files others
-      → MeansAsked query (sides_asked is_left to other) files (joined_rows (side_kept is_left rules rows) others)
-  pub whole : (to other : ℕ) → IsAskedWhole kept.scan to kept.files → IsAskedWhole asked.scan other asked.files → AreAskedWhole query.left query.join (sides_asked is_left to other) files
+      → MeansAskedBy left join (sides_asked is_left to other) files (joined_rows (side_kept is_left rules rows) others)
+  pub whole : (to other : ℕ) → IsAskedWhole kept.scan to kept.files → IsAskedWhole asked.scan other asked.files → AreAskedWhole left join (sides_asked is_left to other) files
+  pub meaning : (rows others : List Row) → rows_over kept.scan kept.first kept.files ≡ Ok rows → rows_over asked.scan asked.first asked.files ≡ Ok others
+      → MeansBy left join files (joined_rows (side_kept is_left rules rows) others)
+
+-- the rows of the join are those of the query, which has no group-by
+pub record IsUngrouped (rules : JoinRules) (options : RunOptions) (old : Outside) (query : QueryParts) (files : List (List ℕ)) : Type 0 where
+  pub ahead : (events : List IoEvent) → ReadsAheadBy query.join query.group query options (length old.sizes) files events
+  pub asked : (to : SidesAsked) (rows : List Row) → MeansAskedBy query.left query.join to files rows → MeansAsked query to files rows
+  pub meaning : (rows : List Row) → MeansBy query.left query.join files rows → Meaning query files rows
   pub text : (rows : List Row) → join_text rules rows ≡ text_of query rows
   pub front : (text : List ℕ) → (IsValid query files → IsFrontOfMeaning query files text) → IsFrontOfText query files text
-  pub meaning : (rows others : List Row) → rows_over kept.scan kept.first kept.files ≡ Ok rows → rows_over asked.scan asked.first asked.files ≡ Ok others
-      → Meaning query files (joined_rows (side_kept is_left rules rows) others)
+  pub head : (result : Result ℕ Fault) (new : Outside) → LeavesNoRowBy query.group old query result new
 
 -- reads write nothing, and so no write among them failed
-no_write_fails : (actions : List Action) → Each IsReading actions → sum_by write_failures actions ≡ 0
+pub no_write_fails : (actions : List Action) → Each IsReading actions → sum_by write_failures actions ≡ 0
 no_write_fails [] each = refl
 no_write_fails (ReadingRange file at len ∷ actions) (here, later) = let sum = sum_by-cons write_failures (ReadingRange file at len) actions in let rest = no_write_fails actions later in omega (arith, sum, rest)
 no_write_fails (FailedReadingRange file at len ∷ actions) (here, later) =
@@ -64,7 +70,7 @@ no_write_fails (FailedReadingRange file at len ∷ actions) (here, later) =
 no_write_fails (action ∷ actions) (here, later) = absurd here
 
 -- why a side is not kept, as of a scan
-stops_kept : (sources : FilesAsked) (reads : List Action) (fault : Fault) → Each IsReading reads → StopsKeeping sources reads fault → StopsScan sources reads fault
+pub stops_kept : (sources : FilesAsked) (reads : List Action) (fault : Fault) → Each IsReading reads → StopsKeeping sources reads fault → StopsScan sources reads fault
 stops_kept sources reads fault each (inl is) = inl (subst (IsWriteStop reads) (sym is) tt)
 stops_kept sources reads fault each (inr (inl (read, ends))) =
     inr (inl (read, λ number same. subst (λ (actions : List Action). EndsInFailure sources number actions) (sym (filter_readings reads each)) (ends number same)))
@@ -75,9 +81,39 @@ stops_alone : (sources : FilesAsked) (writes : List Action) (fault : Fault) → 
 stops_alone sources writes fault (inl write) = inl write
 stops_alone sources writes fault (inr broke) = inr (inr broke)
 
+-- the answer and the outside, as they are told
+pub answer_as : (old : Outside) (query : QueryParts) (options : RunOptions) (result found : Result ℕ Fault) (new then_ : Outside) → result ≡ found → new ≡ then_ → Runs old query options found then_
+    → Runs old query options result new
+answer_as old query options result found new then_ is same runs =
+    subst (λ (r : Result ℕ Fault). Runs old query options r new) (sym is) (subst (Runs old query options found) (sym same) runs)
+
+-- what reads of both sides ask, of the one that is kept and then of the other, whatever is written among them
+module _ (is_left : Bool) (rules : JoinRules) (old now : Outside) (query : QueryParts) (options : RunOptions) (files : List (List ℕ)) (kept asked : OpenScan)
+    (kept_is : IsOfQuery old now query files kept) (asked_is : IsOfQuery old now query files asked) (sides : AreSides is_left rules old query.left query.join files kept asked) where
+  pub asks_both : (to other : ℕ) (first later : List Action) → Each IsEither first → Each IsEither later → AskNextChunks (numbers_of kept) (map length kept.files) options.chunk_bytes 0 (filter is_reading first) to
+      → AskNextChunks (numbers_of asked) (map length asked.files) options.chunk_bytes 0 (filter is_reading later) other → AsksOn old query options files (first ++ later) (sides_asked is_left to other)
+  asks_both to other first later first_each later_each first_asks later_asks =
+      let first_are = are_transfers first first_each in let later_are = are_transfers later later_each in
+      let one = ask_next (numbers_of kept) (map length kept.files) options.chunk_bytes 0 to first first_are first_asks in
+      let two = ask_next (numbers_of asked) (map length asked.files) options.chunk_bytes 0 other later later_are later_asks in
+      let split = flat_map-append event_of first later in record {
+        once = subst (λ (events : List IoEvent). AsksSides query.left query.join (length old.sizes) (map length files) (sides_asked is_left to other) events) (sym split)
+            (sides.once to other (flat_map event_of first) (flat_map event_of later)
+            (asks_up_to kept.number (length kept.files) (map length kept.files) options.chunk_bytes to (flat_map event_of first) one)
+            (asks_up_to asked.number (length asked.files) (map length asked.files) options.chunk_bytes other (flat_map event_of later) two));
+        short = subst (Each (IsShort options.chunk_bytes)) (sym split) (each-append (IsShort options.chunk_bytes) (flat_map event_of first) (flat_map event_of later)
+            (are_short (numbers_of kept) (map length kept.files) options.chunk_bytes 0 to (flat_map event_of first) one)
+            (are_short (numbers_of asked) (map length asked.files) options.chunk_bytes 0 other (flat_map event_of later) two));
+        fails = fails-append (length old.sizes) (length files) old.failed first later
+            (fails_within kept.number (length kept.files) old.failed (length old.sizes) kept.first (length files) first kept_is.number kept_is.within
+            (fails_on kept.number (length kept.files) (map length kept.files) options.chunk_bytes 0 to old.failed first first_are first_asks))
+            (fails_within asked.number (length asked.files) (fold failed_after old.failed first) (length old.sizes) asked.first (length files) later asked_is.number asked_is.within
+            (fails_on asked.number (length asked.files) (map length asked.files) options.chunk_bytes 0 other (fold failed_after old.failed first) later later_are later_asks));
+      }
+
 module _ (is_left : Bool) (rules : JoinRules) (ordered : is_left ≡ keeps_left rules.how rules.maintain_order) (old now : Outside) (query : QueryParts) (options : RunOptions) (files : List (List ℕ))
     (kept asked : OpenScan) (kept_is : IsOfQuery old now query files kept) (asked_is : IsOfQuery old now query files asked)
-    (sides : AreSides is_left rules options old query files kept asked) (begun : Begun old query files now) (planned : query_fault query ≡ None) where
+    (sides : AreSides is_left rules old query.left query.join files kept asked) (plain : IsUngrouped rules options old query files) (begun : Begun old query files now) (planned : query_fault query ≡ None) where
   abbrev kept_rows : List Row
   kept_rows = open_rows options kept
 
@@ -87,9 +123,6 @@ module _ (is_left : Bool) (rules : JoinRules) (ordered : is_left ≡ keeps_left 
   module _ (to other : ℕ) (reads later : List Action) (new : Outside) (stage : Stage is_left rules options now kept asked to other reads later new) where
     abbrev actions : List Action
     actions = reads ++ later
-
-    reads_each : AreTransfers reads
-    reads_each = are_transfers reads (either_reading reads stage.reading)
 
     later_each : AreTransfers later
     later_each = are_transfers later stage.either
@@ -104,27 +137,8 @@ module _ (is_left : Bool) (rules : JoinRules) (ordered : is_left ≡ keeps_left 
     reads_asks = subst (λ (all : List Action). AskNextChunks (numbers_of kept) (map length kept.files) options.chunk_bytes 0 all to)
         (sym (filter_readings reads stage.reading)) stage.kept_asks
 
-    fails : FailsAt (length old.sizes) (length files) old.failed actions
-    fails = fails-append (length old.sizes) (length files) old.failed reads later
-        (fails_within kept.number (length kept.files) old.failed (length old.sizes) kept.first (length files) reads kept_is.number kept_is.within
-        (fails_on kept.number (length kept.files) (map length kept.files) options.chunk_bytes 0 to old.failed reads reads_each reads_asks))
-        (fails_within asked.number (length asked.files) (fold failed_after old.failed reads) (length old.sizes) asked.first (length files) later asked_is.number asked_is.within
-        (fails_on asked.number (length asked.files) (map length asked.files) options.chunk_bytes 0 other (fold failed_after old.failed reads) later later_each stage.asked_asks))
-
     asks_on : AsksOn old query options files actions (sides_asked is_left to other)
-    asks_on =
-        let first_asks = ask_next (numbers_of kept) (map length kept.files) options.chunk_bytes 0 to reads reads_each reads_asks in
-        let then_asks = ask_next (numbers_of asked) (map length asked.files) options.chunk_bytes 0 other later later_each stage.asked_asks in
-        let split = flat_map-append event_of reads later in record {
-          once = subst (λ (events : List IoEvent). AsksSides query.left query.join (length old.sizes) (map length files) (sides_asked is_left to other) events) (sym split)
-              (sides.once to other (flat_map event_of reads) (flat_map event_of later)
-              (asks_up_to kept.number (length kept.files) (map length kept.files) options.chunk_bytes to (flat_map event_of reads) first_asks)
-              (asks_up_to asked.number (length asked.files) (map length asked.files) options.chunk_bytes other (flat_map event_of later) then_asks));
-          short = subst (Each (IsShort options.chunk_bytes)) (sym split) (each-append (IsShort options.chunk_bytes) (flat_map event_of reads) (flat_map event_of later)
-              (are_short (numbers_of kept) (map length kept.files) options.chunk_bytes 0 to (flat_map event_of reads) first_asks)
-              (are_short (numbers_of asked) (map length asked.files) options.chunk_bytes 0 other (flat_map event_of later) then_asks));
-          fails = fails;
-        }
+    asks_on = asks_both is_left rules old now query options files kept asked kept_is asked_is sides to other reads later (either_reading reads stage.reading) stage.either reads_asks stage.asked_asks
 
     text_then : flat_map text_by actions ≡ flat_map text_by later
     text_then = flat_map-append text_by reads later ∙ ap (λ (text : List ℕ). text ++ flat_map text_by later) (readings_write_nothing reads stage.reading)
@@ -133,28 +147,28 @@ module _ (is_left : Bool) (rules : JoinRules) (ordered : is_left ≡ keeps_left 
     front_valid told valid =
         let some = kept_is.means valid in let others = asked_is.means valid in let stops = stage.front told in record {
           rows = joined_rows (side_kept is_left rules kept_rows) asked_rows;
-          means = sides.meaning kept_rows asked_rows
+          means = plain.meaning (joined_rows (side_kept is_left rules kept_rows) asked_rows) (sides.meaning kept_rows asked_rows
               (some.1 ∙ ap (λ (rows : List Row). Ok rows) (sym (valid_rows old now query options files kept kept_is valid some.0 some.1)))
-              (others.1 ∙ ap (λ (rows : List Row). Ok rows) (sym (valid_rows old now query options files asked asked_is valid others.0 others.1)));
+              (others.1 ∙ ap (λ (rows : List Row). Ok rows) (sym (valid_rows old now query options files asked asked_is valid others.0 others.1))));
           rest = stops.0;
-          front = ap (λ (text : List ℕ). text ++ stops.0) text_then ∙ stops.1 ∙ sides.text (joined_rows (side_kept is_left rules kept_rows) asked_rows);
+          front = ap (λ (text : List ℕ). text ++ stops.0) text_then ∙ stops.1 ∙ plain.text (joined_rows (side_kept is_left rules kept_rows) asked_rows);
         }
 
     front : TellsBytes new → IsFrontOfText query files (flat_map text_by actions)
-    front told = sides.front (flat_map text_by actions) (front_valid told)
+    front told = plain.front (flat_map text_by actions) (front_valid told)
 
     -- memory is out
     pub runs_out : Runs old query options (Err faults.OutOfMemory) new
-    runs_out = runs_on old new query options files actions (sides_asked is_left to other) (Err faults.OutOfMemory) planned asks_on on (λ told. sides.ahead (flat_map event_of actions)) tt tt front (λ told valid none. refl)
+    runs_out = runs_on old new query options files actions (sides_asked is_left to other) (Err faults.OutOfMemory) planned asks_on on (λ told. plain.ahead (flat_map event_of actions)) tt tt front (plain.head (Err faults.OutOfMemory) new) (λ told valid none. refl)
 
     -- a fault of a part of the run, which reads one of the sides
     pub runs_failed : (which : OpenScan) (which_is : IsOfQuery old now query files which) (before part : List Action) (fault : Fault) → actions ≡ before ++ part → AreTransfers part
         → StopsScan (reader_of options which).sources part fault → (TellsBytes new → IsDue (IsJobFault (open_job options which)) fault) → Runs old query options (Err fault) new
     runs_failed which which_is before part fault split part_each stops due =
-        let caused : HasCauseInRun old query files new fault =
-        cause old now query options files which which_is new before part (subst (λ (all : List Action). GoesOn old query files all new) split on) part_each fault stops due in
-        runs_on old new query options files actions (sides_asked is_left to other) (Err fault) planned asks_on on (λ told. sides.ahead (flat_map event_of actions)) tt caused front
-        (λ told valid none. out_of_memory old new query files fault caused none (no_fault old now query options files which which_is fault valid (due told)))
+        let caused : HasCauseInRun old query files (sides_asked is_left to other) new fault =
+        cause old now query options files which which_is new before part (subst (λ (all : List Action). GoesOn old query files all new) split on) part_each (sides_asked is_left to other) fault stops due in
+        runs_on old new query options files actions (sides_asked is_left to other) (Err fault) planned asks_on on (λ told. plain.ahead (flat_map event_of actions)) tt caused front (plain.head (Err fault) new)
+        (λ told valid none. out_of_memory old new query files (sides_asked is_left to other) fault caused none (no_fault old now query options files which which_is fault valid (due told)))
 
     -- rows are answered
     pub runs_ended : (n : ℕ) → (TellsBytes new → Ended is_left rules options kept asked to other (flat_map text_by later) n)
@@ -167,26 +181,22 @@ module _ (is_left : Bool) (rules : JoinRules) (ordered : is_left ≡ keeps_left 
         let read_sum = sum_by-append read_failures reads later in
         let write_sum = sum_by-append write_failures reads later in
         let no_write = no_write_fails reads stage.reading in
-        runs_on old new query options files actions (sides_asked is_left to other) (Ok n) planned asks_on on (λ told. sides.ahead (flat_map event_of actions))
+        runs_on old new query options files actions (sides_asked is_left to other) (Ok n) planned asks_on on (λ told. plain.ahead (flat_map event_of actions))
         (record {
           begun = on.has_begun;
-          read_well = none_fail old new query files actions fails (omega (arith, fails_then, read_sum, none_read, none_then)) on;
+          read_well = none_fail old new query files actions asks_on.fails (omega (arith, fails_then, read_sum, none_read, none_then)) on;
           write_well = stands_none (sum_by write_failures actions) old.write_faults new.write_faults (omega (arith, write_sum, no_write, none_write)) on.write_faults;
           whole = sides.whole to other (λ none. whole old now query options files kept kept_is to none kept_all) (λ none. whole old now query options files asked asked_is other none asked_all);
           text = λ told. let all = ended told in record {
             rows = joined_rows (side_kept is_left rules kept_rows) asked_rows;
             counted = all.counted;
-            means = sides.means to other kept_rows asked_rows (means_asked old now query options files kept kept_is to kept_rows all.kept_means)
-                (means_asked old now query options files asked asked_is other asked_rows all.asked_means);
-            made = on.made ∙ ap (with_sink old.made query.sink.name) (text_then ∙ all.text_is ∙ sides.text (joined_rows (side_kept is_left rules kept_rows) asked_rows));
+            means = plain.asked (sides_asked is_left to other) (joined_rows (side_kept is_left rules kept_rows) asked_rows)
+                (sides.means to other kept_rows asked_rows (means_asked old now query options files kept kept_is to kept_rows all.kept_means)
+                (means_asked old now query options files asked asked_is other asked_rows all.asked_means));
+            made = on.made ∙ ap (with_sink old.made query.sink.name) (text_then ∙ all.text_is ∙ plain.text (joined_rows (side_kept is_left rules kept_rows) asked_rows));
           };
         })
-        tt front (λ told valid none. tt)
-
-  -- the answer and the outside, as they are told
-  answer_as : (result found : Result ℕ Fault) (new then_ : Outside) → result ≡ found → new ≡ then_ → Runs old query options found then_ → Runs old query options result new
-  answer_as result found new then_ is same runs =
-      subst (λ (r : Result ℕ Fault). Runs old query options r new) (sym is) (subst (Runs old query options found) (sym same) runs)
+        tt front (plain.head (Ok n) new) (λ told valid none. tt)
 
   module _ (side : KeptSide) (between : Outside) (has : HasKept (join_scan options kept) rules side now between) where
     abbrev k : KeepsScan (csv_scan kept.scan) (reader_of options kept) now (Ok has.given) between
@@ -237,11 +247,11 @@ module _ (is_left : Bool) (rules : JoinRules) (ordered : is_left ≡ keeps_left 
         where
           alone : IsLeftSo then_ result new ⊎ ((found : Result ℕ Fault) × WritesAlone (csv_scan asked.scan) (reader_of options asked) between side then_ found new × (result ≡ and_more count found))
               → Runs old query options result new
-          alone (inl (is, same)) = answer_as result (Err faults.OutOfMemory) new then_ is same out_then
-          alone (inr (found, writes, is)) = answer_as result (and_more count found) new new is refl (ends_alone found new writes)
+          alone (inl (is, same)) = answer_as old query options result (Err faults.OutOfMemory) new then_ is same out_then
+          alone (inr (found, writes, is)) = answer_as old query options result (and_more count found) new new is refl (ends_alone found new writes)
 
           by : (wanted : Bool) → wants_kept side ≡ wanted → Runs old query options result new
-          by false none = let all = ends.none none in answer_as result (Ok count) new then_ all.0 all.1 (ends_found none)
+          by false none = let all = ends.none none in answer_as old query options result (Ok count) new then_ all.0 all.1 (ends_found none)
           by true some = alone (ends.alone some)
 
     writes_join : (result : Result ℕ Fault) (new : Outside) → WritesJoin (join_scan options asked) side (bytes_bound options) between result new → Runs old query options result new
@@ -251,11 +261,11 @@ module _ (is_left : Bool) (rules : JoinRules) (ordered : is_left ≡ keeps_left 
             → ((fault : Fault) → found ≡ Err fault → (result ≡ Err fault) × (new ≡ w.between))
             → ((count : ℕ) → found ≡ Ok count → IsLeftSo w.between result new ⊎ EndsJoin (join_scan options asked) side between count w.between result new)
             → Runs old query options result new
-        by (Err fault) writes stops ends = let as_ = stops fault refl in answer_as result (Err fault) new w.between as_.0 as_.1 (failed_found fault w.between writes)
+        by (Err fault) writes stops ends = let as_ = stops fault refl in answer_as old query options result (Err fault) new w.between as_.0 as_.1 (failed_found fault w.between writes)
         by (Ok count) writes stops ends = or (ends count refl)
           where
             or : IsLeftSo w.between result new ⊎ EndsJoin (join_scan options asked) side between count w.between result new → Runs old query options result new
-            or (inl (is, same)) = answer_as result (Err faults.OutOfMemory) new w.between is same (out_then count w.between writes)
+            or (inl (is, same)) = answer_as old query options result (Err faults.OutOfMemory) new w.between is same (out_then count w.between writes)
             or (inr last) = ends_join count w.between writes result new last
 
   -- the whole run
@@ -267,12 +277,12 @@ module _ (is_left : Bool) (rules : JoinRules) (ordered : is_left ≡ keeps_left 
           ⊎ (((given : ℕ) × (between : Outside) × KeepsScan (csv_scan kept.scan) (reader_of options kept) now (Ok given) between × IsLeftSo between result new)
           ⊎ ((side : KeptSide) × (between : Outside) × HasKept (join_scan options kept) rules side now between × WritesJoin (join_scan options asked) side (bytes_bound options) between result new)))
           → Runs old query options result new
-      by (inl (is, same)) = answer_as result (Err faults.OutOfMemory) new now is same
+      by (inl (is, same)) = answer_as old query options result (Err faults.OutOfMemory) new now is same
           (runs_out 0 0 [] [] now (stage_none is_left rules ordered old now query options files kept asked kept_is asked_is))
-      by (inr (inl (fault, keeps, is))) = answer_as result (Err fault) new new is refl
+      by (inr (inl (fault, keeps, is))) = answer_as old query options result (Err fault) new new is refl
           (runs_failed keeps.to 0 keeps.reads [] new (stage_kept is_left rules ordered old now query options files kept asked kept_is asked_is (Err fault) new keeps) kept kept_is [] keeps.reads fault (append-nil keeps.reads)
           (are_transfers keeps.reads (either_reading keeps.reads keeps.each)) (stops_kept (reader_of options kept).sources keeps.reads fault keeps.each keeps.stops)
           (λ told. (keeps.told kept.files (had_nothing old now query options files kept kept_is now refl refl (told_back now new keeps.leaves.held told))).due))
-      by (inr (inr (inl (given, between, keeps, so)))) = answer_as result (Err faults.OutOfMemory) new between so.0 so.1
+      by (inr (inr (inl (given, between, keeps, so)))) = answer_as old query options result (Err faults.OutOfMemory) new between so.0 so.1
           (runs_out keeps.to 0 keeps.reads [] between (stage_kept is_left rules ordered old now query options files kept asked kept_is asked_is (Ok given) between keeps))
       by (inr (inr (inr (side, between, has, writes)))) = writes_join side between has result new writes

@@ -5,8 +5,9 @@ use Rattle.std.proofs.lemmas.Bool.{cases_lt}
 use Rattle.std.proofs.lemmas.Bool.Decides.{nat_tests}
 use Rattle.std.proofs.lemmas.List.{length-take-le, length-drop, take-append-drop, map-append, take-map, drop-map, get_or_past, length-map}
 use Rattle.std.proofs.lemmas.List.Sums.{sum_by-append, fold-append}
-use Rattle.std.specs.Prelude.{Bool, true, false, ◌||◌, Some, List, [], ◌∷◌, ◌++◌, map, length, take, drop, get_or}
-use Rattle.std.specs.List.{fold, sum_by}
+use Rattle.std.specs.Prelude.{Bool, true, false, ◌||◌, Option, Some, None, List, [], ◌∷◌, ◌++◌, map, length, take, drop, get_or}
+use Rattle.std.specs.List.{fold}
+use Rattle.morsel_meaning.specs.Values.{Row}
 use Rattle.morsel_grammar.specs.Dialect.{IsDialect}
 use Rattle.morsel_outside.specs.declared.events.IoEvent.{IoEvent}
 use Rattle.morsel_outside.specs.declared.io.FileNo.{FileNo}
@@ -15,8 +16,9 @@ use Rattle.morsel_outside.specs.Actions.{Action, read_failures, failed_after}
 use Rattle.morsel_outside.specs.Asks.{times_asked}
 use Rattle.morsel_read.specs.ScanReads.{sizes_in, CountsFromFirst, AreTold}
 use Rattle.morsel_sink.specs.declared.spec.SinkSpec.{SinkSpec}
+use Rattle.morsel_group.specs.Asked.{GroupAsked}
 use Rattle.morsel_query.specs.Queries.{FileScan, JoinPart, QueryParts}
-use Rattle.morsel_query.specs.Meanings.{csv_scan, left_files, right_files}
+use Rattle.morsel_query.specs.Meanings.{csv_scan, left_files, right_files, JoinMeans, MeansWith}
 use Rattle.morsel_engine.specs.Courses.{file_numbers, is_before, AsksUpTo, AsksBothUpTo}
 use Rattle.morsel_engine.specs.Runs.{TellsBytes}
 use Rattle.morsel_engine.proofs.ToldLemmas.{sizes_opened, are_told}
@@ -50,9 +52,14 @@ left_open old left files = record { scan = left; first = 0; number = length old.
 abbrev pub right_open : Outside → FileScan → JoinPart → List (List ℕ) → OpenScan
 right_open old left join files = record { scan = join.right; first = length left.sources; number = length old.sizes + length left.sources; files = right_files left files }
 
--- a query with a join
-abbrev pub query_joined : FileScan → JoinPart → SinkSpec → QueryParts
-query_joined left join sink = record { left = left; join = Some join; sink = sink }
+-- a query with a join, and with a group-by or without
+abbrev pub query_joined : FileScan → JoinPart → Option GroupAsked → SinkSpec → QueryParts
+query_joined left join group sink = record { left = left; join = Some join; group = group; sink = sink }
+
+-- rows that the join may give, of those that the query may give
+joined_input : (left : FileScan) (join : JoinPart) (group : Option GroupAsked) (files : List (List ℕ)) (rows : List Row) → MeansWith left (Some join) group files rows → (input : List Row) × JoinMeans left join files input
+joined_input left join None files rows means = (rows, means)
+joined_input left join (Some asked) files rows means = (means.input, means.means)
 
 -- what a run of a query with a join has to know of its sides
 pub record SidesFit (left : FileScan) (join : JoinPart) : Type 0 where
@@ -63,9 +70,9 @@ pub record SidesFit (left : FileScan) (join : JoinPart) : Type 0 where
   pub left_some : 0 < length left.sources
   pub right_some : 0 < length join.right.sources
 
-module _ (old now : Outside) (left : FileScan) (join : JoinPart) (sink : SinkSpec) (files : List (List ℕ)) (fit : SidesFit left join) (begun : Begun old (query_joined left join sink) files now) where
+module _ (old now : Outside) (left : FileScan) (join : JoinPart) (group : Option GroupAsked) (sink : SinkSpec) (files : List (List ℕ)) (fit : SidesFit left join) (begun : Begun old (query_joined left join group sink) files now) where
   abbrev query : QueryParts
-  query = query_joined left join sink
+  query = query_joined left join group sink
 
   lefts : ℕ
   lefts = length left.sources
@@ -102,7 +109,7 @@ module _ (old now : Outside) (left : FileScan) (join : JoinPart) (sink : SinkSpe
       (subst (AreTold now (numbers_of (left_open old left files) ++ numbers_of (right_open old left join files))) (sym parts)
       (subst (λ (xs : List FileNo). AreTold now xs files) numbers_split (are_told old now files told.0 begun.sizes begun.held (begun.sized some_file) told.1)))
 
-  pub left_is : IsOfQuery old now (query_joined left join sink) files (left_open old left files)
+  pub left_is : IsOfQuery old now (query_joined left join group sink) files (left_open old left files)
   left_is = record {
     fit = fit.left_fit;
     from_first = fit.left_first;
@@ -114,10 +121,10 @@ module _ (old now : Outside) (left : FileScan) (join : JoinPart) (sink : SinkSpe
     told = λ told. (told_both told).0;
     cause = λ fault has. inl has;
     few = λ valid. valid.few.0;
-    means = λ valid. (valid.means.lefts, valid.means.left_rows);
+    means = λ valid. let input = joined_input left join group files valid.rows valid.means in (input.1.lefts, input.1.left_rows);
   }
 
-  pub right_is : IsOfQuery old now (query_joined left join sink) files (right_open old left join files)
+  pub right_is : IsOfQuery old now (query_joined left join group sink) files (right_open old left join files)
   right_is = record {
     fit = fit.right_fit;
     from_first = fit.right_first;
@@ -129,7 +136,7 @@ module _ (old now : Outside) (left : FileScan) (join : JoinPart) (sink : SinkSpe
     told = λ told. (told_both told).1;
     cause = λ fault has. inr has;
     few = λ valid. valid.few.1;
-    means = λ valid. (valid.means.rights, valid.means.right_rows);
+    means = λ valid. let input = joined_input left join group files valid.rows valid.means in (input.1.rights, input.1.right_rows);
   }
     where
       before : List ℕ

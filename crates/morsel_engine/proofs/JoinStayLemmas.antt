@@ -18,13 +18,13 @@ use Rattle.morsel_engine.specs.Stages.{bytes_bound, side_scan, JoinsSides, Joins
 abbrev pub AreSame : Outside → Outside → Type 0
 AreSame old new = (new.sizes ≡ old.sizes) × (new.held ≡ old.held)
 
-then_same : (old between new : Outside) → AreSame old between → AreSame between new → AreSame old new
+pub then_same : (old between new : Outside) → AreSame old between → AreSame between new → AreSame old new
 then_same old between new one two = (two.0 ∙ one.0, two.1 ∙ one.1)
 
-left_same : (o : Outside) (result : Result ℕ Fault) (new : Outside) → IsLeftSo o result new → AreSame o new
+pub left_same : (o : Outside) (result : Result ℕ Fault) (new : Outside) → IsLeftSo o result new → AreSame o new
 left_same o result new so = (ap (λ (x : Outside). x.sizes) so.1, ap (λ (x : Outside). x.held) so.1)
 
-is_same : (o new : Outside) → new ≡ o → AreSame o new
+pub is_same : (o new : Outside) → new ≡ o → AreSame o new
 is_same o new is = (ap (λ (x : Outside). x.sizes) is, ap (λ (x : Outside). x.held) is)
 
 ends_same : (asked : JoinScan) (side : KeptSide) (opened : Outside) (count : ℕ) (o : Outside) (result : Result ℕ Fault) (new : Outside) → EndsJoin asked side opened count o result new → AreSame o new

@@ -1,11 +1,12 @@
 -- Runs of queries with a join, by which of its sides is kept.
 use Rattle.std.proofs.Common.{◌≡◌, ℕ, ◌+◌, ◌<◌, ap, sym, subst, refl, ◌∙◌, inl, inr}
-use Rattle.std.specs.Prelude.{Bool, true, false, None, Result, Err, List, length, map}
+use Rattle.std.specs.Prelude.{Bool, true, false, Option, Some, None, Result, Err, List, length, map}
 use Rattle.morsel_meaning.specs.declared.fault.Fault.{Fault}
 use Rattle.morsel_meaning.specs.declared.fault.Fault.TheVariants as faults
 use Rattle.morsel_meaning.specs.declared.value.Field.{Field}
 use Rattle.morsel_meaning.specs.Values.{Row, Table, names_of}
 use Rattle.morsel_ndjson.specs.Ndjson.{ndjson}
+use Rattle.morsel_grammar.specs.Dialect.{IsDialect}
 use Rattle.morsel_outside.specs.Outside.{Outside}
 use Rattle.morsel_join.specs.declared.join_type.JoinType.{JoinType}
 use Rattle.morsel_join.specs.declared.join_type.MaintainOrderJoin.{MaintainOrderJoin}
@@ -19,17 +20,18 @@ use Rattle.morsel_read.specs.ScanReads.{CountsFromFirst}
 use Rattle.morsel_sink.specs.declared.spec.SinkFormat.{SinkFormat}
 use Rattle.morsel_sink.specs.declared.spec.SinkFormat.TheVariants as formats
 use Rattle.morsel_sink.specs.declared.spec.SinkSpec.{SinkSpec}
+use Rattle.morsel_group.specs.Asked.{GroupAsked}
 use Rattle.morsel_query.specs.RunOptions.{RunOptions}
 use Rattle.morsel_query.specs.Queries.{FileScan, JoinPart}
 use Rattle.morsel_query.specs.Plans.{fields_of_scan, AreRulesOf, query_fault}
-use Rattle.morsel_query.specs.Meanings.{left_files, right_files, AreJoinRows, text_of}
+use Rattle.morsel_query.specs.Meanings.{csv_scan, left_files, right_files, AreJoinRows, text_of}
 use Rattle.morsel_engine.specs.Courses.{file_numbers}
 use Rattle.morsel_engine.specs.Stages.{bytes_bound, side_scan, JoinsSides, JoinsFiles}
 use Rattle.morsel_engine.specs.Runs.{Runs}
 use Rattle.morsel_engine.proofs.ScanLemmas.{Begun, runs_begun}
 use Rattle.morsel_engine.proofs.JoinSideLemmas.{left_open, right_open, query_joined, SidesFit, left_is, right_is, asks_left_first, asks_right_first}
 use Rattle.morsel_engine.proofs.JoinLemmas.{side_kept, joined_rows, join_text}
-use Rattle.morsel_engine.proofs.JoinRunLemmas.{AreSides, runs_course}
+use Rattle.morsel_engine.proofs.JoinRunLemmas.{AreSides, IsUngrouped, runs_course}
 
 abbrev table_of : List Field → List Row → Table
 table_of fields rows = record { schema = fields; rows = rows }
@@ -67,62 +69,74 @@ joined_right left join rules rows others are ordered =
 
 -- the text of its rows
 text_joined : (format : SinkFormat) (left : FileScan) (join : JoinPart) (name : List ℕ) (rules : JoinRules) (rows : List Row) → AreRulesOf (fields_of_scan left) (fields_of_scan join.right) join rules
-    → join_text rules rows ≡ text_of (query_joined left join (record { name = name; format = format })) rows
+    → join_text rules rows ≡ text_of (query_joined left join None (record { name = name; format = format })) rows
 text_joined formats.NdJson left join name rules rows are = ap (λ (fields : List Field). ndjson (names_of fields) rows) are.output
 
-sides_left : (left : FileScan) (join : JoinPart) (sink : SinkSpec) (rules : JoinRules) (options : RunOptions) (old : Outside) (files : List (List ℕ)) → AreRulesOf (fields_of_scan left) (fields_of_scan join.right) join rules
-    → true ≡ keeps_left rules.how rules.maintain_order → AreSides true rules options old (query_joined left join sink) files (left_open old left files) (right_open old left join files)
-sides_left left join sink rules options old files are ordered = record {
+pub sides_left : (left : FileScan) (join : JoinPart) (rules : JoinRules) (old : Outside) (files : List (List ℕ)) → AreRulesOf (fields_of_scan left) (fields_of_scan join.right) join rules
+    → true ≡ keeps_left rules.how rules.maintain_order → AreSides true rules old left (Some join) files (left_open old left files) (right_open old left join files)
+sides_left left join rules old files are ordered = record {
   once = λ to other first later one two. asks_left_first (length old.sizes) (length left.sources) files to other first later one two;
-  ahead = λ events. tt;
   means = λ to other rows others one two. record { lefts = rows; rights = others; left_rows = one; right_rows = two; joined = joined_left left join rules rows others are ordered };
   whole = λ to other one two. (one, two);
-  text = λ rows. text_joined sink.format left join sink.name rules rows are;
-  front = λ text is. is;
   meaning = λ rows others one two. record { lefts = rows; rights = others; left_rows = one; right_rows = two; joined = joined_left left join rules rows others are ordered };
 }
 
-sides_right : (left : FileScan) (join : JoinPart) (sink : SinkSpec) (rules : JoinRules) (options : RunOptions) (old : Outside) (files : List (List ℕ)) → AreRulesOf (fields_of_scan left) (fields_of_scan join.right) join rules
-    → false ≡ keeps_left rules.how rules.maintain_order → AreSides false rules options old (query_joined left join sink) files (right_open old left join files) (left_open old left files)
-sides_right left join sink rules options old files are ordered = record {
+pub sides_right : (left : FileScan) (join : JoinPart) (rules : JoinRules) (old : Outside) (files : List (List ℕ)) → AreRulesOf (fields_of_scan left) (fields_of_scan join.right) join rules
+    → false ≡ keeps_left rules.how rules.maintain_order → AreSides false rules old left (Some join) files (right_open old left join files) (left_open old left files)
+sides_right left join rules old files are ordered = record {
   once = λ to other first later one two. asks_right_first (length old.sizes) (length left.sources) files other to first later one two;
-  ahead = λ events. tt;
   means = λ to other rows others one two. record { lefts = others; rights = rows; left_rows = two; right_rows = one; joined = joined_right left join rules rows others are ordered };
   whole = λ to other one two. (two, one);
-  text = λ rows. text_joined sink.format left join sink.name rules rows are;
-  front = λ text is. is;
   meaning = λ rows others one two. record { lefts = others; rights = rows; left_rows = two; right_rows = one; joined = joined_right left join rules rows others are ordered };
 }
 
+-- its rows are those of a query without a group-by
+is_ungrouped : (left : FileScan) (join : JoinPart) (sink : SinkSpec) (rules : JoinRules) (options : RunOptions) (old : Outside) (files : List (List ℕ)) → AreRulesOf (fields_of_scan left) (fields_of_scan join.right) join rules
+    → IsUngrouped rules options old (query_joined left join None sink) files
+is_ungrouped left join sink rules options old files are = record {
+  ahead = λ events. tt;
+  asked = λ to rows means. means;
+  meaning = λ rows means. means;
+  text = λ rows. text_joined sink.format left join sink.name rules rows are;
+  front = λ text is. is;
+  head = λ result new. tt;
+}
+
 -- what a run of a join has to know of its query
-pub record JoinFit (left : FileScan) (join : JoinPart) (sink : SinkSpec) (rules : JoinRules) : Type 0 where
-  pub planned : query_fault (query_joined left join sink) ≡ None
+pub record JoinFit (left : FileScan) (join : JoinPart) (group : Option GroupAsked) (sink : SinkSpec) (rules : JoinRules) : Type 0 where
+  pub planned : query_fault (query_joined left join group sink) ≡ None
   pub left_first : CountsFromFirst left.asked.slice
   pub right_first : CountsFromFirst join.right.asked.slice
   pub left_some : 0 < length left.sources
   pub right_some : 0 < length join.right.sources
   pub are_rules : AreRulesOf (fields_of_scan left) (fields_of_scan join.right) join rules
 
+-- and what follows for its sides
+pub fit_sides : (left : FileScan) (join : JoinPart) (group : Option GroupAsked) (sink : SinkSpec) (rules : JoinRules) → JoinFit left join group sink rules → IsDialect (csv_scan left).options
+    → IsDialect (csv_scan join.right).options → SidesFit left join
+fit_sides left join group sink rules fit left_fit right_fit =
+    record { left_fit = left_fit; right_fit = right_fit; left_first = fit.left_first; right_first = fit.right_first; left_some = fit.left_some; right_some = fit.right_some }
+
 -- a run of a join that made its sink, whatever follows
 pub runs_joined : (old now new : Outside) (left : FileScan) (join : JoinPart) (sink : SinkSpec) (rules : JoinRules) (options : RunOptions) (files : List (List ℕ)) (result : Result ℕ Fault)
-    → JoinFit left join sink rules → Begun old (query_joined left join sink) files now
+    → JoinFit left join None sink rules → Begun old (query_joined left join None sink) files now
     → JoinsFiles now left join.right (file_numbers (length old.sizes) (length (left_files left files))) (file_numbers (length old.sizes + length left.sources) (length (right_files left files))) rules options result new
-    → Runs old (query_joined left join sink) options result new
+    → Runs old (query_joined left join None sink) options result new
 runs_joined old now new left join sink rules options files result fit begun (inl (is, same)) =
-    subst (λ (r : Result ℕ Fault). Runs old (query_joined left join sink) options r new) (sym is) (subst (Runs old (query_joined left join sink) options (Err faults.OutOfMemory)) (sym same)
-    (runs_begun old now (query_joined left join sink) options files fit.planned begun))
+    subst (λ (r : Result ℕ Fault). Runs old (query_joined left join None sink) options r new) (sym is) (subst (Runs old (query_joined left join None sink) options (Err faults.OutOfMemory)) (sym same)
+    (runs_begun old now (query_joined left join None sink) options files fit.planned begun))
 runs_joined old now new left join sink rules options files result fit begun (inr (left_fit, right_fit, some, joins)) = by (keeps_left rules.how rules.maintain_order) refl joins
   where
     sides_fit : SidesFit left join
-    sides_fit = record { left_fit = left_fit; right_fit = right_fit; left_first = fit.left_first; right_first = fit.right_first; left_some = fit.left_some; right_some = fit.right_some }
+    sides_fit = fit_sides left join None sink rules fit left_fit right_fit
 
     by : (is_left : Bool) → is_left ≡ keeps_left rules.how rules.maintain_order
         → JoinsSides is_left (side_scan left (file_numbers (length old.sizes) (length (left_files left files))) 0 options)
         (side_scan join.right (file_numbers (length old.sizes + length left.sources) (length (right_files left files))) (length left.sources) options) rules (bytes_bound options) now result new
-        → Runs old (query_joined left join sink) options result new
-    by true ordered joined = runs_course true rules ordered old now (query_joined left join sink) options files (left_open old left files) (right_open old left join files)
-        (left_is old now left join sink files sides_fit begun) (right_is old now left join sink files sides_fit begun)
-        (sides_left left join sink rules options old files fit.are_rules ordered) begun fit.planned result new joined
-    by false ordered joined = runs_course false rules ordered old now (query_joined left join sink) options files (right_open old left join files) (left_open old left files)
-        (right_is old now left join sink files sides_fit begun) (left_is old now left join sink files sides_fit begun)
-        (sides_right left join sink rules options old files fit.are_rules ordered) begun fit.planned result new joined
+        → Runs old (query_joined left join None sink) options result new
+    by true ordered joined = runs_course true rules ordered old now (query_joined left join None sink) options files (left_open old left files) (right_open old left join files)
+        (left_is old now left join None sink files sides_fit begun) (right_is old now left join None sink files sides_fit begun)
+        (sides_left left join rules old files fit.are_rules ordered) (is_ungrouped left join sink rules options old files fit.are_rules) begun fit.planned result new joined
+    by false ordered joined = runs_course false rules ordered old now (query_joined left join None sink) options files (right_open old left join files) (left_open old left files)
+        (right_is old now left join None sink files sides_fit begun) (left_is old now left join None sink files sides_fit begun)
+        (sides_right left join rules old files fit.are_rules ordered) (is_ungrouped left join sink rules options old files fit.are_rules) begun fit.planned result new joined

@@ -35,7 +35,7 @@ use Rattle.morsel_query.specs.CsvCauses.{CsvCause, QueryCause}
 use Rattle.morsel_causes.specs.FileFaults.{TellsOfQuery}
 use Rattle.morsel_causes.proofs.ValidLemmas.{valid_files, files_with_rows}
 use Rattle.morsel_causes.proofs.CauseLemmas.{each_cause}
-use Rattle.morsel_engine.specs.Courses.{file_numbers}
+use Rattle.morsel_engine.specs.Courses.{file_numbers, SidesAsked}
 use Rattle.morsel_engine.specs.Runs.{TellsBytes, ScansAsked, HasCauseInRun, NoneRises}
 use Rattle.morsel_engine.proofs.ToldLemmas.{sum_lengths, has_given_nothing}
 use Rattle.morsel_engine.proofs.OpenLemmas.{length_numbers}
@@ -170,7 +170,7 @@ module _ (old now : Outside) (query : QueryParts) (options : RunOptions) (files 
   whole to none (inr past) = absurd (let stop : (reader_of options open_scan).sources.stop ≡ 2 ^ 64 - 1 = ap slice_stop none in omega (arith, past, stop))
 
   -- why a part of a run has a fault, where the run did something before it
-  module _ (new : Outside) (before part : List Action) (on : GoesOn old query files (before ++ part) new) (each : AreTransfers part) where
+  module _ (new : Outside) (before part : List Action) (on : GoesOn old query files (before ++ part) new) (each : AreTransfers part) (asked : SidesAsked) where
     -- a read that failed
     rises_reading : (number : ℕ) → EndsInFailure (reader_of options open_scan).sources number (filter is_reading part)
         → (number < length (sources_of query)) × (number ≤ length files) × Rises old.read_faults new.read_faults × (new.failed ≡ length old.sizes + number)
@@ -201,7 +201,7 @@ module _ (old now : Outside) (query : QueryParts) (options : RunOptions) (files 
         let number = of.0 in let n = length_numbers open_scan.number (length open_scan.files) in let all = on.has_begun.all in let within = is.within in
         (omega (arith, less, number, n, all, within), of.1)
 
-    pub cause : (fault : Fault) → StopsScan (reader_of options open_scan).sources part fault → (TellsBytes new → IsDue (IsJobFault job) fault) → HasCauseInRun old query files new fault
+    pub cause : (fault : Fault) → StopsScan (reader_of options open_scan).sources part fault → (TellsBytes new → IsDue (IsJobFault job) fault) → HasCauseInRun old query files asked new fault
     cause faults.OutOfMemory stops due = tt
     cause (faults.ReadFault number) (inl write) due = absurd write
     cause (faults.ReadFault number) (inr (inl read)) due = rises_reading number (read.1 number refl)
@@ -209,16 +209,16 @@ module _ (old now : Outside) (query : QueryParts) (options : RunOptions) (files 
     cause faults.WriteFault (inl write) due = (on.has_begun.all, rises_writing write)
     cause faults.WriteFault (inr (inl read)) due = absurd read.0.2
     cause faults.WriteFault (inr (inr broke)) due = absurd broke
-    cause (faults.Malformed file at) stops due = record { kind = tt; begun = on.has_begun; cause = λ told. is.cause _ (of_files (faults.Malformed file at) tt due told) }
+    cause (faults.Malformed file at) stops due = record { kind = tt; begun = on.has_begun; cause = λ told. inl (is.cause _ (of_files (faults.Malformed file at) tt due told)) }
     cause (faults.Unsupported file code) (inl write) due = absurd write
-    cause (faults.Unsupported file code) (inr (inl read)) due = record { kind = of_source file code read.0; begun = on.has_begun; cause = λ told. is.cause _ (of_files (faults.Unsupported file code) tt due told) }
+    cause (faults.Unsupported file code) (inr (inl read)) due = record { kind = of_source file code read.0; begun = on.has_begun; cause = λ told. inl (is.cause _ (of_files (faults.Unsupported file code) tt due told)) }
     cause (faults.Unsupported file code) (inr (inr broke)) due = absurd broke
-    cause (faults.ComputeError kinds.NotUtf8 file at) stops due = record { kind = tt; begun = on.has_begun; cause = λ told. is.cause _ (of_files (faults.ComputeError kinds.NotUtf8 file at) tt due told) }
-    cause (faults.ComputeError kinds.IllTyped file at) stops due = record { kind = tt; begun = on.has_begun; cause = λ told. is.cause _ (of_files (faults.ComputeError kinds.IllTyped file at) tt due told) }
-    cause (faults.ComputeError kinds.IndexTooLarge file at) stops due = record { kind = tt; begun = on.has_begun; cause = λ told. is.cause _ (of_files (faults.ComputeError kinds.IndexTooLarge file at) tt due told) }
+    cause (faults.ComputeError kinds.NotUtf8 file at) stops due = record { kind = tt; begun = on.has_begun; cause = λ told. inl (is.cause _ (of_files (faults.ComputeError kinds.NotUtf8 file at) tt due told)) }
+    cause (faults.ComputeError kinds.IllTyped file at) stops due = record { kind = tt; begun = on.has_begun; cause = λ told. inl (is.cause _ (of_files (faults.ComputeError kinds.IllTyped file at) tt due told)) }
+    cause (faults.ComputeError kinds.IndexTooLarge file at) stops due = record { kind = tt; begun = on.has_begun; cause = λ told. inl (is.cause _ (of_files (faults.ComputeError kinds.IndexTooLarge file at) tt due told)) }
     cause (faults.ComputeError kinds.TooManyRows file at) (inl write) due = absurd write
     cause (faults.ComputeError kinds.TooManyRows file at) (inr (inl read)) due =
-        record { kind = read.0; begun = on.has_begun; cause = λ told. is.cause _ (of_files (faults.ComputeError kinds.TooManyRows file at) read.0 due told) }
+        record { kind = read.0; begun = on.has_begun; cause = λ told. inl (is.cause _ (of_files (faults.ComputeError kinds.TooManyRows file at) read.0 due told)) }
     cause (faults.ComputeError kinds.TooManyRows file at) (inr (inr broke)) due = absurd broke
     cause (faults.InvalidQuery why) (inl write) due = absurd write
     cause (faults.InvalidQuery why) (inr (inl read)) due = absurd read.0.2
@@ -255,17 +255,17 @@ module _ (old now : Outside) (query : QueryParts) (options : RunOptions) (files 
     cause (faults.ComputeError kinds.FooterTooLarge file at) (inr (inr broke)) due = absurd broke
 
 -- no fault of files is due: it is that memory is out, where no call failed
-pub out_of_memory : (old new : Outside) (query : QueryParts) (files : List (List ℕ)) (fault : Fault) → HasCauseInRun old query files new fault → NoneRises old new → IsDue (λ due. ⊥) fault
+pub out_of_memory : (old new : Outside) (query : QueryParts) (files : List (List ℕ)) (asked : SidesAsked) (fault : Fault) → HasCauseInRun old query files asked new fault → NoneRises old new → IsDue (λ due. ⊥) fault
     → fault ≡ faults.OutOfMemory
-out_of_memory old new query files faults.OutOfMemory has none due = refl
-out_of_memory old new query files (faults.ReadFault number) has none due = absurd (none.reads has.2)
-out_of_memory old new query files faults.WriteFault has none due = absurd (none.writes has.1)
-out_of_memory old new query files (faults.Malformed file at) has none due = absurd due
-out_of_memory old new query files (faults.Unsupported file code) has none due = absurd due
-out_of_memory old new query files (faults.ComputeError kind file at) has none due = absurd due
-out_of_memory old new query files (faults.InvalidQuery why) has none due = absurd due
-out_of_memory old new query files (faults.ColumnNotFound column) has none due = absurd due
-out_of_memory old new query files (faults.SchemaMismatch column) has none due = absurd due
-out_of_memory old new query files (faults.Duplicate column) has none due = absurd due
-out_of_memory old new query files faults.QueryText has none due = absurd due
-out_of_memory old new query files faults.Usage has none due = absurd due
+out_of_memory old new query files asked faults.OutOfMemory has none due = refl
+out_of_memory old new query files asked (faults.ReadFault number) has none due = absurd (none.reads has.2)
+out_of_memory old new query files asked faults.WriteFault has none due = absurd (none.writes has.1)
+out_of_memory old new query files asked (faults.Malformed file at) has none due = absurd due
+out_of_memory old new query files asked (faults.Unsupported file code) has none due = absurd due
+out_of_memory old new query files asked (faults.ComputeError kind file at) has none due = absurd due
+out_of_memory old new query files asked (faults.InvalidQuery why) has none due = absurd due
+out_of_memory old new query files asked (faults.ColumnNotFound column) has none due = absurd due
+out_of_memory old new query files asked (faults.SchemaMismatch column) has none due = absurd due
+out_of_memory old new query files asked (faults.Duplicate column) has none due = absurd due
+out_of_memory old new query files asked faults.QueryText has none due = absurd due
+out_of_memory old new query files asked faults.Usage has none due = absurd due

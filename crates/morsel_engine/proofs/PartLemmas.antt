@@ -18,11 +18,13 @@ use Rattle.morsel_line.specs.ScanRuns.{WritesScan}
 use Rattle.morsel_plan.specs.LineRuns.{WritesOrNot}
 use Rattle.morsel_frame.specs.Refusals.{first_fault}
 use Rattle.morsel_sink.specs.declared.spec.SinkSpec.{SinkSpec}
+use Rattle.morsel_group.specs.Asked.{GroupAsked}
+use Rattle.morsel_group.specs.GroupFlaws.{group_flaw}
 use Rattle.morsel_query.specs.RunOptions.{RunOptions}
 use Rattle.morsel_query.specs.Queries.{FileFormat, CsvFiles, FileScan, JoinPart, QueryParts, file_format, file_scan, query_parts, fields_of_format, scan_over, scan_asked}
 use Rattle.morsel_query.specs.QueryFlaws.{right_sides, sources_of_sides, sources_of, IsSound}
 use Rattle.morsel_join.specs.Payloads.{join_flaw}
-use Rattle.morsel_query.specs.Plans.{fields_of_scan, slice_fault, side_fault, join_fault, fault_by, query_fault}
+use Rattle.morsel_query.specs.Plans.{fields_of_scan, fields_of_input, slice_fault, side_fault, join_fault, fault_by, fault_with, query_fault}
 use Rattle.morsel_query.specs.Meanings.{dialect_of, csv_scan}
 use Rattle.morsel_engine.specs.Stages.{HasOpenedAll, bytes_bound, OpensSources, MakesSink, ScansFiles, AreOpenIn, IsPlannedScan}
 use Rattle.morsel_engine.specs.Runs.{Runs}
@@ -65,7 +67,7 @@ counts (Some (pos n, len)) is = refl
 counts (Some (negsuc n, len)) is = absurd (cc)
 
 -- neither of two has a fault
-no_first : (first later : Option Fault) → first_fault first later ≡ None → (first ≡ None) × (later ≡ None)
+pub no_first : (first later : Option Fault) → first_fault first later ≡ None → (first ≡ None) × (later ≡ None)
 no_first None later is = (refl, is)
 no_first (Some fault) later is = absurd (cc)
 
@@ -76,9 +78,14 @@ planned_side scan is = by scan.format is
     by : (f : FileFormat) → side_fault f (scan_asked scan) ≡ None → IsPlannedScan scan
     by (CsvFiles fields options) is = let both = no_first (scan_flaw (scan_asked scan)) (slice_fault scan.asked.slice) is in record { flawless = both.0; from_first = both.1 }
 
+-- and so have the sides of a query with a group-by
+pub before_group : (left : FileScan) (join : Option JoinPart) (group : Option GroupAsked) → fault_with left join group ≡ None → fault_by left join ≡ None
+before_group left join None is = is
+before_group left join (Some asked) is = (no_first (fault_by left join) (group_flaw (fields_of_input left join) asked) is).0
+
 -- and so have the scans of a query that has one
 pub planned_scan : (query : QueryParts) → query_fault query ≡ None → IsPlannedScan query.left
-planned_scan query is = planned_side query.left (by query.join is)
+planned_scan query is = planned_side query.left (by query.join (before_group query.left query.join query.group is))
   where
     by : (join : Option JoinPart) → fault_by query.left join ≡ None → side_fault query.left.format (scan_asked query.left) ≡ None
     by None is = is
@@ -132,16 +139,16 @@ runs_not_made old now new query options numbers files faults.QueryText planned o
 runs_not_made old now new query options numbers files faults.Usage planned opened h = absurd h
 
 -- a query's sources, which were opened
-opened_of : (old now : Outside) (query : QueryParts) (numbers : List FileNo) (files : List (List ℕ)) → query.join ≡ None → HasOpenedAll old query.left.sources numbers files now
+pub opened_of : (old now : Outside) (query : QueryParts) (numbers : List FileNo) (files : List (List ℕ)) → query.join ≡ None → HasOpenedAll old query.left.sources numbers files now
     → HasOpenedAll old (sources_of query) numbers files now
 opened_of old now query numbers files none opened = subst (λ (names : List (List ℕ)). HasOpenedAll old names numbers files now) (sym (sources_are query none)) opened
 
 -- a run whose sources are open and whose sink is made
 pub runs_parts : (old between now new : Outside) (left : ScanSpec) (sink : SinkSpec) (options : RunOptions) (numbers : List FileNo) (files : List (List ℕ)) (result : Result ℕ Fault)
-    → IsSound (query_parts left None sink) → query_fault (query_parts left None sink) ≡ None → HasOpenedAll old left.sources.items numbers files between → Does between (Making sink.name ∷ []) now
-    → ScansFiles now (csv_scan (file_scan left)) left.sources.items numbers options result new → Runs old (query_parts left None sink) options result new
+    → IsSound (query_parts left None None sink) → query_fault (query_parts left None None sink) ≡ None → HasOpenedAll old left.sources.items numbers files between → Does between (Making sink.name ∷ []) now
+    → ScansFiles now (csv_scan (file_scan left)) left.sources.items numbers options result new → Runs old (query_parts left None None sink) options result new
 runs_parts old between now new left sink options numbers files result sound planned opened made scans =
-    let query = query_parts left None sink in
+    let query = query_parts left None None sink in
     let start = begun old between now query numbers files (opened_of old between query numbers files refl opened) made in
     let some = sound.each.0.some_source in let all = opened.all in
     runs_scanned sink.format old (file_scan left) sink.name options files now result new planned (counts left.file_options.slice (planned_scan query planned).from_first)

@@ -7,24 +7,30 @@ use Rattle.morsel_meaning.specs.declared.fault.Fault.TheVariants as faults
 use Rattle.morsel_frame.specs.Refusals.{Refuses}
 use Rattle.morsel_outside.specs.declared.events.Asked.{Asked}
 use Rattle.morsel_outside.specs.declared.events.Asked.TheVariants.{Open, Make}
-use Rattle.morsel_outside.specs.Outside.{Outside}
+use Rattle.morsel_outside.specs.Outside.{Outside, with_sink}
+use Rattle.morsel_group.specs.Asked.{GroupAsked}
 use Rattle.morsel_outside.specs.Actions.{Rises, Does, FailedMaking}
 use Rattle.morsel_outside.proofs.ActionLemmas.{with_more-nil}
 use Rattle.morsel_query.specs.RunOptions.{RunOptions}
 use Rattle.morsel_query.specs.Queries.{JoinPart, QueryParts}
 use Rattle.morsel_query.specs.QueryFlaws.{sources_of}
 use Rattle.morsel_query.specs.Plans.{query_fault}
-use Rattle.morsel_engine.specs.Courses.{names_asked}
+use Rattle.morsel_query.specs.Meanings.{text_of}
+use Rattle.morsel_engine.specs.Courses.{names_asked, SidesAsked}
 use Rattle.morsel_engine.specs.Stages.{HasOpenedFirst, FailsToOpen}
-use Rattle.morsel_engine.specs.Runs.{HasOpened, HasNotBegun, HasCause, HasCauseInRun, NoneRises, ReadsAheadBy, Runs}
+use Rattle.morsel_engine.specs.Runs.{HasOpened, HasNotBegun, HasCause, HasCauseInRun, LeavesNoRow, LeavesNoRowBy, NoneRises, ReadsAheadBy, Runs}
 use Rattle.morsel_engine.proofs.OpenLemmas.{is_opened}
 use Rattle.morsel_engine.proofs.AskLemmas.{asks_no_side}
+
+-- no byte was asked
+abbrev pub none_asked : SidesAsked
+none_asked = record { left = 0; right = 0 }
 
 -- what a run that makes no sink leaves as it was
 pub record Stopped (old : Outside) (query : QueryParts) (files : List (List ℕ)) (fault : Fault) (new : Outside) : Type 0 where
   pub opened : HasOpened old query files new
   pub not_begun : HasNotBegun old query files new
-  pub cause : HasCause old query files new fault
+  pub cause : HasCause old query files none_asked new fault
   pub complete : NoneRises old new → query_fault query ≡ None → fault ≡ faults.OutOfMemory
   pub refused : (due : Fault) → query_fault query ≡ Some due → (new ≡ old) × ((fault ≡ due) ⊎ (fault ≡ faults.OutOfMemory))
   pub reads_fail : ((new.read_faults ≡ old.read_faults) × (new.failed ≡ old.failed))
@@ -34,24 +40,46 @@ pub record Stopped (old : Outside) (query : QueryParts) (files : List (List ℕ)
   pub no_lower : old.write_faults ≤ new.write_faults
 
 -- without events no read is far ahead
-pub nothing_ahead : (join : Option JoinPart) (query : QueryParts) (options : RunOptions) (number : ℕ) (files : List (List ℕ)) → ReadsAheadBy join query options number files []
-nothing_ahead None query options number files = tt
-nothing_ahead (Some join) query options number files = tt
+pub nothing_ahead : (join : Option JoinPart) (group : Option GroupAsked) (query : QueryParts) (options : RunOptions) (number : ℕ) (files : List (List ℕ)) → ReadsAheadBy join group query options number files []
+nothing_ahead None None query options number files = tt
+nothing_ahead None (Some group) query options number files = tt
+nothing_ahead (Some join) group query options number files = tt
+
+-- no row is left, after any fault, where no sink is more, or one with the text of no row
+pub no_row_left : (old : Outside) (query : QueryParts) (new : Outside) (fault : Fault) → (new.made ≡ old.made) ⊎ (new.made ≡ with_sink old.made query.sink.name (text_of query [])) → LeavesNoRow old query new fault
+no_row_left old query new faults.WriteFault is = tt
+no_row_left old query new faults.OutOfMemory is = tt
+no_row_left old query new (faults.ReadFault file) is = is
+no_row_left old query new (faults.InvalidQuery why) is = is
+no_row_left old query new (faults.Malformed file at) is = is
+no_row_left old query new (faults.Unsupported file code) is = is
+no_row_left old query new (faults.ColumnNotFound name) is = is
+no_row_left old query new (faults.SchemaMismatch name) is = is
+no_row_left old query new (faults.Duplicate name) is = is
+no_row_left old query new (faults.ComputeError kind file at) is = is
+no_row_left old query new faults.QueryText is = is
+no_row_left old query new faults.Usage is = is
+
+-- the same with a group-by or without
+pub no_row : (group : Option GroupAsked) (old : Outside) (query : QueryParts) (new : Outside) (fault : Fault) → LeavesNoRow old query new fault → LeavesNoRowBy group old query (Err fault) new
+no_row None old query new fault none = tt
+no_row (Some group) old query new fault none = none
 
 pub runs_stopped : (old : Outside) (query : QueryParts) (options : RunOptions) (files : List (List ℕ)) (fault : Fault) (new : Outside) → Stopped old query files fault new
     → Runs old query options (Err fault) new
 runs_stopped old query options files fault new s = record {
   files = files;
   opened = s.opened;
-  asked = record { left = 0; right = 0 };
+  asked = none_asked;
   events = [];
   gained = s.not_begun.events ∙ sym (with_more-nil old.events);
   once = asks_no_side query.left query.join (length old.sizes) (map length files);
   short = tt;
-  ahead = λ told. nothing_ahead query.join query options (length old.sizes) files;
+  ahead = λ told. nothing_ahead query.join query.group query options (length old.sizes) files;
   answers = tt;
   caused = s.cause;
   leaves = inl s.not_begun;
+  head_alone = no_row query.group old query new fault (no_row_left old query new fault (inl s.not_begun.made));
   complete = λ told valid none. s.complete none valid.planned;
   refused = s.refused;
   reads_fail = s.reads_fail;
@@ -109,9 +137,9 @@ runs_refused o query options fault why = runs_stopped o query options [] fault o
   no_lower = omega arith;
 })
   where
-    caused : (query_fault query ≡ Some fault) ⊎ (fault ≡ faults.OutOfMemory) → HasCause o query [] o fault
+    caused : (query_fault query ≡ Some fault) ⊎ (fault ≡ faults.OutOfMemory) → HasCause o query [] none_asked o fault
     caused (inl is) = inl (is, refl)
-    caused (inr is) = inr (subst (HasCauseInRun o query [] o) (sym is) tt)
+    caused (inr is) = inr (subst (HasCauseInRun o query [] none_asked o) (sym is) tt)
 
     done : (query_fault query ≡ Some fault) ⊎ (fault ≡ faults.OutOfMemory) → query_fault query ≡ None → fault ≡ faults.OutOfMemory
     done (inl is) planned = absurd (let both : None ≡ Some fault = sym planned ∙ is in cc)

@@ -15,6 +15,7 @@ use Rattle.morsel_outside.proofs.SinkLemmas.{with_piece-with_sink}
 use Rattle.morsel_outside.proofs.DoesLemmas.{does-nothing}
 use Rattle.morsel_outside.proofs.TransferLemmas.{AreTransfers, only_transfers}
 use Rattle.morsel_drive.specs.Lines.{Each}
+use Rattle.morsel_group.specs.Asked.{GroupAsked}
 use Rattle.morsel_query.specs.RunOptions.{RunOptions}
 use Rattle.morsel_query.specs.Queries.{JoinPart, QueryParts}
 use Rattle.morsel_query.specs.QueryFlaws.{sources_of}
@@ -22,9 +23,9 @@ use Rattle.morsel_query.specs.Plans.{query_fault}
 use Rattle.morsel_query.specs.Meanings.{text_of, IsValid}
 use Rattle.morsel_engine.specs.Courses.{openings, names_asked, SidesAsked, AsksSides, IsShort}
 use Rattle.morsel_engine.specs.Stages.{HasOpenedAll}
-use Rattle.morsel_engine.specs.Runs.{TellsBytes, rows_before_fault, HasOpened, HasBegun, Answers, HasCause, HasCauseInRun, IsFrontBy, IsFrontOfText, NoneRises, ReadsAheadBy, Runs}
+use Rattle.morsel_engine.specs.Runs.{TellsBytes, rows_before_fault, HasOpened, HasBegun, Answers, HasCause, HasCauseInRun, IsFrontBy, IsFrontOfText, LeavesNoRowBy, NoneRises, ReadsAheadBy, Runs}
 use Rattle.morsel_engine.proofs.OpenLemmas.{is_opened}
-use Rattle.morsel_engine.proofs.RunLemmas.{nothing_ahead}
+use Rattle.morsel_engine.proofs.RunLemmas.{none_asked, nothing_ahead, no_row}
 use Rattle.morsel_engine.proofs.AskLemmas.{asks_no_side, FailsAt}
 
 -- all sources are open, and the sink is made
@@ -141,12 +142,12 @@ none_fail old new query files actions (inr some) zero on = absurd (let more = so
 -- a run that made the sink
 pub runs_on : (old new : Outside) (query : QueryParts) (options : RunOptions) (files : List (List ℕ)) (actions : List Action) (asked : SidesAsked) (result : Result ℕ Fault) → query_fault query ≡ None
     → AsksOn old query options files actions asked → GoesOn old query files actions new
-    → (TellsBytes new → ReadsAheadBy query.join query options (length old.sizes) files (flat_map event_of actions))
-    → IfOk result (Answers old query files asked new) → IfErr result (HasCauseInRun old query files new)
-    → (TellsBytes new → IsFrontOfText query files (flat_map text_by actions))
+    → (TellsBytes new → ReadsAheadBy query.join query.group query options (length old.sizes) files (flat_map event_of actions))
+    → IfOk result (Answers old query files asked new) → IfErr result (HasCauseInRun old query files asked new)
+    → (TellsBytes new → IsFrontOfText query files (flat_map text_by actions)) → LeavesNoRowBy query.group old query result new
     → (TellsBytes new → IsValid query files → NoneRises old new → IsOkUnless result faults.OutOfMemory)
     → Runs old query options result new
-runs_on old new query options files actions asked result planned asks on ahead answers caused front complete = record {
+runs_on old new query options files actions asked result planned asks on ahead answers caused front head complete = record {
   files = files;
   opened = on.opened;
   asked = asked;
@@ -158,6 +159,7 @@ runs_on old new query options files actions asked result planned asks on ahead a
   answers = answers;
   caused = cause result caused;
   leaves = inr (on.has_begun, flat_map text_by actions, on.made, front);
+  head_alone = head;
   complete = complete;
   refused = λ due is. absurd (let both : None ≡ Some due = sym planned ∙ is in cc);
   reads_fail = reads_fail old new query files actions asks.fails on;
@@ -166,20 +168,21 @@ runs_on old new query options files actions asked result planned asks on ahead a
   no_lower = rises_by-no_lower _ _ _ on.write_faults;
 }
   where
-    cause : (result : Result ℕ Fault) → IfErr result (HasCauseInRun old query files new) → IfErr result (HasCause old query files new)
+    cause : (result : Result ℕ Fault) → IfErr result (HasCauseInRun old query files asked new) → IfErr result (HasCause old query files asked new)
     cause (Ok n) h = tt
     cause (Err fault) h = inr h
 
 -- a text without a byte is the beginning of any
-front_nothing : (join : Option JoinPart) (query : QueryParts) (files : List (List ℕ)) → IsFrontBy join query files []
-front_nothing None query files = record { later = text_of query (rows_before_fault query files); front = refl; valid = λ is. (text_of query is.rows, refl) }
-front_nothing (Some join) query files = λ is. record { rows = is.rows; means = is.means; rest = text_of query is.rows; front = refl }
+front_nothing : (join : Option JoinPart) (group : Option GroupAsked) (query : QueryParts) (files : List (List ℕ)) → IsFrontBy join group query files []
+front_nothing None None query files = record { later = text_of query (rows_before_fault query files); front = refl; valid = λ is. (text_of query is.rows, refl) }
+front_nothing None (Some group) query files = λ is. record { rows = is.rows; means = is.means; rest = text_of query is.rows; front = refl }
+front_nothing (Some join) group query files = λ is. record { rows = is.rows; means = is.means; rest = text_of query is.rows; front = refl }
 
 -- memory ran out before anything was read
 pub runs_begun : (old now : Outside) (query : QueryParts) (options : RunOptions) (files : List (List ℕ)) → query_fault query ≡ None → Begun old query files now
     → Runs old query options (Err faults.OutOfMemory) now
 runs_begun old now query options files planned b =
-    runs_on old now query options files [] (record { left = 0; right = 0 }) (Err faults.OutOfMemory) planned
+    runs_on old now query options files [] none_asked (Err faults.OutOfMemory) planned
     (record { once = asks_no_side query.left query.join (length old.sizes) (map length files); short = tt; fails = inl (refl, refl) })
-    (goes_on old now now query files [] b tt (does-nothing now)) (λ told. nothing_ahead query.join query options (length old.sizes) files) tt tt
-    (λ told. front_nothing query.join query files) (λ told valid none. refl)
+    (goes_on old now now query files [] b tt (does-nothing now)) (λ told. nothing_ahead query.join query.group query options (length old.sizes) files) tt tt
+    (λ told. front_nothing query.join query.group query files) (no_row query.group old query now faults.OutOfMemory tt) (λ told valid none. refl)

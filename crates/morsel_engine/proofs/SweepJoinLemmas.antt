@@ -34,9 +34,11 @@ use Rattle.morsel_join.specs.declared.rules.JoinRules.{JoinRules}
 use Rattle.morsel_join.specs.Rows.{keeps_left}
 use Rattle.morsel_join.specs.Sides.{KeptSide, wants_kept, wants_asked, row_finds, joined_row, with_each, found_by_row, rows_found, is_asked_for, rows_alone}
 use Rattle.morsel_join_plan.specs.JoinRuns.{SweepsJoin}
-use Rattle.morsel_read.specs.ScanReads.{CountsFromFirst, sizes_in}
-use Rattle.morsel_line.specs.ScanJobs.{scan_axis}
+use Rattle.morsel_read.specs.ScanReads.{sizes_in}
+use Rattle.morsel_drain.specs.Finding.{IsRowsEnd}
+use Rattle.morsel_line.specs.ScanJobs.{scan_axis, IsJobPiece}
 use Rattle.morsel_sink.specs.declared.spec.SinkSpec.{SinkSpec}
+use Rattle.morsel_group.specs.Asked.{GroupAsked}
 use Rattle.morsel_query.specs.RunOptions.{RunOptions}
 use Rattle.morsel_query.specs.Queries.{FileScan, JoinPart, QueryParts}
 use Rattle.morsel_query.specs.QueryFlaws.{sources_of}
@@ -50,6 +52,8 @@ use Rattle.morsel_engine.proofs.ScanLemmas.{Begun}
 use Rattle.morsel_engine.proofs.OpenScanLemmas.{OpenScan, numbers_of, open_rows, open_job, IsOfQuery, had_nothing}
 use Rattle.morsel_engine.proofs.JoinSideLemmas.{left_open, right_open, query_joined, SidesFit, left_is, right_is}
 use Rattle.morsel_engine.proofs.JoinLemmas.{join_scan}
+use Rattle.morsel_engine.proofs.JoinedLemmas.{JoinFit, fit_sides}
+use Rattle.morsel_engine.proofs.PieceRowLemmas.{rows_end_few}
 use Rattle.morsel_engine.proofs.SweepLemmas.{at_most}
 
 -- how many rows a place gives
@@ -200,7 +204,7 @@ files_low s make file position (name ∷ names) (bytes ∷ files) low =
     omega (arith, first, less, later, sum)
 
 -- no more rows than a scan is taken for stand before its first fault
-scan_few : (scan : FileScan) (first : ℕ) (files : List (List ℕ)) (rows : ℕ) → IsDialect (csv_scan scan).options → HasScanRows scan files rows → length (before_fault (gives_of_scan scan first files)) ≤ rows
+pub scan_few : (scan : FileScan) (first : ℕ) (files : List (List ℕ)) (rows : ℕ) → IsDialect (csv_scan scan).options → HasScanRows scan files rows → length (before_fault (gives_of_scan scan first files)) ≤ rows
 scan_few scan first files rows fit (inl have) =
     let s : CsvScan = csv_scan scan in
     let few = files_few s (scanned_within s.scan (csv_keeps s first scan.sources files)) first 0 scan.sources files rows fit have in
@@ -223,7 +227,7 @@ filter_few p (row ∷ rows) = by (p row) (filter_few p rows)
     by true few = omega (arith, few)
     by false few = omega (arith, few)
 
-found_few : (side : KeptSide) (asked : List Row) → length (rows_found side asked) ≤ (length side.rows + 1) * length asked
+pub found_few : (side : KeptSide) (asked : List Row) → length (rows_found side asked) ≤ (length side.rows + 1) * length asked
 found_few side [] = omega arith
 found_few side (row ∷ asked) =
     let len = length-append (found_by_row side row) (rows_found side asked) in
@@ -234,7 +238,7 @@ found_few side (row ∷ asked) =
     let product : (length side.rows + 1) * length (row ∷ asked) ≡ (length side.rows + 1) * length asked + (length side.rows + 1) * 1 = ap (λ (n : ℕ). (length side.rows + 1) * n) next ∙ mul-add (length side.rows + 1) (length asked) 1 in
     omega (arith, len, each, few, rest, product)
 
-alone_few : (side : KeptSide) (asked : List Row) → length (rows_alone side asked) ≤ length side.rows
+pub alone_few : (side : KeptSide) (asked : List Row) → length (rows_alone side asked) ≤ length side.rows
 alone_few side asked = by (wants_kept side)
   where
     by : (wanted : Bool) → length (if wanted then map (joined_row side []) (filter (λ kept. not (is_asked_for side asked kept)) side.rows) else []) ≤ length side.rows
@@ -242,7 +246,7 @@ alone_few side asked = by (wants_kept side)
     by false = omega arith
 
 -- no more rows are written than there are pairs of a row of one side or none, and a row of the other or none, but for the pair of none
-pairs : (kept asked most others found alone rows : ℕ) → rows ≤ found + alone → found ≤ (kept + 1) * asked → alone ≤ kept → kept ≤ most → asked ≤ others → rows + 1 ≤ (most + 1) * (others + 1)
+pub pairs : (kept asked most others found alone rows : ℕ) → rows ≤ found + alone → found ≤ (kept + 1) * asked → alone ≤ kept → kept ≤ most → asked ≤ others → rows + 1 ≤ (most + 1) * (others + 1)
 pairs kept asked most others found alone rows few one two less fewer =
     let product = mul-le (kept + 1) asked (most + 1) others (omega (arith, less)) fewer in
     let next = mul-add (most + 1) others 1 in omega (arith, few, one, two, less, product, next)
@@ -255,20 +259,59 @@ within_bound workers bytes sources product columns before after rows few many so
     omega (arith, few, many, some, double)
 
 -- some first rows of a scan are no more than stand before its first fault
-first_few : (gives : Places) (given : ℕ) (rows : List Row) → Gives gives 0 given rows → length rows ≤ length (before_fault gives)
+pub first_few : (gives : Places) (given : ℕ) (rows : List Row) → Gives gives 0 given rows → length rows ≤ length (before_fault gives)
 first_few gives given rows is = let front = gives_front gives given rows is in let len = ap length front.1 ∙ length-append rows front.0 in omega (arith, len)
 
 -- the files that are told are those that were opened
-told_same : (held : Option (List (List ℕ))) (was : Option (List (List ℕ))) (files told all : List (List ℕ)) → held ≡ Some all → held ≡ with_more was files → held ≡ with_more was told → told ≡ files
+pub told_same : (held : Option (List (List ℕ))) (was : Option (List (List ℕ))) (files told all : List (List ℕ)) → held ≡ Some all → held ≡ with_more was files → held ≡ with_more was told → told ≡ files
 told_same held None files told all is one two = absurd (let both : None ≡ Some all = sym one ∙ is in cc)
 told_same held (Some before) files told all is one two =
     let both : Some (before ++ told) ≡ Some (before ++ files) = sym two ∙ one in let same : before ++ told ≡ before ++ files = cc in append_cancel_left before told files same
 
-module _ (old now new : Outside) (left : FileScan) (join : JoinPart) (sink : SinkSpec) (rules : JoinRules) (options : RunOptions) (files : List (List ℕ)) (begun : Begun old (query_joined left join sink) files now)
-    (same_sizes : new.sizes ≡ now.sizes) (same_held : new.held ≡ now.held) (some : (0 < length left.sources) × (0 < length join.right.sources)) (wide : 1 ≤ greatest_width (query_joined left join sink))
+-- a scan has no more rows than this, up to the last row of a piece and before the first fault
+pub record HasFewRows (options : RunOptions) (open_scan : OpenScan) (most : ℕ) : Type 0 where
+  pub rows : length (open_rows options open_scan) ≤ most
+  pub places : (n : ℕ) → n ≤ 4294967295 → IsRowsEnd (IsJobPiece (open_job options open_scan)) n → n ≤ most
+
+pub few_rows : (options : RunOptions) (open_scan : OpenScan) (most : ℕ) → IsDialect (csv_scan open_scan.scan).options → HasScanRows open_scan.scan open_scan.files most → HasFewRows options open_scan most
+few_rows options open_scan most fit have = record {
+  rows = scan_few open_scan.scan open_scan.first open_scan.files most fit have;
+  places = λ n small end. places have n small end;
+}
+  where
+    places : HasScanRows open_scan.scan open_scan.files most → (n : ℕ) → n ≤ 4294967295 → IsRowsEnd (IsJobPiece (open_job options open_scan)) n → n ≤ most
+    places (inl have) n small end = rows_end_few (csv_scan open_scan.scan) open_scan.first open_scan.scan.sources open_scan.files most n fit have end
+    places (inr (none, is)) n small end = omega (arith, small, is)
+
+-- few sweeps were made for each byte of two scans, and for each of some rows, which are few where the rows of the scans are
+pub record SweepsFewRows (options : RunOptions) (now : Outside) (kept asked : OpenScan) (before after : ℕ) : Type 0 where
+  pub rows : ℕ
+  pub few : after ≤ before + 1024 * (sum_by (λ n. n) (sizes_in now.sizes (numbers_of kept)) + sum_by (λ n. n) (sizes_in now.sizes (numbers_of asked)) + 4) + 512 * rows
+  pub small : (product : ℕ) → 2 ^ 64 ≤ product → rows + 1 ≤ product * 2
+  pub within : TellsBytes now → (most others : ℕ) → HasFewRows options kept most → HasFewRows options asked others → rows + 1 ≤ (most + 1) * (others + 1) * 2
+
+module _ (old now : Outside) (query : QueryParts) (options : RunOptions) (files : List (List ℕ)) (kept asked : OpenScan) (kept_is : IsOfQuery old now query files kept) (asked_is : IsOfQuery old now query files asked)
+    (before after : ℕ) where
+  -- the rows of a join were written
+  pub few_of_join : SweepsJoin (join_scan options kept) (join_scan options asked) now before after → SweepsFewRows options now kept asked before after
+  few_of_join s = record {
+    rows = s.rows;
+    few = s.few;
+    small = λ product big. let small = s.small in omega (arith, small, big);
+    within = λ tells most others one two.
+        let few = s.within kept.files asked.files (had_nothing old now query options files kept kept_is now refl refl tells) (had_nothing old now query options files asked asked_is now refl refl tells) in
+        let front = first_few (scan_axis (open_job options kept)).gives few.given few.side.rows few.gives in
+        let least = one.rows in
+        let all = pairs (length few.side.rows) (length (open_rows options asked)) most others (length (rows_found few.side (open_rows options asked))) (length (rows_alone few.side (open_rows options asked))) s.rows
+        few.few (found_few few.side (open_rows options asked)) (alone_few few.side (open_rows options asked)) (omega (arith, front, least)) two.rows in
+        (omega (arith, all));
+  }
+
+module _ (old now new : Outside) (left : FileScan) (join : JoinPart) (group : Option GroupAsked) (sink : SinkSpec) (options : RunOptions) (files : List (List ℕ)) (begun : Begun old (query_joined left join group sink) files now)
+    (same_sizes : new.sizes ≡ now.sizes) (same_held : new.held ≡ now.held) (wide : 1 ≤ greatest_width (query_joined left join group sink))
     (before after : ℕ) where
   abbrev query : QueryParts
-  query = query_joined left join sink
+  query = query_joined left join group sink
 
   abbrev lefts_open : OpenScan
   lefts_open = left_open old left files
@@ -276,15 +319,20 @@ module _ (old now new : Outside) (left : FileScan) (join : JoinPart) (sink : Sin
   abbrev rights_open : OpenScan
   rights_open = right_open old left join files
 
-  two_sources : 2 ≤ length (sources_of query)
-  two_sources = let a = length-append left.sources (join.right.sources ++ []) in let b = length-append join.right.sources [] in let one = some.0 in let two = some.1 in omega (arith, a, b, one, two)
+  -- the left side was kept, or the right one
+  abbrev pub SweepsFewSides : Bool → Type 0
+  SweepsFewSides true = SweepsFewRows options now lefts_open rights_open before after
+  SweepsFewSides false = SweepsFewRows options now rights_open lefts_open before after
 
   module _ (fit : SidesFit left join) where
+    two_sources : 2 ≤ length (sources_of query)
+    two_sources = let a = length-append left.sources (join.right.sources ++ []) in let b = length-append join.right.sources [] in let one = fit.left_some in let two = fit.right_some in omega (arith, a, b, one, two)
+
     left_side : IsOfQuery old now query files lefts_open
-    left_side = left_is old now left join sink files fit begun
+    left_side = left_is old now left join group sink files fit begun
 
     right_side : IsOfQuery old now query files rights_open
-    right_side = right_is old now left join sink files fit begun
+    right_side = right_is old now left join group sink files fit begun
 
     -- how many bytes both have
     all_bytes : (told : List (List ℕ)) → HasOpened old query told new
@@ -298,60 +346,62 @@ module _ (old now new : Outside) (left : FileScan) (join : JoinPart) (sink : Sin
         omega (arith, one, two, sum, all)
 
     -- a run that kept one of the sides
-    of_sides : (kept asked : OpenScan) → IsOfQuery old now query files kept → IsOfQuery old now query files asked → SweepsJoin (join_scan options kept) (join_scan options asked) now before after
-        → (told : List (List ℕ)) (product most others : ℕ)
+    of_sides : (kept asked : OpenScan) → SweepsFewRows options now kept asked before after → (told : List (List ℕ)) (product most others : ℕ)
         → sum_by (λ n. n) (sizes_in now.sizes (numbers_of kept)) + sum_by (λ n. n) (sizes_in now.sizes (numbers_of asked)) ≡ sum_by length told
-        → (most + 1) * (others + 1) ≡ product
-        → (TellsBytes now → (length (open_rows options kept) ≤ most) × (length (open_rows options asked) ≤ others)) → (TellsBytes now ⊎ (2 ^ 64 ≤ product))
+        → (most + 1) * (others + 1) ≡ product → (TellsBytes now × HasFewRows options kept most × HasFewRows options asked others) ⊎ (2 ^ 64 ≤ product)
         → after ≤ before + 1024 * (options.workers + sum_by length told + length (sources_of query) + product) * (greatest_width query + 1)
-    of_sides kept asked kept_is asked_is s told product most others bytes is fewer (inl tells) =
-        let few = s.within kept.files asked.files (had_nothing old now query options files kept kept_is now refl refl tells) (had_nothing old now query options files asked asked_is now refl refl tells) in
-        let front = first_few (scan_axis (open_job options kept)).gives few.given few.side.rows few.gives in
-        let least = fewer tells in let one = least.0 in
-        let all = pairs (length few.side.rows) (length (open_rows options asked)) most others (length (rows_found few.side (open_rows options asked))) (length (rows_alone few.side (open_rows options asked))) s.rows
-        few.few (found_few few.side (open_rows options asked)) (alone_few few.side (open_rows options asked)) (omega (arith, front, one)) least.1 in
+    of_sides kept asked s told product most others bytes is fewer =
         let sweeps = s.few in
         within_bound options.workers (sum_by length told) (length (sources_of query)) product (greatest_width query) before after s.rows
-        (let enough : after ≤ before + 1024 * (sum_by length told + 4) + 512 * s.rows = omega (arith, sweeps, bytes) in enough) (omega (arith, all, is)) two_sources wide
-    of_sides kept asked kept_is asked_is s told product most others bytes is fewer (inr big) =
-        let small = s.small in let sweeps = s.few in
-        within_bound options.workers (sum_by length told) (length (sources_of query)) product (greatest_width query) before after s.rows
-        (let enough : after ≤ before + 1024 * (sum_by length told + 4) + 512 * s.rows = omega (arith, sweeps, bytes) in enough) (omega (arith, small, big)) two_sources wide
+        (let enough : after ≤ before + 1024 * (sum_by length told + 4) + 512 * s.rows = omega (arith, sweeps, bytes) in enough) (by fewer) two_sources wide
+      where
+        by : (TellsBytes now × HasFewRows options kept most × HasFewRows options asked others) ⊎ (2 ^ 64 ≤ product) → s.rows + 1 ≤ product * 2
+        by (inl (tells, one, two)) = subst (λ (n : ℕ). s.rows + 1 ≤ n * 2) is (s.within tells most others one two)
+        by (inr big) = s.small product big
 
     -- in either order
-    of_either : (is_left : Bool) → SweepsSides is_left (join_scan options lefts_open) (join_scan options rights_open) now before after
-        → (told : List (List ℕ)) (lefts rights : ℕ) → HasOpened old query told new
-        → (TellsBytes now → (length (open_rows options lefts_open) ≤ lefts) × (length (open_rows options rights_open) ≤ rights)) → (TellsBytes now ⊎ (2 ^ 64 ≤ (lefts + 1) * (rights + 1)))
+    of_either : (is_left : Bool) → SweepsFewSides is_left → (told : List (List ℕ)) (lefts rights : ℕ) → HasOpened old query told new
+        → (TellsBytes now × HasFewRows options lefts_open lefts × HasFewRows options rights_open rights) ⊎ (2 ^ 64 ≤ (lefts + 1) * (rights + 1))
         → after ≤ before + 1024 * (options.workers + sum_by length told + length (sources_of query) + (lefts + 1) * (rights + 1)) * (greatest_width query + 1)
-    of_either true s told lefts rights has fewer tells =
-        of_sides lefts_open rights_open left_side right_side s told ((lefts + 1) * (rights + 1)) lefts rights (all_bytes told has) refl fewer tells
-    of_either false s told lefts rights has fewer tells =
-        of_sides rights_open lefts_open right_side left_side s told ((lefts + 1) * (rights + 1)) rights lefts (let sum = all_bytes told has in omega (arith, sum)) (mul_comm (rights + 1) (lefts + 1))
-        (λ tell. let both = fewer tell in (both.1, both.0)) tells
+    of_either true s told lefts rights has fewer = of_sides lefts_open rights_open s told ((lefts + 1) * (rights + 1)) lefts rights (all_bytes told has) refl fewer
+    of_either false s told lefts rights has fewer =
+        of_sides rights_open lefts_open s told ((lefts + 1) * (rights + 1)) rights lefts (let sum = all_bytes told has in omega (arith, sum)) (mul_comm (rights + 1) (lefts + 1)) (swapped fewer)
+      where
+        swapped : (TellsBytes now × HasFewRows options lefts_open lefts × HasFewRows options rights_open rights) ⊎ (2 ^ 64 ≤ (lefts + 1) * (rights + 1))
+            → (TellsBytes now × HasFewRows options rights_open rights × HasFewRows options lefts_open lefts) ⊎ (2 ^ 64 ≤ (lefts + 1) * (rights + 1))
+        swapped (inl (tells, one, two)) = inl (tells, two, one)
+        swapped (inr big) = inr big
 
-  -- the rows that both are taken for are enough, where what the files contain is told
-  enough_rows : (fit : SidesFit left join) (held : Option (List (List ℕ))) (told : List (List ℕ)) (lefts rights : ℕ) → new.held ≡ held → HasOpened old query told new → HaveJoinedRows held left join told lefts rights
-      → (TellsBytes now → (length (open_rows options lefts_open) ≤ lefts) × (length (open_rows options rights_open) ≤ rights)) × (TellsBytes now ⊎ (2 ^ 64 ≤ (lefts + 1) * (rights + 1)))
-  enough_rows fit None told lefts rights is has (all, others) = (
-    λ tells. absurd (let both : None ≡ Some tells.0 = sym is ∙ same_held ∙ tells.1 in cc),
-    inr (let product = mul-le 4294967296 4294967296 (lefts + 1) (rights + 1) (omega (arith, all)) (omega (arith, others)) in omega (arith, product)),
-  )
-  enough_rows fit (Some bytes) told lefts rights is has (first, second) =
-      let same : told ≡ files = told_same new.held old.held files told bytes is (same_held ∙ begun.held) has.held in (
-        λ tells. (
-          subst (λ (xs : List (List ℕ)). length (before_fault (gives_of_scan left 0 (left_files left xs))) ≤ lefts) same (scan_few left 0 (left_files left told) lefts fit.left_fit first),
-          subst (λ (xs : List (List ℕ)). length (before_fault (gives_of_scan join.right (length left.sources) (right_files left xs))) ≤ rights) same (scan_few join.right (length left.sources) (right_files left told) rights fit.right_fit second),
-        ),
-        inl (bytes, sym same_held ∙ is),
-      )
+    -- the rows that both are taken for are enough
+    enough_rows : (held : Option (List (List ℕ))) (told : List (List ℕ)) (lefts rights : ℕ) → new.held ≡ held → HasOpened old query told new → HaveJoinedRows held left join told lefts rights
+        → (TellsBytes now × HasFewRows options lefts_open lefts × HasFewRows options rights_open rights) ⊎ (2 ^ 64 ≤ (lefts + 1) * (rights + 1))
+    enough_rows None told lefts rights is has (all, others) =
+        inr (let product = mul-le 4294967296 4294967296 (lefts + 1) (rights + 1) (omega (arith, all)) (omega (arith, others)) in omega (arith, product))
+    enough_rows (Some bytes) told lefts rights is has (first, second) =
+        let same : files ≡ told = sym (told_same new.held old.held files told bytes is (same_held ∙ begun.held) has.held) in inl (
+          (bytes, sym same_held ∙ is),
+          subst (λ (xs : List (List ℕ)). HasFewRows options (left_open old left xs) lefts) (sym same) (few_rows options (left_open old left told) lefts fit.left_fit first),
+          subst (λ (xs : List (List ℕ)). HasFewRows options (right_open old left join xs) rights) (sym same) (few_rows options (right_open old left join told) rights fit.right_fit second),
+        )
 
-  pub swept_joined : CountsFromFirst left.asked.slice → CountsFromFirst join.right.asked.slice
-      → SweepsFiles now left join.right (file_numbers (length old.sizes) (length (left_files left files))) (file_numbers (length old.sizes + length left.sources) (length (right_files left files))) rules options before after
-      → SweepsWithin old query options before new after
-  swept_joined left_first right_first (inl none) told lefts rights has rows =
+    pub swept_few : (is_left : Bool) → SweepsFewSides is_left → SweepsWithin old query options before new after
+    swept_few is_left s told lefts rights has rows = of_either is_left s told lefts rights has (enough_rows new.held told lefts rights refl has rows)
+
+  -- none was made
+  pub swept_none : after ≡ before → SweepsWithin old query options before new after
+  swept_none none told lefts rights has rows =
       subst (λ (n : ℕ). n ≤ before + sweep_bound options.workers (sum_by length told) (length (sources_of query)) lefts rights (greatest_width query)) (sym none)
       (at_most before (sweep_bound options.workers (sum_by length told) (length (sources_of query)) lefts rights (greatest_width query)))
-  swept_joined left_first right_first (inr (left_fit, right_fit, s)) told lefts rights has rows =
-      let fit : SidesFit left join = record { left_fit = left_fit; right_fit = right_fit; left_first = left_first; right_first = right_first; left_some = some.0; right_some = some.1 } in
-      let enough = enough_rows fit new.held told lefts rights refl has rows in
-      of_either fit (keeps_left rules.how rules.maintain_order) s told lefts rights has enough.0 enough.1
+
+  pub swept_joined : (rules : JoinRules) → JoinFit left join group sink rules
+      → SweepsFiles now left join.right (file_numbers (length old.sizes) (length (left_files left files))) (file_numbers (length old.sizes + length left.sources) (length (right_files left files))) rules options before after
+      → SweepsWithin old query options before new after
+  swept_joined rules fit (inl none) = swept_none none
+  swept_joined rules fit (inr (left_fit, right_fit, s)) = swept_few sides_fit (keeps_left rules.how rules.maintain_order) (by (keeps_left rules.how rules.maintain_order) s)
+    where
+      sides_fit : SidesFit left join
+      sides_fit = fit_sides left join group sink rules fit left_fit right_fit
+
+      by : (is_left : Bool) → SweepsSides is_left (join_scan options lefts_open) (join_scan options rights_open) now before after → SweepsFewSides is_left
+      by true s = few_of_join old now query options files lefts_open rights_open (left_side sides_fit) (right_side sides_fit) before after s
+      by false s = few_of_join old now query options files rights_open lefts_open (right_side sides_fit) (left_side sides_fit) before after s

@@ -54,9 +54,9 @@ scanned_sizes now new s names numbers options result (inr (fit, some, wrote)) = 
 -- a scan of all files that were opened made a few sweeps for each of their bytes
 pub swept : (old between now new : Outside) (left : ScanSpec) (sink : SinkSpec) (options : RunOptions) (numbers : List FileNo) (files : List (List ℕ)) (result : Result ℕ Fault) (before after : ℕ)
     → HasOpenedAll old left.sources.items numbers files between → Does between (Making sink.name ∷ []) now → ScansFiles now (csv_scan (file_scan left)) left.sources.items numbers options result new
-    → after ≤ before + 1024 * (sum_by (λ n. n) (sizes_in now.sizes numbers) + 1) → SweepsWithin old (query_parts left None sink) options before new after
+    → after ≤ before + 1024 * (sum_by (λ n. n) (sizes_in now.sizes numbers) + 1) → SweepsWithin old (query_parts left None None sink) options before new after
 swept old between now new left sink options numbers files result before after opened made scans few told lefts rights has rows =
-    let query : QueryParts = query_parts left None sink in
+    let query : QueryParts = query_parts left None None sink in
     let b = begun old between now query numbers files (subst (λ (names : List (List ℕ)). HasOpenedAll old names numbers files between) (sym (sources_are query refl)) opened) made in
     let same : map length told ≡ map length files = append_cancel_left old.sizes (map length told) (map length files)
     (sym has.sizes ∙ scanned_sizes now new (csv_scan (file_scan left)) left.sources.items numbers options result scans ∙ b.sizes) in

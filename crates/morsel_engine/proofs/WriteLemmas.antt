@@ -25,7 +25,7 @@ use Rattle.morsel_query.specs.RunOptions.{RunOptions, pieces_ahead}
 use Rattle.morsel_query.specs.Queries.{FileScan, QueryParts}
 use Rattle.morsel_query.specs.Plans.{query_fault}
 use Rattle.morsel_query.specs.Meanings.{csv_scan, text_of, IsValid}
-use Rattle.morsel_engine.specs.Courses.{file_numbers}
+use Rattle.morsel_engine.specs.Courses.{file_numbers, SidesAsked}
 use Rattle.morsel_engine.specs.Stages.{ScansFiles, bytes_bound}
 use Rattle.morsel_engine.specs.Runs.{TellsBytes, axis_of, Answers, HasCauseInRun, IsFrontOfRows, NoneRises, bytes_ahead, Runs}
 use Rattle.morsel_engine.proofs.ToldLemmas.{sizes_opened, are_told}
@@ -50,7 +50,7 @@ open_alone old left files = record { scan = left; first = 0; number = length old
 
 -- the query
 abbrev pub into_ndjson : FileScan → List ℕ → QueryParts
-into_ndjson left name = record { left = left; join = None; sink = record { name = name; format = formats.NdJson } }
+into_ndjson left name = record { left = left; join = None; group = None; sink = record { name = name; format = formats.NdJson } }
 
 -- what a run of a query into NDJSON did after its beginning
 pub record Wrote (old : Outside) (left : FileScan) (name : List ℕ) (options : RunOptions) (files : List (List ℕ)) (now : Outside) (result : Result ℕ Fault) (new : Outside) : Type 0 where
@@ -76,6 +76,9 @@ module _ (old : Outside) (left : FileScan) (name : List ℕ) (options : RunOptio
   abbrev job : Job
   job = open_job options alone
 
+  abbrev asked_to : SidesAsked
+  asked_to = record { left = wrote.w.to; right = 0 }
+
   each : AreTransfers actions
   each = are_transfers actions wrote.w.each
 
@@ -100,7 +103,7 @@ module _ (old : Outside) (left : FileScan) (name : List ℕ) (options : RunOptio
   fails : FailsAt (length old.sizes) (length files) old.failed actions
   fails = fails_on (length old.sizes) (length files) (map length files) options.chunk_bytes 0 wrote.w.to old.failed actions each asks
 
-  asks_on : AsksOn old query options files actions (record { left = wrote.w.to; right = 0 })
+  asks_on : AsksOn old query options files actions asked_to
   asks_on =
       let next = ask_next (numbers_of alone) (map length files) options.chunk_bytes 0 wrote.w.to actions each asks in record {
         once = asks_up_to (length old.sizes) (length files) (map length files) options.chunk_bytes wrote.w.to (flat_map event_of actions) next;
@@ -132,26 +135,26 @@ module _ (old : Outside) (left : FileScan) (name : List ℕ) (options : RunOptio
     valid = λ valid. (stops.rest, stops.front ∙ ap (text_of query) (valid_rows old now query options files alone is_alone valid valid.rows valid.means));
   }
 
-  caused : IfErr result (HasCauseInRun old query files new)
+  caused : IfErr result (HasCauseInRun old query files asked_to new)
   caused = by result wrote.w.stops (λ told. (told_of told).due)
     where
-      by : (result : Result ℕ Fault) → IfErr result (StopsScan (reader_of options alone).sources actions) → (TellsBytes new → IfErr result (IsDue (IsJobFault job))) → IfErr result (HasCauseInRun old query files new)
+      by : (result : Result ℕ Fault) → IfErr result (StopsScan (reader_of options alone).sources actions) → (TellsBytes new → IfErr result (IsDue (IsJobFault job))) → IfErr result (HasCauseInRun old query files asked_to new)
       by (Ok n) stops due = tt
-      by (Err fault) stops due = cause old now query options files alone is_alone new [] actions on each fault stops due
+      by (Err fault) stops due = cause old now query options files alone is_alone new [] actions on each asked_to fault stops due
 
   complete : TellsBytes new → IsValid query files → NoneRises old new → IsOkUnless result faults.OutOfMemory
   complete told valid none = by result caused (told_of told).due
     where
-      by : (result : Result ℕ Fault) → IfErr result (HasCauseInRun old query files new) → IfErr result (IsDue (IsJobFault job)) → IsOkUnless result faults.OutOfMemory
+      by : (result : Result ℕ Fault) → IfErr result (HasCauseInRun old query files asked_to new) → IfErr result (IsDue (IsJobFault job)) → IsOkUnless result faults.OutOfMemory
       by (Ok n) has due = tt
-      by (Err fault) has due = out_of_memory old new query files fault has none (no_fault old now query options files alone is_alone fault valid due)
+      by (Err fault) has due = out_of_memory old new query files asked_to fault has none (no_fault old now query options files alone is_alone fault valid due)
 
-  answers : IfOk result (Answers old query files (record { left = wrote.w.to; right = 0 }) new)
+  answers : IfOk result (Answers old query files asked_to new)
   answers = by result wrote.w.fine wrote.w.all_asked (λ told. (told_of told).answers)
     where
       by : (result : Result ℕ Fault) → OnOk result ((sum_by read_failures (filter is_reading actions) ≡ 0) × (sum_by write_failures actions ≡ 0))
           → OnOk result ((wrote.w.to ≡ sum_by (λ n. n) (sizes_in now.sizes (numbers_of alone))) ⊎ ((reader_of options alone).sources.stop ≤ 4294967295))
-          → (TellsBytes new → AnswersRows job actions result) → IfOk result (Answers old query files (record { left = wrote.w.to; right = 0 }) new)
+          → (TellsBytes new → AnswersRows job actions result) → IfOk result (Answers old query files asked_to new)
       by (Err fault) fine all rows = tt
       by (Ok n) fine all rows = record {
         begun = on.has_begun;
@@ -167,11 +170,11 @@ module _ (old : Outside) (left : FileScan) (name : List ℕ) (options : RunOptio
       }
 
   pub runs_written : query_fault query ≡ None → Runs old query options result new
-  runs_written planned = runs_on old new query options files actions (record { left = wrote.w.to; right = 0 }) result planned asks_on on ahead answers caused front complete
+  runs_written planned = runs_on old new query options files actions asked_to result planned asks_on on ahead answers caused front tt complete
 
 -- a run that made its sink, whatever follows
 pub runs_scanned : (format : SinkFormat) (old : Outside) (left : FileScan) (name : List ℕ) (options : RunOptions) (files : List (List ℕ)) (now : Outside) (result : Result ℕ Fault) (new : Outside)
-    → (let query : QueryParts = record { left = left; join = None; sink = record { name = name; format = format } } in
+    → (let query : QueryParts = record { left = left; join = None; group = None; sink = record { name = name; format = format } } in
     query_fault query ≡ None → CountsFromFirst left.asked.slice → 0 < length files → length left.sources ≡ length files → Begun old query files now
     → ScansFiles now (csv_scan left) left.sources (file_numbers (length old.sizes) (length files)) options result new → Runs old query options result new)
 runs_scanned formats.NdJson old left name options files now result new planned from some one_each begun (inl (is, same)) =

@@ -5,6 +5,8 @@ use Rattle.morsel_meaning.specs.declared.fault.Fault.{Fault}
 use Rattle.morsel_meaning.specs.declared.fault.Fault.TheVariants as faults
 use Rattle.morsel_meaning.specs.declared.fault.ComputeKind.TheVariants as kinds
 use Rattle.morsel_meaning.specs.Values.{Row}
+use Rattle.morsel_group.specs.Asked.{GroupAsked}
+use Rattle.morsel_group.specs.Grouping.{Grouped}
 use Rattle.morsel_outside.specs.declared.events.Asked.{Asked}
 use Rattle.morsel_outside.specs.declared.events.IoEvent.{IoEvent}
 use Rattle.morsel_outside.specs.Outside.{Outside, with_more, with_sink}
@@ -20,8 +22,8 @@ use Rattle.morsel_query.specs.RunOptions.{RunOptions, pieces_ahead}
 use Rattle.morsel_query.specs.Queries.{FileScan, JoinPart, QueryParts}
 use Rattle.morsel_query.specs.QueryFlaws.{sources_of}
 use Rattle.morsel_query.specs.Plans.{query_fault}
-use Rattle.morsel_query.specs.Meanings.{csv_scan, rows_over, left_files, right_files, AreJoinRows, Meaning, AreOfFormat, text_of, IsValid}
-use Rattle.morsel_query.specs.CsvCauses.{QueryCause}
+use Rattle.morsel_query.specs.Meanings.{csv_scan, rows_over, left_files, right_files, AreJoinRows, shape_over, Meaning, AreOfFormat, text_of, IsValid}
+use Rattle.morsel_query.specs.CsvCauses.{GroupCauseBy, QueryCause}
 use Rattle.morsel_engine.specs.Courses.{openings, file_numbers, names_asked, SidesAsked, AsksSides, IsShort}
 
 -- what the opened files contain is told
@@ -80,14 +82,25 @@ pub record JoinsAsked (left : FileScan) (join : JoinPart) (asked : SidesAsked) (
   pub right_rows : ScansAsked join.right (length left.sources) asked.right (right_files left files) rights
   pub joined : AreJoinRows left join lefts rights rows
 
--- the rows are what a query with this left side and this join means, as far as its sources were asked
+-- the rows are what a query with this left side and this join means before they are grouped, as far as its sources were asked
 abbrev pub MeansAskedBy : FileScan → Option JoinPart → SidesAsked → List (List ℕ) → List Row → Type 0
 MeansAskedBy left None asked files rows = ScansAsked left 0 asked.left files rows
 MeansAskedBy left (Some join) asked files rows = JoinsAsked left join asked files rows
 
+-- the rows are those of a group-by of rows that a query with this left side and this join means, as far as its sources were asked; the same rows for all reductions
+pub record GroupsAsked (left : FileScan) (join : Option JoinPart) (group : GroupAsked) (asked : SidesAsked) (files : List (List ℕ)) (rows : List Row) : Type 0 where
+  pub input : List Row
+  pub means : MeansAskedBy left join asked files input
+  pub grouped : Grouped (shape_over left join group) input rows
+
+-- the rows are what a query with this left side, this join and this group-by means, as far as its sources were asked
+abbrev pub MeansAskedWith : FileScan → Option JoinPart → Option GroupAsked → SidesAsked → List (List ℕ) → List Row → Type 0
+MeansAskedWith left join None asked files rows = MeansAskedBy left join asked files rows
+MeansAskedWith left join (Some group) asked files rows = GroupsAsked left join group asked files rows
+
 -- the rows are what the query means, as far as its sources were asked
 abbrev pub MeansAsked : QueryParts → SidesAsked → List (List ℕ) → List Row → Type 0
-MeansAsked query asked files rows = MeansAskedBy query.left query.join asked files rows
+MeansAsked query asked files rows = MeansAskedWith query.left query.join query.group asked files rows
 
 -- the first sources of a query are open, and have these bytes
 pub record HasOpened (old : Outside) (query : QueryParts) (files : List (List ℕ)) (new : Outside) : Type 0 where
@@ -141,6 +154,11 @@ pub record Answers (old : Outside) (query : QueryParts) (files : List (List ℕ)
   pub whole : AreAskedWhole query.left query.join asked files
   pub text : TellsBytes new → HasText old query files asked count new
 
+-- a fault of groups is of no source; without a group-by there is none
+abbrev pub IsOfGroups : Option GroupAsked → ℕ → ℕ → Type 0
+IsOfGroups None file at = ⊥
+IsOfGroups (Some group) file at = (file ≡ 4294967295) × (at ≡ 0)
+
 -- what a fault of the files says of the query alone: it is of one of its sources, or of none
 abbrev pub IsOfFiles : QueryParts → Fault → Type 0
 IsOfFiles query (faults.Malformed file at) = Unit {0}
@@ -149,25 +167,28 @@ IsOfFiles query (faults.ComputeError kinds.NotUtf8 file at) = Unit {0}
 IsOfFiles query (faults.ComputeError kinds.IllTyped file at) = Unit {0}
 IsOfFiles query (faults.ComputeError kinds.TooManyRows file at) = (file ≡ 4294967295) × (at ≡ 0)
 IsOfFiles query (faults.ComputeError kinds.IndexTooLarge file at) = Unit {0}
+IsOfFiles query (faults.ComputeError kinds.SumTooLarge file at) = IsOfGroups query.group file at
+IsOfFiles query (faults.ComputeError kinds.LenTooLarge file at) = IsOfGroups query.group file at
+IsOfFiles query (faults.ComputeError kinds.TooManyGroups file at) = IsOfGroups query.group file at
 IsOfFiles query fault = ⊥
 
--- a fault of the files, told after the sink was made; where their bytes are told, they have its cause
-pub record HasCauseInFiles (old : Outside) (query : QueryParts) (files : List (List ℕ)) (new : Outside) (fault : Fault) : Type 0 where
+-- a fault of the files, told after the sink was made; where their bytes are told, they have its cause, or rows have it that they mean as far as they were asked, and that are grouped
+pub record HasCauseInFiles (old : Outside) (query : QueryParts) (files : List (List ℕ)) (asked : SidesAsked) (new : Outside) (fault : Fault) : Type 0 where
   pub kind : IsOfFiles query fault
   pub begun : HasBegun old query files new
-  pub cause : TellsBytes new → QueryCause query files fault
+  pub cause : TellsBytes new → QueryCause query files fault ⊎ GroupCauseBy query.left query.join query.group (MeansAskedBy query.left query.join asked files) fault
 
 -- when a run that has begun may answer a fault: a call to the outside failed, as a count of faults says; or it is one of the files
-abbrev pub HasCauseInRun : Outside → QueryParts → List (List ℕ) → Outside → Fault → Type 0
-HasCauseInRun old query files new faults.OutOfMemory = Unit {0}
-HasCauseInRun old query files new (faults.ReadFault file) = (file < length (sources_of query)) × (file ≤ length files)
+abbrev pub HasCauseInRun : Outside → QueryParts → List (List ℕ) → SidesAsked → Outside → Fault → Type 0
+HasCauseInRun old query files asked new faults.OutOfMemory = Unit {0}
+HasCauseInRun old query files asked new (faults.ReadFault file) = (file < length (sources_of query)) × (file ≤ length files)
     × Rises old.read_faults new.read_faults × (new.failed ≡ length old.sizes + file)
-HasCauseInRun old query files new faults.WriteFault = (length files ≡ length (sources_of query)) × Rises old.write_faults new.write_faults
-HasCauseInRun old query files new fault = HasCauseInFiles old query files new fault
+HasCauseInRun old query files asked new faults.WriteFault = (length files ≡ length (sources_of query)) × Rises old.write_faults new.write_faults
+HasCauseInRun old query files asked new fault = HasCauseInFiles old query files asked new fault
 
 -- when a fault may be answered: the query has no plan, and nothing was done; or there is a cause in the run
-abbrev pub HasCause : Outside → QueryParts → List (List ℕ) → Outside → Fault → Type 0
-HasCause old query files new fault = ((query_fault query ≡ Some fault) × (new ≡ old)) ⊎ HasCauseInRun old query files new fault
+abbrev pub HasCause : Outside → QueryParts → List (List ℕ) → SidesAsked → Outside → Fault → Type 0
+HasCause old query files asked new fault = ((query_fault query ≡ Some fault) × (new ≡ old)) ⊎ HasCauseInRun old query files asked new fault
 
 -- the text is the beginning of that of the rows before the first faulty record, and of all rows of a query of one scan over valid files
 pub record IsFrontOfRows (query : QueryParts) (files : List (List ℕ)) (text : List ℕ) : Type 0 where
@@ -182,19 +203,31 @@ pub record IsFrontOfMeaning (query : QueryParts) (files : List (List ℕ)) (text
   pub rest : List ℕ
   pub front : text ++ rest ≡ text_of query rows
 
--- what a text that is left in the sink is, of a query with this join
-abbrev pub IsFrontBy : Option JoinPart → QueryParts → List (List ℕ) → List ℕ → Type 0
-IsFrontBy None query files text = IsFrontOfRows query files text
-IsFrontBy (Some join) query files text = IsValid query files → IsFrontOfMeaning query files text
+-- what a text that is left in the sink is, of a query with this join and this group-by
+abbrev pub IsFrontBy : Option JoinPart → Option GroupAsked → QueryParts → List (List ℕ) → List ℕ → Type 0
+IsFrontBy None None query files text = IsFrontOfRows query files text
+IsFrontBy None (Some group) query files text = IsValid query files → IsFrontOfMeaning query files text
+IsFrontBy (Some join) group query files text = IsValid query files → IsFrontOfMeaning query files text
 
--- what a text that is left in the sink is: of a query of one scan the beginning of the text of the rows before the first faulty record; over valid files of the text of rows that the query may give
+-- what a text that is left in the sink is: of a query of one scan without a group-by the beginning of the text of the rows before the first faulty record; over valid files of the text of rows that the query may give
 abbrev pub IsFrontOfText : QueryParts → List (List ℕ) → List ℕ → Type 0
-IsFrontOfText query files text = IsFrontBy query.join query files text
+IsFrontOfText query files text = IsFrontBy query.join query.group query files text
 
 -- no sink was made; or the query's, with a beginning of the rows' text
 abbrev pub Leaves : Outside → QueryParts → List (List ℕ) → Outside → Type 0
 Leaves old query files new = HasNotBegun old query files new
     ⊎ (HasBegun old query files new × (text : List ℕ) × (new.made ≡ with_sink old.made query.sink.name text) × (TellsBytes new → IsFrontOfText query files text))
+
+-- after a fault there is no sink more, or one with the text of no row; but a write that failed, or want of memory, may leave some rows
+abbrev pub LeavesNoRow : Outside → QueryParts → Outside → Fault → Type 0
+LeavesNoRow old query new faults.WriteFault = Unit {0}
+LeavesNoRow old query new faults.OutOfMemory = Unit {0}
+LeavesNoRow old query new fault = (new.made ≡ old.made) ⊎ (new.made ≡ with_sink old.made query.sink.name (text_of query []))
+
+-- the same of a run of a query with this group-by, whose rows are written after all has been read
+abbrev pub LeavesNoRowBy : Option GroupAsked → Outside → QueryParts → Result ℕ Fault → Outside → Type 0
+LeavesNoRowBy None old query result new = Unit {0}
+LeavesNoRowBy (Some group) old query result new = IfErr result (LeavesNoRow old query new)
 
 -- no count of faults rose
 pub record NoneRises (old new : Outside) : Type 0 where
@@ -210,10 +243,11 @@ IsRefusedFirst old fault (Err found) new = (new ≡ old) × ((found ≡ fault) �
 abbrev pub bytes_ahead : RunOptions → Axis → ℕ
 bytes_ahead options axis = pieces_ahead options * (options.chunk_bytes + axis.longest)
 
--- each read is not far ahead of what was written, where a query with this join is of one scan
-abbrev pub ReadsAheadBy : Option JoinPart → QueryParts → RunOptions → ℕ → List (List ℕ) → List IoEvent → Type 0
-ReadsAheadBy None query options number files events = let axis = axis_of query number files in ReadsAhead axis (bytes_ahead options axis) options.chunk_bytes 0 axis.head events
-ReadsAheadBy (Some join) query options number files events = Unit {0}
+-- each read is not far ahead of what was written, where a query with this join and this group-by is of one scan whose rows are not grouped
+abbrev pub ReadsAheadBy : Option JoinPart → Option GroupAsked → QueryParts → RunOptions → ℕ → List (List ℕ) → List IoEvent → Type 0
+ReadsAheadBy None None query options number files events = let axis = axis_of query number files in ReadsAhead axis (bytes_ahead options axis) options.chunk_bytes 0 axis.head events
+ReadsAheadBy None (Some group) query options number files events = Unit {0}
+ReadsAheadBy (Some join) group query options number files events = Unit {0}
 
 -- what a run answers, why, what it read, and what it leaves
 pub record Runs (old : Outside) (query : QueryParts) (options : RunOptions) (result : Result ℕ Fault) (new : Outside) : Type 0 where
@@ -224,10 +258,11 @@ pub record Runs (old : Outside) (query : QueryParts) (options : RunOptions) (res
   pub gained : new.events ≡ with_more old.events events
   pub once : AsksSides query.left query.join (length old.sizes) (map length files) asked events
   pub short : Each (IsShort options.chunk_bytes) events
-  pub ahead : TellsBytes new → ReadsAheadBy query.join query options (length old.sizes) files events
+  pub ahead : TellsBytes new → ReadsAheadBy query.join query.group query options (length old.sizes) files events
   pub answers : IfOk result (Answers old query files asked new)
-  pub caused : IfErr result (HasCause old query files new)
+  pub caused : IfErr result (HasCause old query files asked new)
   pub leaves : Leaves old query files new
+  pub head_alone : LeavesNoRowBy query.group old query result new
   pub complete : TellsBytes new → IsValid query files → NoneRises old new → IsOkUnless result faults.OutOfMemory
   pub refused : (fault : Fault) → query_fault query ≡ Some fault → IsRefusedFirst old fault result new
   pub reads_fail : ((new.read_faults ≡ old.read_faults) × (new.failed ≡ old.failed)) ⊎ ((file : ℕ) × (file < length (sources_of query)) × Rises old.read_faults new.read_faults × (new.failed ≡ length old.sizes + file))

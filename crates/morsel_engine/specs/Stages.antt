@@ -16,6 +16,8 @@ use Rattle.morsel_join.specs.declared.rules.JoinRules.{JoinRules}
 use Rattle.morsel_join.specs.Rows.{keeps_left}
 use Rattle.morsel_line.specs.ScanRuns.{WritesScan}
 use Rattle.morsel_join_plan.specs.JoinRuns.{JoinScan, IsLeftSo, JoinsScans, SweepsJoin}
+use Rattle.morsel_group_units.specs.GroupAsks.{GroupRulesSeen}
+use Rattle.morsel_group_plan.specs.GroupRuns.{GroupsJoin, GroupsScan, SweepsGroups, SweepsGroupsJoin}
 use Rattle.morsel_query.specs.RunOptions.{RunOptions, pieces_ahead}
 use Rattle.morsel_query.specs.Queries.{FileScan, file_scan, scan_asked}
 use Rattle.morsel_query.specs.Meanings.{csv_scan}
@@ -67,7 +69,7 @@ abbrev pub ScansFiles : Outside → CsvScan → List (List ℕ) → List FileNo 
 ScansFiles old s names numbers options result new = ((result ≡ Err faults.OutOfMemory) × (new ≡ old))
     ⊎ (IsDialect s.options × (0 < bytes_bound options) × WritesScan s (pieces_at_start (files_asked s names numbers 0 options.chunk_bytes)) (bytes_bound options) old result new)
 
--- the open files of one side of a join, whose numbers within the query go on from the first, and their reader, which has read nothing
+-- the open files of a scan, whose numbers within the query go on from the first, and their reader, which has read nothing
 abbrev pub side_scan : FileScan → List FileNo → ℕ → RunOptions → JoinScan
 side_scan files numbers first options = record { scan = csv_scan files; reader = pieces_at_start (files_asked (csv_scan files) files.sources numbers first options.chunk_bytes) }
 
@@ -92,6 +94,38 @@ abbrev pub SweepsFiles : Outside → FileScan → FileScan → List FileNo → L
 SweepsFiles opened left right lefts rights rules options before after = (after ≡ before)
     ⊎ (IsDialect (csv_scan left).options × IsDialect (csv_scan right).options
     × SweepsSides (keeps_left rules.how rules.maintain_order) (side_scan left lefts 0 options) (side_scan right rights (length left.sources) options) opened before after)
+
+-- the rows of a scan's open files were grouped, and the rows of the group-by written; or memory ran out before anything was read
+abbrev pub GroupsFiles : Outside → FileScan → List FileNo → GroupRulesSeen → RunOptions → Result ℕ Fault → Outside → Type 0
+GroupsFiles old scan numbers group options result new = IsLeftSo old result new
+    ⊎ (IsDialect (csv_scan scan).options × GroupsScan (side_scan scan numbers 0 options) group old result new)
+
+-- few sweeps were made of them; or none was
+abbrev pub SweepsGroupFiles : Outside → FileScan → List FileNo → RunOptions → ℕ → ℕ → Type 0
+SweepsGroupFiles opened scan numbers options before after = (after ≡ before)
+    ⊎ (IsDialect (csv_scan scan).options × SweepsGroups (side_scan scan numbers 0 options) opened before after)
+
+-- the rows of a join of two scans, of which the left one is kept, or the right one, were grouped
+abbrev pub GroupsSides : Bool → JoinScan → JoinScan → JoinRules → GroupRulesSeen → Outside → Result ℕ Fault → Outside → Type 0
+GroupsSides true left right rules group old result new = GroupsJoin left right rules group old result new
+GroupsSides false left right rules group old result new = GroupsJoin right left rules group old result new
+
+-- the rows of a join of two scans' open files were grouped, and the rows of the group-by written; or memory ran out before anything was read
+abbrev pub JoinsGroups : Outside → FileScan → FileScan → List FileNo → List FileNo → JoinRules → GroupRulesSeen → RunOptions → Result ℕ Fault → Outside → Type 0
+JoinsGroups old left right lefts rights rules group options result new = IsLeftSo old result new
+    ⊎ (IsDialect (csv_scan left).options × IsDialect (csv_scan right).options
+    × GroupsSides (keeps_left rules.how rules.maintain_order) (side_scan left lefts 0 options) (side_scan right rights (length left.sources) options) rules group old result new)
+
+-- few sweeps were made of a join, of which the left side is kept, or the right one, and of a group-by of its rows
+abbrev pub SweepsGroupSides : Bool → JoinScan → JoinScan → Outside → ℕ → ℕ → Type 0
+SweepsGroupSides true left right opened before after = SweepsGroupsJoin left right opened before after
+SweepsGroupSides false left right opened before after = SweepsGroupsJoin right left opened before after
+
+-- the same of two scans' open files; or none was made
+abbrev pub SweepsJoinedGroups : Outside → FileScan → FileScan → List FileNo → List FileNo → JoinRules → RunOptions → ℕ → ℕ → Type 0
+SweepsJoinedGroups opened left right lefts rights rules options before after = (after ≡ before)
+    ⊎ (IsDialect (csv_scan left).options × IsDialect (csv_scan right).options
+    × SweepsGroupSides (keeps_left rules.how rules.maintain_order) (side_scan left lefts 0 options) (side_scan right rights (length left.sources) options) opened before after)
 
 -- the numbers are those of open files
 abbrev pub AreOpenIn : Outside → List FileNo → Type 0

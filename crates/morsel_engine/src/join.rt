@@ -20,7 +20,7 @@ use morsel_scan::ScanSpec;
 use std::alloc::Global;
 use std::sync::ledger::Ledger;
 
-/// A side of a join: its scan, the columns of its rows, and its open files.
+/// A side of a join, or the scan of a query without one: the scan, the columns of its rows, and its open files.
 #[derive(Drop)]
 pub struct OpenSide {
     /// The scan.
@@ -75,8 +75,9 @@ pub fn join_files<H: Io, G: Gate, Y: Ledger>(
     }
 }
 
-/// A side of a join as it is run: its node, and the reader of its files, the first of which has this number within the query.
-fn join_side(
+/// A scan as it is run, as a side of a join or alone: its node, and the reader of its files, the first of which has this number within
+/// the query.
+pub fn join_side(
     alloc: Global,
     side: OpenSide,
     first: u32,

@@ -19,16 +19,19 @@ use Rattle.morsel_scan.specs.ScanRows.{Placed, SourceRows, whole_row, output_row
 use Rattle.morsel_scan.specs.ScanRows.{placed, scan_rows}
 use Rattle.morsel_scan.specs.CsvScans.{csv_source, csv_sources, csv_scan_rows}
 use Rattle.morsel_scan.specs.ScanFlaws.{choice_flaw, filter_flaw}
-use Rattle.morsel_sink.specs.declared.spec.SinkSpec.{SinkSpec}
+use Rattle.morsel_group.specs.Asked.{GroupAsked, shape_of}
+use Rattle.morsel_group.specs.GroupCauses.{FitsGroups}
+use Rattle.morsel_group.specs.GroupFlaws.{group_flaw}
+use Rattle.morsel_group.specs.Grouping.{Grouped}
 use Rattle.morsel_join.specs.declared.payload.JoinArgs.{JoinArgs}
 use Rattle.morsel_join.specs.Items.{JoinItems}
-use Rattle.morsel_join.specs.Payloads.{join_flaw, key_places}
+use Rattle.morsel_join.specs.Payloads.{join_fields, join_flaw, key_places}
 use Rattle.morsel_join.specs.Rows.{item_row, join_columns, rows_match}
 use Rattle.morsel_query.specs.declared.join.JoinHow.{JoinHow}
 use Rattle.morsel_query.specs.Queries.{FileFormat, CsvFiles, FileScan, JoinPart, QueryParts, scan_asked}
-use Rattle.morsel_query.specs.Plans.{fields_of_scan, slice_fault, side_fault, join_fault}
+use Rattle.morsel_query.specs.Plans.{fields_of_scan, fields_of_join, fields_of_input, slice_fault, side_fault, join_fault, fault_by, fault_with}
 use Rattle.morsel_query.specs.RunOptions.{RunOptions}
-use Rattle.morsel_query.specs.Meanings.{rows_over, height_over, AreOfFormat, left_files, right_files, AreJoinRows, IsValid}
+use Rattle.morsel_query.specs.Meanings.{rows_over, height_over, AreOfFormat, left_files, right_files, AreJoinRows, MeansBy, MeansWith, EachSide, GroupsFit, IsValid}
 use Rattle.morsel_query_text.specs.Predicates.{pred_tree}
 use Rattle.morsel_query_text.specs.Written.{WrittenScan, WrittenJoin, WrittenQuery, csv_written, format_written, scan_written, join_written, query_written}
 use Rattle.morsel_query_text.proofs.AlikeLemmas.{one_predicate}
@@ -126,22 +129,23 @@ alike_with sources (CsvFiles fields options) asked a b alike = record {
   of_format = λ files is. is;
 }
 
--- a query of one scan
-abbrev scan_into : FileScan → SinkSpec → QueryParts
-scan_into left sink = record { left = left; join = None; sink = sink }
+-- the sides of two queries are of the same fault, columns and rows, and of one format
+record SidesAlike (left other : FileScan) (join more : Option JoinPart) : Type 0 where
+  pub fault : fault_by left join ≡ fault_by other more
+  pub fields : fields_of_input left join ≡ fields_of_input other more
+  pub of_format : (files : List (List ℕ)) → EachSide (λ scan first bytes. AreOfFormat scan.format bytes) left join files → EachSide (λ scan first bytes. AreOfFormat scan.format bytes) other more files
+  pub few : (files : List (List ℕ)) → EachSide (λ scan first bytes. height_over scan first bytes ≤ 4294967295) left join files
+      → EachSide (λ scan first bytes. height_over scan first bytes ≤ 4294967295) other more files
+  pub means : (files : List (List ℕ)) (rows : List Row) → MeansBy left join files rows → MeansBy other more files rows
 
-valid_alone : (a b : FileScan) (sink other : SinkSpec) (files : List (List ℕ)) → ScansAlike a b → IsValid (scan_into a sink) files → IsValid (scan_into b other) files
-valid_alone a b sink other files alike valid = record {
-  planned = sym alike.fault ∙ valid.planned;
-  of_format = alike.of_format files valid.of_format;
-  few = subst (λ (n : ℕ). n ≤ 4294967295) (alike.heights 0 files) valid.few;
-  rows = valid.rows;
-  means = sym (alike.rows 0 files) ∙ valid.means;
+sides_alone : (a b : FileScan) → ScansAlike a b → SidesAlike a b None None
+sides_alone a b alike = record {
+  fault = alike.fault;
+  fields = alike.fields;
+  of_format = λ files are. alike.of_format files are;
+  few = λ files are. subst (λ (n : ℕ). n ≤ 4294967295) (alike.heights 0 files) are;
+  means = λ files rows are. sym (alike.rows 0 files) ∙ are;
 }
-
--- a query with a join
-abbrev join_into : FileScan → JoinPart → SinkSpec → QueryParts
-join_into left join sink = record { left = left; join = Some join; sink = sink }
 
 -- a join of the same keys, and with the same asked of it, with another right side
 abbrev join_with : JoinPart → FileScan → JoinHow → JoinPart
@@ -166,26 +170,32 @@ join_fault_alike left other join scan how one right =
     ∙ ap (λ (xs : List Field). first_fault (side_fault scan.format (scan_asked scan)) (join_flaw join.args xs (fields_of_scan join.right) join.left_keys join.right_keys)) one
     ∙ ap (λ (xs : List Field). first_fault (side_fault scan.format (scan_asked scan)) (join_flaw join.args (fields_of_scan other) xs join.left_keys join.right_keys)) right.fields
 
-valid_joined : (left other : FileScan) (join : JoinPart) (scan : FileScan) (how : JoinHow) (sink into : SinkSpec) (files : List (List ℕ)) → ScansAlike left other → ScansAlike join.right scan
-    → IsValid (join_into left join sink) files → IsValid (join_into other (join_with join scan how) into) files
-valid_joined left other join scan how sink into files alike right valid = record {
-  planned = sym (ap (λ (fault : Option Fault). first_fault fault (join_fault (fields_of_scan left) join)) alike.fault
-      ∙ ap (first_fault (side_fault other.format (scan_asked other))) (join_fault_alike left other join scan how alike.fields right)) ∙ valid.planned;
-  of_format = (
-    subst (λ (n : ℕ). AreOfFormat other.format (take n files)) count (alike.of_format (left_files left files) valid.of_format.0),
-    subst (λ (n : ℕ). AreOfFormat scan.format (drop n files)) count (right.of_format (right_files left files) valid.of_format.1),
+fields_alike : (left other : FileScan) (join : JoinPart) (scan : FileScan) (how : JoinHow) → fields_of_scan left ≡ fields_of_scan other → fields_of_scan join.right ≡ fields_of_scan scan
+    → fields_of_join (fields_of_scan left) join ≡ fields_of_join (fields_of_scan other) (join_with join scan how)
+fields_alike left other join scan how one two =
+    ap (λ (xs : List Field). join_fields join.args xs (fields_of_scan join.right) join.left_keys join.right_keys) one
+    ∙ ap (λ (xs : List Field). join_fields join.args (fields_of_scan other) xs join.left_keys join.right_keys) two
+
+sides_joined : (left other : FileScan) (join : JoinPart) (scan : FileScan) (how : JoinHow) → ScansAlike left other → ScansAlike join.right scan
+    → SidesAlike left other (Some join) (Some (join_with join scan how))
+sides_joined left other join scan how alike right = record {
+  fault = ap (λ (fault : Option Fault). first_fault fault (join_fault (fields_of_scan left) join)) alike.fault
+      ∙ ap (first_fault (side_fault other.format (scan_asked other))) (join_fault_alike left other join scan how alike.fields right);
+  fields = fields_alike left other join scan how alike.fields right.fields;
+  of_format = λ files are. (
+    subst (λ (n : ℕ). AreOfFormat other.format (take n files)) count (alike.of_format (left_files left files) are.0),
+    subst (λ (n : ℕ). AreOfFormat scan.format (drop n files)) count (right.of_format (right_files left files) are.1),
   );
-  few = (
-    subst (λ (n : ℕ). height_over other 0 (take n files) ≤ 4294967295) count (subst (λ (n : ℕ). n ≤ 4294967295) (alike.heights 0 (left_files left files)) valid.few.0),
-    subst (λ (n : ℕ). height_over scan n (drop n files) ≤ 4294967295) count (subst (λ (n : ℕ). n ≤ 4294967295) (right.heights (length left.sources) (right_files left files)) valid.few.1),
+  few = λ files are. (
+    subst (λ (n : ℕ). height_over other 0 (take n files) ≤ 4294967295) count (subst (λ (n : ℕ). n ≤ 4294967295) (alike.heights 0 (left_files left files)) are.0),
+    subst (λ (n : ℕ). height_over scan n (drop n files) ≤ 4294967295) count (subst (λ (n : ℕ). n ≤ 4294967295) (right.heights (length left.sources) (right_files left files)) are.1),
   );
-  rows = valid.rows;
-  means = record {
-    lefts = valid.means.lefts;
-    rights = valid.means.rights;
-    left_rows = subst (λ (n : ℕ). rows_over other 0 (take n files) ≡ Ok valid.means.lefts) count (sym (alike.rows 0 (left_files left files)) ∙ valid.means.left_rows);
-    right_rows = subst (λ (n : ℕ). rows_over scan n (drop n files) ≡ Ok valid.means.rights) count (sym (right.rows (length left.sources) (right_files left files)) ∙ valid.means.right_rows);
-    joined = joined_alike left other join scan how valid.means.lefts valid.means.rights valid.rows alike.fields right.fields valid.means.joined;
+  means = λ files rows is. record {
+    lefts = is.lefts;
+    rights = is.rights;
+    left_rows = subst (λ (n : ℕ). rows_over other 0 (take n files) ≡ Ok is.lefts) count (sym (alike.rows 0 (left_files left files)) ∙ is.left_rows);
+    right_rows = subst (λ (n : ℕ). rows_over scan n (drop n files) ≡ Ok is.rights) count (sym (right.rows (length left.sources) (right_files left files)) ∙ is.right_rows);
+    joined = joined_alike left other join scan how is.lefts is.rights rows alike.fields right.fields is.joined;
   };
 }
   where
@@ -214,32 +224,56 @@ scans_alike a b is =
     (subst (λ (sources : List (List ℕ)). ScansAlike a (files_with sources a.format a.asked b.filter)) (ap (λ (w : WrittenScan). w.files) is)
     (alike_with a.sources a.format a.asked a.filter b.filter (filter_alike a.filter b.filter (ap (λ (w : WrittenScan). w.filter) is)))))
 
--- joins that are written alike are valid over the same files
-joins_alike : (left other : FileScan) (join more : JoinPart) (sink into : SinkSpec) (files : List (List ℕ)) → ScansAlike left other → join_written join ≡ join_written more
-    → IsValid (join_into left join sink) files → IsValid (join_into other more into) files
-joins_alike left other join more sink into files alike is valid =
-    subst (λ (args : JoinArgs). IsValid (join_into other (record { right = more.right; left_keys = more.left_keys; right_keys = more.right_keys; args = args; how = more.how }) into) files) (ap (λ (w : WrittenJoin). w.args) is)
-    (subst (λ (keys : List (List ℕ)). IsValid (join_into other (record { right = more.right; left_keys = more.left_keys; right_keys = keys; args = join.args; how = more.how }) into) files) (ap (λ (w : WrittenJoin). w.right_keys) is)
-    (subst (λ (keys : List (List ℕ)). IsValid (join_into other (record { right = more.right; left_keys = keys; right_keys = join.right_keys; args = join.args; how = more.how }) into) files) (ap (λ (w : WrittenJoin). w.left_keys) is)
-    (valid_joined left other join more.right more.how sink into files alike (scans_alike join.right more.right (ap (λ (w : WrittenJoin). w.right) is)) valid)))
+-- sides of joins that are written alike
+joins_alike : (left other : FileScan) (join more : JoinPart) → ScansAlike left other → join_written join ≡ join_written more → SidesAlike left other (Some join) (Some more)
+joins_alike left other join more alike is =
+    subst (λ (args : JoinArgs). SidesAlike left other (Some join) (Some (record { right = more.right; left_keys = more.left_keys; right_keys = more.right_keys; args = args; how = more.how }))) (ap (λ (w : WrittenJoin). w.args) is)
+    (subst (λ (keys : List (List ℕ)). SidesAlike left other (Some join) (Some (record { right = more.right; left_keys = more.left_keys; right_keys = keys; args = join.args; how = more.how }))) (ap (λ (w : WrittenJoin). w.right_keys) is)
+    (subst (λ (keys : List (List ℕ)). SidesAlike left other (Some join) (Some (record { right = more.right; left_keys = keys; right_keys = join.right_keys; args = join.args; how = more.how }))) (ap (λ (w : WrittenJoin). w.left_keys) is)
+    (sides_joined left other join more.right more.how alike (scans_alike join.right more.right (ap (λ (w : WrittenJoin). w.right) is)))))
+
+-- sides that are written alike
+sides_alike : (left other : FileScan) (join more : Option JoinPart) → scan_written left ≡ scan_written other → option_map join_written join ≡ option_map join_written more → SidesAlike left other join more
+sides_alike left other None None is joins = sides_alone left other (scans_alike left other is)
+sides_alike left other None (Some more) is joins = absurd (cc)
+sides_alike left other (Some join) None is joins = absurd (cc)
+sides_alike left other (Some join) (Some more) is joins = let written : join_written join ≡ join_written more = cc in joins_alike left other join more (scans_alike left other is) written
+
+fault_alike : (left other : FileScan) (join more : Option JoinPart) (group : Option GroupAsked) → SidesAlike left other join more → fault_with left join group ≡ fault_with other more group
+fault_alike left other join more None alike = alike.fault
+fault_alike left other join more (Some asked) alike =
+    ap (λ (fault : Option Fault). first_fault fault (group_flaw (fields_of_input left join) asked)) alike.fault
+    ∙ ap (λ (fields : List Field). first_fault (fault_by other more) (group_flaw fields asked)) alike.fields
+
+means_alike : (left other : FileScan) (join more : Option JoinPart) (group : Option GroupAsked) (files : List (List ℕ)) (rows : List Row) → SidesAlike left other join more
+    → MeansWith left join group files rows → MeansWith other more group files rows
+means_alike left other join more None files rows alike is = alike.means files rows is
+means_alike left other join more (Some asked) files rows alike is = record {
+  input = is.input;
+  means = alike.means files is.input is.means;
+  grouped = subst (λ (fields : List Field). Grouped (shape_of fields asked) is.input rows) alike.fields is.grouped;
+}
+
+fit_alike : (left other : FileScan) (join more : Option JoinPart) (group : Option GroupAsked) (files : List (List ℕ)) → SidesAlike left other join more → SidesAlike other left more join
+    → GroupsFit left join group files → GroupsFit other more group files
+fit_alike left other join more None files alike back fit = tt
+fit_alike left other join more (Some asked) files alike back fit =
+    λ input is. subst (λ (fields : List Field). FitsGroups (shape_of fields asked) input) alike.fields (fit input (back.means files input is))
+
+-- queries of sides that are alike, and of one group-by
+valid_with : (a b : QueryParts) (files : List (List ℕ)) → SidesAlike a.left b.left a.join b.join → SidesAlike b.left a.left b.join a.join → a.group ≡ b.group → IsValid a files → IsValid b files
+valid_with a b files alike back group valid = record {
+  planned = ap (fault_with b.left b.join) (sym group) ∙ sym (fault_alike a.left b.left a.join b.join a.group alike) ∙ valid.planned;
+  of_format = alike.of_format files valid.of_format;
+  few = alike.few files valid.few;
+  groups_fit = subst (λ (asked : Option GroupAsked). GroupsFit b.left b.join asked files) group (fit_alike a.left b.left a.join b.join a.group files alike back valid.groups_fit);
+  rows = valid.rows;
+  means = subst (λ (asked : Option GroupAsked). MeansWith b.left b.join asked files valid.rows) group (means_alike a.left b.left a.join b.join a.group files valid.rows alike valid.means);
+}
 
 -- queries that are written alike are valid over the same files
 pub valid_alike : (a b : QueryParts) (options others : RunOptions) (files : List (List ℕ)) → query_written a options ≡ query_written b others → IsValid a files → IsValid b files
-valid_alike a b options others files is valid = by a.join b.join joins refl refl
-  where
-    left : ScansAlike a.left b.left
-    left = scans_alike a.left b.left (ap (λ (w : WrittenQuery). w.left) is)
-
-    joins : option_map join_written a.join ≡ option_map join_written b.join
-    joins = ap (λ (w : WrittenQuery). w.join) is
-
-    by : (first second : Option JoinPart) → option_map join_written first ≡ option_map join_written second → a.join ≡ first → b.join ≡ second → IsValid b files
-    by (Some join) None same of_first of_second = absurd (cc)
-    by None (Some join) same of_first of_second = absurd (cc)
-    by None None same of_first of_second =
-        subst (λ (join : Option JoinPart). IsValid (record b { join = join }) files) (sym of_second)
-        (valid_alone a.left b.left a.sink b.sink files left (subst (λ (join : Option JoinPart). IsValid (record a { join = join }) files) of_first valid))
-    by (Some join) (Some more) same of_first of_second =
-        let written : join_written join ≡ join_written more = cc in
-        subst (λ (found : Option JoinPart). IsValid (record b { join = found }) files) (sym of_second)
-        (joins_alike a.left b.left join more a.sink b.sink files left written (subst (λ (found : Option JoinPart). IsValid (record a { join = found }) files) of_first valid))
+valid_alike a b options others files is valid =
+    let left = ap (λ (w : WrittenQuery). w.left) is in
+    let join = ap (λ (w : WrittenQuery). w.join) is in
+    valid_with a b files (sides_alike a.left b.left a.join b.join left join) (sides_alike b.left a.left b.join a.join (sym left) (sym join)) (ap (λ (w : WrittenQuery). w.group) is) valid

@@ -68,7 +68,7 @@ not_refused bytes out query options (faults.Duplicate name) is (written, text, f
 not_refused bytes out query options fault is why = absurd why
 
 no_flaw : (query : QueryParts) (fault : Fault) → IsSound query → IsFlawFault query fault → ⊥
-no_flaw query (faults.InvalidQuery why) sound is = sound_has_no_flaw _ _ _ why sound is
+no_flaw query (faults.InvalidQuery why) sound is = sound_has_no_flaw _ _ _ _ why sound is
 no_flaw query fault sound is = absurd is
 
 -- a query that was had is not refused

@@ -5,9 +5,10 @@ use Rattle.morsel_meaning.specs.declared.fault.Fault.{Fault}
 use Rattle.morsel_meaning.specs.declared.fault.Fault.TheVariants as faults
 use Rattle.morsel_outside.specs.Outside.{Outside, with_last}
 use Rattle.morsel_outside.proofs.ActionLemmas.{with_more-nil, rises_since}
+use Rattle.morsel_group.specs.Asked.{GroupAsked}
 use Rattle.morsel_query.specs.Queries.{QueryParts}
 use Rattle.morsel_engine.specs.Courses.{SidesAsked}
-use Rattle.morsel_engine.specs.Runs.{HasText, Answers, HasCauseInFiles, HasCauseInRun, HasCause}
+use Rattle.morsel_engine.specs.Runs.{HasText, Answers, HasCauseInFiles, HasCauseInRun, HasCause, LeavesNoRow, LeavesNoRowBy}
 use Rattle.morsel_prog.specs.Words.{Command}
 use Rattle.morsel_prog.specs.CommandQueries.{LacksQuery}
 use Rattle.morsel_prog.specs.CommandRuns.{RunsQuery, RunsWords, HasAnswer, OnlyPrints, HasCauseOf, FailsInRun}
@@ -121,24 +122,49 @@ keeps_rest old new None status ran (Err fault) runs reports = (
 
 -- ---- causes
 
-files_cause-kept : (between : Outside) (query : QueryParts) (files : List (List ℕ)) (ran new : Outside) (fault : Fault) → HasCauseInFiles between query files ran fault
-    → HasCauseInFiles between query files (printed_on ran new) fault
-files_cause-kept between query files ran new fault h = record { kind = h.kind; begun = begun-kept between query files ran new h.begun; cause = h.cause }
+files_cause-kept : (between : Outside) (query : QueryParts) (files : List (List ℕ)) (asked : SidesAsked) (ran new : Outside) (fault : Fault) → HasCauseInFiles between query files asked ran fault
+    → HasCauseInFiles between query files asked (printed_on ran new) fault
+files_cause-kept between query files asked ran new fault h = record { kind = h.kind; begun = begun-kept between query files ran new h.begun; cause = h.cause }
 
 -- a cause that held after the run holds after its report
-run_cause : (between : Outside) (query : QueryParts) (files : List (List ℕ)) (ran new : Outside) (fault told : Fault) (status : ℕ) → HasCauseInRun between query files ran fault
-    → ReportsFault ran told status new → HasCauseInRun between query files (printed_on ran new) fault
-run_cause between query files ran new faults.OutOfMemory told status h reports = tt
-run_cause between query files ran new (faults.ReadFault file) told status h reports = h
-run_cause between query files ran new faults.WriteFault told status (all, rises) reports = (all, rises_reported between ran new told status rises reports)
-run_cause between query files ran new fault told status h reports = files_cause-kept between query files ran new fault h
+run_cause : (between : Outside) (query : QueryParts) (files : List (List ℕ)) (asked : SidesAsked) (ran new : Outside) (fault told : Fault) (status : ℕ) → HasCauseInRun between query files asked ran fault
+    → ReportsFault ran told status new → HasCauseInRun between query files asked (printed_on ran new) fault
+run_cause between query files asked ran new faults.OutOfMemory told status h reports = tt
+run_cause between query files asked ran new (faults.ReadFault file) told status h reports = h
+run_cause between query files asked ran new faults.WriteFault told status (all, rises) reports = (all, rises_reported between ran new told status rises reports)
+run_cause between query files asked ran new fault told status h reports = files_cause-kept between query files asked ran new fault h
 
-cause_reported : (between : Outside) (query : QueryParts) (files : List (List ℕ)) (ran new : Outside) (fault : Fault) (status : ℕ) → HasCause between query files ran fault
-    → ReportsFault ran fault status new → HasCauseOf between query files (printed_on ran new) fault
-cause_reported between query files ran new fault status (inl (is, same)) reports =
+cause_reported : (between : Outside) (query : QueryParts) (files : List (List ℕ)) (asked : SidesAsked) (ran new : Outside) (fault : Fault) (status : ℕ) → HasCause between query files asked ran fault
+    → ReportsFault ran fault status new → HasCauseOf between query files asked (printed_on ran new) fault
+cause_reported between query files asked ran new fault status (inl (is, same)) reports =
     let r = reported ran new (Err fault) status reports in
     inl (is, subst (λ (o : Outside). OnlyPrints o (printed_on ran new)) same (subst (OnlyPrints ran) r.after r))
-cause_reported between query files ran new fault status (inr h) reports = inr (run_cause between query files ran new fault fault status h reports)
+cause_reported between query files asked ran new fault status (inr h) reports = inr (run_cause between query files asked ran new fault fault status h reports)
+
+-- where no row was left after the run, none is after its report
+no_row-kept : (between : Outside) (query : QueryParts) (ran new : Outside) (fault : Fault) → LeavesNoRow between query ran fault → LeavesNoRow between query (printed_on ran new) fault
+no_row-kept between query ran new faults.WriteFault h = tt
+no_row-kept between query ran new faults.OutOfMemory h = tt
+no_row-kept between query ran new (faults.ReadFault file) h = h
+no_row-kept between query ran new (faults.InvalidQuery why) h = h
+no_row-kept between query ran new (faults.Malformed file at) h = h
+no_row-kept between query ran new (faults.Unsupported file code) h = h
+no_row-kept between query ran new (faults.ColumnNotFound name) h = h
+no_row-kept between query ran new (faults.SchemaMismatch name) h = h
+no_row-kept between query ran new (faults.Duplicate name) h = h
+no_row-kept between query ran new (faults.ComputeError kind file at) h = h
+no_row-kept between query ran new faults.QueryText h = h
+no_row-kept between query ran new faults.Usage h = h
+
+head-kept : (group : Option GroupAsked) (between : Outside) (query : QueryParts) (ran new : Outside) (fault : Fault) → LeavesNoRowBy group between query (Err fault) ran
+    → LeavesNoRowBy group between query (Err fault) (printed_on ran new)
+head-kept None between query ran new fault h = tt
+head-kept (Some group) between query ran new fault h = no_row-kept between query ran new fault h
+
+-- a write that failed may leave rows
+head-written : (group : Option GroupAsked) (between : Outside) (query : QueryParts) (new : Outside) → LeavesNoRowBy group between query (Err faults.WriteFault) new
+head-written None between query new = tt
+head-written (Some group) between query new = tt
 
 -- another status: a fault that has its cause, and was told
 pub causes_words : (old new : Outside) (command : Option Command) (status : ℕ) → (ran : Outside) (answer : Result ℕ Fault) → RunsWords old command answer ran → Reports ran answer status new → (status ≡ 0 → ⊥) → CausesWords old command status new
@@ -155,7 +181,8 @@ causes_words old new (Some command) status ran (Err fault) (inr r) reports z = (
   fault,
   inr (inr (after_report (λ (o : Outside). FailsInRun old command o fault) ran new (Err fault) status reports (record {
     run = run-kept old command ran new (run_of old command (Err fault) ran r);
-    cause = cause_reported r.between r.had.query r.runs.files ran new fault status r.runs.caused reports;
+    cause = cause_reported r.between r.had.query r.runs.files r.runs.asked ran new fault status r.runs.caused reports;
+    head_alone = head-kept r.had.query.group r.between r.had.query ran new fault r.runs.head_alone;
   }))),
   tells_fault old ran new fault status (printed_before old command (Err fault) ran r) (no_lower_before old command (Err fault) ran r) reports,
 )
@@ -167,6 +194,7 @@ causes_words old new (Some command) status ran (Ok count) (inr r) (inr (inl (unp
       inr (inr (after_report (λ (o : Outside). FailsInRun old command o faults.WriteFault) ran new (Ok count) status (inr (inl (unprinted, failing, later))) (record {
         run = run-kept old command ran new (run_of old command (Ok count) ran r);
         cause = inr (r.runs.answers.begun.all, rises_reported r.between unprinted new faults.WriteFault status since later);
+        head_alone = head-written r.had.query.group r.between r.had.query (printed_on ran new);
       }))),
       tells_fault old unprinted new faults.WriteFault status (failing.printed ∙ with_more-nil ran.printed ∙ printed_before old command (Ok count) ran r) all.no_lower later,
     )

@@ -27,6 +27,7 @@ scan_parts file schema out = record {
     filter = None;
   };
   join = None;
+  group = None;
   sink = record { name = out; format = NdJson };
 }
 

@@ -14,7 +14,7 @@ use Rattle.morsel_query.specs.QueryFlaws.{sources_of}
 use Rattle.morsel_query.specs.Plans.{query_fault}
 use Rattle.morsel_query.specs.Meanings.{IsValid}
 use Rattle.morsel_engine.specs.Courses.{names_asked, SidesAsked, AsksSides, IsShort}
-use Rattle.morsel_engine.specs.Runs.{TellsBytes, HasOpened, Answers, HasCauseInRun, Leaves, ReadsAheadBy, Runs}
+use Rattle.morsel_engine.specs.Runs.{TellsBytes, HasOpened, Answers, HasCauseInRun, Leaves, LeavesNoRowBy, ReadsAheadBy, Runs}
 use Rattle.morsel_prog.specs.Words.{Command}
 use Rattle.morsel_prog.specs.CommandQueries.{query_files, IsQueryOf, ReadsQueryFiles, NoReadFails, SamePrints, HasQuery, LacksQuery}
 
@@ -62,13 +62,14 @@ pub record OnlyPrints (old new : Outside) : Type 0 where
   pub after : new ≡ record old { printed = new.printed; write_faults = new.write_faults; print_faults = new.print_faults }
 
 -- when the run of a query may answer a fault: it has no plan, and nothing was done; or there is a cause in the run
-abbrev pub HasCauseOf : Outside → QueryParts → List (List ℕ) → Outside → Fault → Type 0
-HasCauseOf between query files new fault = ((query_fault query ≡ Some fault) × OnlyPrints between new) ⊎ HasCauseInRun between query files new fault
+abbrev pub HasCauseOf : Outside → QueryParts → List (List ℕ) → SidesAsked → Outside → Fault → Type 0
+HasCauseOf between query files asked new fault = ((query_fault query ≡ Some fault) × OnlyPrints between new) ⊎ HasCauseInRun between query files asked new fault
 
--- a fault of the run of a command's query
+-- a fault of the run of a command's query; with a group-by it leaves no row, unless a write failed or memory was out
 pub record FailsInRun (old : Outside) (command : Command) (new : Outside) (fault : Fault) : Type 0 where
   pub run : HasRun old command new
-  pub cause : HasCauseOf run.between run.had.query run.files new fault
+  pub cause : HasCauseOf run.between run.had.query run.files run.asked new fault
+  pub head_alone : LeavesNoRowBy run.had.query.group run.between run.had.query (Err fault) new
 
 -- when a fault may be answered to words
 abbrev pub HasCauseIn : Outside → Option Command → Fault → Outside → Type 0
@@ -98,7 +99,7 @@ AsksInOrder old command new = AsksFrontOf old (map Open (query_files command)) n
 pub record IsNotFarAhead (old : Outside) (command : Command) (new : Outside) : Type 0 where
   pub run : HasRun old command new
   pub short : Each (IsShort run.had.options.chunk_bytes) run.events
-  pub ahead : TellsBytes new → ReadsAheadBy run.had.query.join run.had.query run.had.options (length run.between.sizes) run.files run.events
+  pub ahead : TellsBytes new → ReadsAheadBy run.had.query.join run.had.query.group run.had.query run.had.options (length run.between.sizes) run.files run.events
 
 -- no file but some of the query files was opened or read, and no sink was made
 abbrev pub ReadsOnlyQueries : Outside → Command → Outside → Type 0

@@ -93,7 +93,7 @@ pub record QueryTheorem (old : Outside) (command : Option Command) (status : ℕ
   pub caused : (status ≡ 0 → ⊥) → CausesWords old command status new
   -- a command whose query is valid over its files ends with status 0, unless a count of faults rose or memory ran out
   pub complete : IsValidCommand old command new → NoneRises old new → IsDone status
-  -- after a fault no sink was made, or one whose text is the beginning of the text of the rows before the first faulty record; of a join over valid files, of the text of rows that it may give
+  -- after a fault no sink was made, or one whose text is the beginning of the text of the rows before the first faulty record; of a join or a group-by over valid files, of the text of rows that it may give
   pub after_fault : (status ≡ 0 → ⊥) → LeavesAfterFault old command new
   -- the names asked for are those of the query file, of the sources and of the sink, from the first on, each only where the files before were opened
   pub asks : AsksNames old command new

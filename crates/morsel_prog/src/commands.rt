@@ -71,5 +71,5 @@ fn scan_query(alloc: Global, file: &str, schema: Schema, out: &str) -> Result<Qu
         name: Name::new(alloc, out)?,
         format: SinkFormat::NdJson,
     };
-    Query::new(left, None, sink)
+    Query::new(left, None, None, sink)
 }

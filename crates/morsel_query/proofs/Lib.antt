@@ -3,3 +3,4 @@ pub mod FieldLemmas
 pub mod SoundLemmas
 pub mod SetLemmas
 pub mod SideLemmas
+pub mod PlanLemmas

@@ -4,7 +4,7 @@ use Rattle.std.specs.List.{flat_map, sum_by}
 use Rattle.morsel_meaning.specs.declared.fault.Fault.{Fault}
 use Rattle.morsel_meaning.specs.declared.fault.Fault.TheVariants as faults
 use Rattle.morsel_meaning.specs.declared.fault.ComputeKind.TheVariants as kinds
-use Rattle.morsel_meaning.specs.Values.{kinds_of}
+use Rattle.morsel_meaning.specs.Values.{Row, kinds_of}
 use Rattle.morsel_grammar.specs.Dialect.{Dialect}
 use Rattle.morsel_grammar.specs.Grammar.{CsvRecord, IsRecord}
 use Rattle.morsel_grammar.specs.Cells.{CsvCell}
@@ -12,13 +12,15 @@ use Rattle.morsel_grammar.specs.Rows.{IsRow, row_of, behind_header, mark_len, un
 use Rattle.morsel_grammar.specs.Reading.{Flaw, Malformed, NotUtf8, IllTyped}
 use Rattle.morsel_grammar.specs.GrammarRows.{AreWholeRecords, awaits_header_after, HasFlaw}
 use Rattle.morsel_cut.specs.RowCounts.{row_count}
+use Rattle.morsel_group.specs.Asked.{GroupAsked}
+use Rattle.morsel_group.specs.GroupCauses.{GroupCause}
 use Rattle.morsel_scan.specs.declared.spec.RowIndex.{RowIndex}
 use Rattle.morsel_scan.specs.Scans.{CsvScan}
 use Rattle.morsel_scan.specs.ScanColumns.{used_columns}
 use Rattle.morsel_scan.specs.Blocks.{compression_code}
 use Rattle.morsel_scan.specs.CsvAxis.{TextPart, text_parts, csv_keeps}
 use Rattle.morsel_query.specs.Queries.{FileScan, JoinPart, QueryParts}
-use Rattle.morsel_query.specs.Meanings.{csv_scan, left_files, right_files}
+use Rattle.morsel_query.specs.Meanings.{csv_scan, left_files, right_files, shape_over}
 
 -- the record of a part of a text, where it is one
 abbrev pub record_in : TextPart → List CsvRecord
@@ -109,6 +111,11 @@ abbrev pub CauseBy : FileScan → Option JoinPart → List (List ℕ) → Fault 
 CauseBy left None files fault = CsvCause (csv_scan left) 0 left.sources files fault
 CauseBy left (Some join) files fault = CsvCause (csv_scan left) 0 left.sources (left_files left files) fault
     ⊎ CsvCause (csv_scan join.right) (length left.sources) join.right.sources (right_files left files) fault
+
+-- when a query with this left side, this join and this group-by may have a fault of its groups, where these may be the rows that it groups
+abbrev pub GroupCauseBy : FileScan → Option JoinPart → Option GroupAsked → (List Row → Type 0) → Fault → Type 0
+GroupCauseBy left join None IsInput fault = ⊥
+GroupCauseBy left join (Some asked) IsInput fault = (input : List Row) × IsInput input × GroupCause (shape_over left join asked) input fault
 
 -- when a query over CSV files with these bytes may have a fault of its files
 abbrev pub QueryCause : QueryParts → List (List ℕ) → Fault → Type 0

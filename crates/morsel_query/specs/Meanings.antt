@@ -5,6 +5,9 @@ use Rattle.morsel_meaning.specs.declared.fault.Fault.{Fault}
 use Rattle.morsel_meaning.specs.Values.{Row, kinds_of, names_of}
 use Rattle.morsel_grammar.specs.Dialect.{Dialect}
 use Rattle.morsel_grammar.specs.Rows.{IsOfGrammar}
+use Rattle.morsel_group.specs.Asked.{GroupAsked, GroupShape, shape_of}
+use Rattle.morsel_group.specs.GroupCauses.{FitsGroups}
+use Rattle.morsel_group.specs.Grouping.{Grouped}
 use Rattle.morsel_join.specs.Items.{JoinItem, JoinItems, IsPromised}
 use Rattle.morsel_join.specs.Payloads.{key_places}
 use Rattle.morsel_join.specs.Rows.{item_row, join_columns, rows_match}
@@ -13,7 +16,7 @@ use Rattle.morsel_scan.specs.ScanRows.{total_rows}
 use Rattle.morsel_scan.specs.CsvScans.{csv_sources, csv_scan_rows}
 use Rattle.morsel_sink.specs.Sinks.{text_by_format}
 use Rattle.morsel_query.specs.Queries.{FileFormat, CsvFiles, FileScan, JoinPart, QueryParts, scan_asked}
-use Rattle.morsel_query.specs.Plans.{planned, output_of, fields_of_scan, query_fault}
+use Rattle.morsel_query.specs.Plans.{planned, output_of, fields_of_scan, fields_of_input, query_fault}
 
 -- how the files of a format are written
 abbrev pub dialect_of : FileFormat → Dialect
@@ -66,14 +69,29 @@ pub record JoinMeans (left : FileScan) (join : JoinPart) (files : List (List ℕ
   pub right_rows : rows_over join.right (length left.sources) (right_files left files) ≡ Ok rights
   pub joined : AreJoinRows left join lefts rights rows
 
--- the rows that a query with this left side and this join may give
+-- the rows that a query with this left side and this join may give, before they are grouped
 abbrev pub MeansBy : FileScan → Option JoinPart → List (List ℕ) → List Row → Type 0
 MeansBy left None files rows = rows_over left 0 files ≡ Ok rows
 MeansBy left (Some join) files rows = JoinMeans left join files rows
 
--- the rows that a query may give, where its sources have these bytes: those of its scan, or of its join
+-- a group-by of the rows of a query with this left side and this join: the places of its keys and of what it reduces
+abbrev pub shape_over : FileScan → Option JoinPart → GroupAsked → GroupShape
+shape_over left join asked = shape_of (fields_of_input left join) asked
+
+-- the rows of a group-by of rows that a query with this left side and this join may give, the same rows for all reductions
+pub record GroupMeans (left : FileScan) (join : Option JoinPart) (asked : GroupAsked) (files : List (List ℕ)) (rows : List Row) : Type 0 where
+  pub input : List Row
+  pub means : MeansBy left join files input
+  pub grouped : Grouped (shape_over left join asked) input rows
+
+-- the rows that a query with this left side, this join and this group-by may give
+abbrev pub MeansWith : FileScan → Option JoinPart → Option GroupAsked → List (List ℕ) → List Row → Type 0
+MeansWith left join None files rows = MeansBy left join files rows
+MeansWith left join (Some asked) files rows = GroupMeans left join asked files rows
+
+-- the rows that a query may give, where its sources have these bytes: those of its scan, or of its join; or a group-by of these
 abbrev pub Meaning : QueryParts → List (List ℕ) → List Row → Type 0
-Meaning query files rows = MeansBy query.left query.join files rows
+Meaning query files rows = MeansWith query.left query.join query.group files rows
 
 -- the text of rows of a query in its sink
 abbrev pub text_of : QueryParts → List Row → List ℕ
@@ -84,11 +102,17 @@ abbrev pub EachSide : (FileScan → ℕ → List (List ℕ) → Type 0) → File
 EachSide P left None files = P left 0 files
 EachSide P left (Some join) files = P left 0 (left_files left files) × P join.right (length left.sources) (right_files left files)
 
+-- whatever rows a query with this left side and this join gives, a group-by of them has an answer, if there is memory
+abbrev pub GroupsFit : FileScan → Option JoinPart → Option GroupAsked → List (List ℕ) → Type 0
+GroupsFit left join None files = Unit {0}
+GroupsFit left join (Some asked) files = (input : List Row) → MeansBy left join files input → FitsGroups (shape_over left join asked) input
+
 -- a query whose names meet its columns, over files of which it has a meaning: each is one of its format, no scan has too many rows, no bad cell is used,
--- and no number of a row is too large
+-- no number of a row is too large, and there are not too many groups, nor too many rows of one, nor a total that is too large
 pub record IsValid (query : QueryParts) (files : List (List ℕ)) : Type 0 where
   pub planned : query_fault query ≡ None
   pub of_format : EachSide (λ scan first bytes. AreOfFormat scan.format bytes) query.left query.join files
   pub few : EachSide (λ scan first bytes. height_over scan first bytes ≤ 4294967295) query.left query.join files
+  pub groups_fit : GroupsFit query.left query.join query.group files
   pub rows : List Row
   pub means : Meaning query files rows

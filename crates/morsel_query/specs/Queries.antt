@@ -1,9 +1,10 @@
--- What a query asks: scans of files, a join of two, and a sink.
-use Rattle.std.specs.Prelude.{ℕ, Option, option_map, List, map}
+-- What a query asks: scans of files, a join of two, a group-by, and a sink.
+use Rattle.std.specs.Prelude.{ℕ, Option, Some, None, option_map, List, map}
 use Rattle.morsel_meaning.specs.declared.value.Field.{Field}
 use Rattle.morsel_grammar.specs.Dialect.{Dialect}
 use Rattle.morsel_expr.specs.declared.node.PredNode.{PredNode}
 use Rattle.morsel_grammar.specs.Reading.{chosen}
+use Rattle.morsel_group.specs.Asked.{GroupAsked, HaveColumns}
 use Rattle.morsel_join.specs.declared.payload.JoinArgs.{JoinArgs}
 use Rattle.morsel_scan.specs.Scans.{FileOptions, Scan}
 use Rattle.morsel_scan.specs.ScanColumns.{is_kept}
@@ -37,6 +38,7 @@ pub record JoinPart : Type 0 where
 pub record QueryParts : Type 0 where
   pub left : FileScan
   pub join : Option JoinPart
+  pub group : Option GroupAsked
   pub sink : SinkSpec
 
 -- the format of a scan, as contracts see it
@@ -63,8 +65,13 @@ join_part spec = record {
 }
 
 -- a query of these parts, as contracts see it
-abbrev pub query_parts : ScanSpec → Option JoinSpec → SinkSpec → QueryParts
-query_parts left join sink = record { left = file_scan left; join = option_map join_part join; sink = sink }
+abbrev pub query_parts : ScanSpec → Option JoinSpec → Option GroupAsked → SinkSpec → QueryParts
+query_parts left join group sink = record { left = file_scan left; join = option_map join_part join; group = group; sink = sink }
+
+-- each reduction of a group-by has its column, where there is a group-by
+abbrev pub HaveTheirColumns : Option GroupAsked → Type 0
+HaveTheirColumns None = Unit {0}
+HaveTheirColumns (Some asked) = HaveColumns asked.aggs
 
 -- the columns of files whose format has them
 abbrev pub fields_of_format : FileFormat → List Field

@@ -5,6 +5,7 @@ use Rattle.morsel_meaning.specs.declared.fault.Fault.TheVariants.{InvalidQuery}
 use Rattle.morsel_meaning.specs.declared.fault.Why.{Why}
 use Rattle.morsel_meaning.specs.declared.fault.Why.TheVariants.{NoSource, ManySources, NoColumn, SinkIsSource, NoKeys, RepeatedKey, UnequalKeys}
 use Rattle.morsel_frame.specs.Names.{stands_in}
+use Rattle.morsel_group.specs.Asked.{GroupAsked}
 use Rattle.morsel_query.specs.Queries.{FileFormat, CsvFiles, FileScan, JoinPart, QueryParts}
 
 -- one side of a query, as far as its flaws go
@@ -41,6 +42,10 @@ keys_of join = record { left = join.left_keys; right = join.right_keys }
 -- the keys of a query's join, where it has one
 abbrev pub keys_of_query : QueryParts → Option JoinKeys
 keys_of_query query = option_map keys_of query.join
+
+-- the keys of a group-by by their names, where there is one
+abbrev pub keys_of_group : Option GroupAsked → Option (List (List ℕ))
+keys_of_group group = option_map (λ (asked : GroupAsked). asked.keys) group
 
 -- the sources of all sides, in order
 abbrev pub sources_of_sides : List Side → List (List ℕ)
@@ -80,16 +85,21 @@ HasKeys P (Some keys) = P keys
 abbrev pub AreNoKeys : JoinKeys → Type 0
 AreNoKeys keys = (length keys.left ≡ 0) × (length keys.right ≡ 0)
 
--- the flaw that is named, of a query with these sides, these keys of its join and a sink of this name
-abbrev pub IsFlaw : List Side → Option JoinKeys → List ℕ → Why → Type 0
-IsFlaw sides keys sink NoSource = HasSide (λ side. length side.sources ≡ 0) sides
-IsFlaw sides keys sink ManySources = HasSide (λ side. 65536 < length side.sources) sides
-IsFlaw sides keys sink NoColumn = HasSide (λ side. AreNoColumns side.columns) sides
-IsFlaw sides keys sink NoKeys = HasKeys AreNoKeys keys
-IsFlaw sides keys sink RepeatedKey = HasKeys (λ names. (has_repeats names.left || has_repeats names.right) ≡ true) keys
-IsFlaw sides keys sink UnequalKeys = HasKeys (λ names. length names.left ≢ length names.right) keys
-IsFlaw sides keys sink SinkIsSource = stands_in sink (sources_of_sides sides) ≡ true
-IsFlaw sides keys sink why = ⊥
+-- it holds of the keys of a group-by, where there is one
+abbrev pub HasGroupKeys : (List (List ℕ) → Type 0) → Option (List (List ℕ)) → Type 0
+HasGroupKeys P None = ⊥
+HasGroupKeys P (Some names) = P names
+
+-- the flaw that is named, of a query with these sides, these keys of its join and of its group-by, and a sink of this name
+abbrev pub IsFlaw : List Side → Option JoinKeys → Option (List (List ℕ)) → List ℕ → Why → Type 0
+IsFlaw sides keys group sink NoSource = HasSide (λ side. length side.sources ≡ 0) sides
+IsFlaw sides keys group sink ManySources = HasSide (λ side. 65536 < length side.sources) sides
+IsFlaw sides keys group sink NoColumn = HasSide (λ side. AreNoColumns side.columns) sides
+IsFlaw sides keys group sink NoKeys = HasKeys AreNoKeys keys ⊎ HasGroupKeys (λ names. length names ≡ 0) group
+IsFlaw sides keys group sink RepeatedKey = HasKeys (λ names. (has_repeats names.left || has_repeats names.right) ≡ true) keys ⊎ HasGroupKeys (λ names. has_repeats names ≡ true) group
+IsFlaw sides keys group sink UnequalKeys = HasKeys (λ names. length names.left ≢ length names.right) keys
+IsFlaw sides keys group sink SinkIsSource = stands_in sink (sources_of_sides sides) ≡ true
+IsFlaw sides keys group sink why = ⊥
 
 -- a side without flaws
 pub record IsSoundSide (side : Side) : Type 0 where
@@ -114,21 +124,33 @@ abbrev pub AreSoundKeys : Option JoinKeys → Type 0
 AreSoundKeys None = Unit {0}
 AreSoundKeys (Some keys) = AreJoinKeys keys
 
--- sides, keys and a sink without flaws
-pub record AreSound (sides : List Side) (keys : Option JoinKeys) (sink : List ℕ) : Type 0 where
+-- keys of a group-by without flaws
+pub record AreGroupKeys (names : List (List ℕ)) : Type 0 where
+  pub some : 0 < length names
+  pub once : has_repeats names ≡ false
+
+-- the keys of a group-by without flaws, where there is one
+abbrev pub AreSoundGroupKeys : Option (List (List ℕ)) → Type 0
+AreSoundGroupKeys None = Unit {0}
+AreSoundGroupKeys (Some names) = AreGroupKeys names
+
+-- sides, keys of a join and of a group-by, and a sink without flaws
+pub record AreSound (sides : List Side) (keys : Option JoinKeys) (group : Option (List (List ℕ))) (sink : List ℕ) : Type 0 where
   pub each : AreSoundSides sides
   pub keys_fit : AreSoundKeys keys
+  pub group_fits : AreSoundGroupKeys group
   pub sink_apart : stands_in sink (sources_of_sides sides) ≡ false
 
 -- a query without flaws
 abbrev pub IsSound : QueryParts → Type 0
-IsSound query = AreSound (sides_of query) (keys_of_query query) query.sink.name
+IsSound query = AreSound (sides_of query) (keys_of_query query) (keys_of_group query.group) query.sink.name
 
 -- the fault names a flaw of the query
 abbrev pub IsFlawFault : QueryParts → Fault → Type 0
-IsFlawFault query (InvalidQuery why) = IsFlaw (sides_of query) (keys_of_query query) query.sink.name why
+IsFlawFault query (InvalidQuery why) = IsFlaw (sides_of query) (keys_of_query query) (keys_of_group query.group) query.sink.name why
 IsFlawFault query fault = ⊥
 
 -- no query has a flaw and none
 abbrev pub SoundHasNoFlaw : Type 0
-SoundHasNoFlaw = (sides : List Side) (keys : Option JoinKeys) (sink : List ℕ) (why : Why) → AreSound sides keys sink → IsFlaw sides keys sink why → ⊥
+SoundHasNoFlaw = (sides : List Side) (keys : Option JoinKeys) (group : Option (List (List ℕ))) (sink : List ℕ) (why : Why)
+    → AreSound sides keys group sink → IsFlaw sides keys group sink why → ⊥

@@ -1,8 +1,9 @@
 //! The flaws of a query in which no file has a part.
 ghost use Rattle.std.specs.Prelude.{◌≡◌, ◌↔◌, ◌∷◌, [], Some, None, IfSome, IsNone, IsTrue, IsFalse};
 ghost use Rattle.morsel_frame.specs.Names.{stands_in};
-ghost use Rattle.morsel_query.specs.QueryFlaws.{AreColumns, AreJoinKeys, AreNoColumns, AreSound, IsFlaw, SoundHasNoFlaw, has_repeats};
+ghost use Rattle.morsel_query.specs.QueryFlaws.{AreColumns, AreGroupKeys, AreJoinKeys, AreNoColumns, AreSound, AreSoundGroupKeys, IsFlaw, SoundHasNoFlaw, has_repeats, keys_of_group};
 
+use morsel_group::GroupSpec;
 use morsel_meaning::{Name, Why};
 
 /// How many sources a scan may name.
@@ -16,8 +17,8 @@ const MOST_COLUMNS: usize = 65_535;
 ///
 /// There are 1 to 65,536 sources and 1 to 65,535 columns, and the sink's name is not the name of a source.
 pub fn flaw_of_side(sources: &[Name], columns: Option<usize>, sink: &str) -> Option<Why>
-    ensures some { IfSome result (IsFlaw (record { sources = sources.now; columns = columns } ∷ []) None sink.now) }
-    ensures none { IsNone result → AreSound (record { sources = sources.now; columns = columns } ∷ []) None sink.now }
+    ensures some { IfSome result (IsFlaw (record { sources = sources.now; columns = columns } ∷ []) None None sink.now) }
+    ensures none { IsNone result → AreSound (record { sources = sources.now; columns = columns } ∷ []) None None sink.now }
 {
     if sources.is_empty() {
         return Some(Why::NoSource);
@@ -38,7 +39,7 @@ pub fn flaw_of_side(sources: &[Name], columns: Option<usize>, sink: &str) -> Opt
 ///
 /// There are as many right keys as left ones, at least one, and no side names a key twice.
 pub fn flaw_of_keys(left: &[Name], right: &[Name]) -> Option<Why>
-    ensures some { IfSome result (IsFlaw [] (Some (record { left = left.now; right = right.now })) []) }
+    ensures some { IfSome result (IsFlaw [] (Some (record { left = left.now; right = right.now })) None []) }
     ensures none { IsNone result → AreJoinKeys (record { left = left.now; right = right.now }) }
 {
     if left.len() != right.len() {
@@ -48,6 +49,33 @@ pub fn flaw_of_keys(left: &[Name], right: &[Name]) -> Option<Why>
         return Some(Why::NoKeys);
     }
     if has_repeats(left) || has_repeats(right) {
+        return Some(Why::RepeatedKey);
+    }
+    None
+}
+
+/// A flaw of a group-by, where there is one; none where it has no flaw.
+///
+/// There is at least one key, and none is named twice.
+pub fn flaw_of_group(group: &Option<GroupSpec>) -> Option<Why>
+    ensures some { IfSome result (IsFlaw [] None (keys_of_group group.now) []) }
+    ensures none { IsNone result → AreSoundGroupKeys (keys_of_group group.now) }
+{
+    match group {
+        Some(spec) => flaw_of_group_keys(&spec.keys),
+        None => None,
+    }
+}
+
+/// A flaw of the keys of a group-by.
+fn flaw_of_group_keys(names: &[Name]) -> Option<Why>
+    ensures some { IfSome result (IsFlaw [] None (Some names.now) []) }
+    ensures none { IsNone result → AreGroupKeys names.now }
+{
+    if names.is_empty() {
+        return Some(Why::NoKeys);
+    }
+    if has_repeats(names) {
         return Some(Why::RepeatedKey);
     }
     None

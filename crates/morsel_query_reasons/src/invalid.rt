@@ -1,5 +1,6 @@
 //! Flaws of a query that is in form.
 
+use crate::groups::write_repeated;
 use crate::scans::{PlacedScan, left_of, name_on, pairs_of, right_of};
 use crate::shown::show_name;
 use crate::table::items_at;
@@ -43,7 +44,7 @@ pub fn write_flaw_of(out: &mut String, query: &Value, why: &str) -> Result<(), U
         "no source" => write_len(out, query, "files", MOST_FILES)?,
         "too many sources" => write_len(out, query, "files", MOST_FILES)?,
         "no column" => write_len(out, query, "schema", MOST_COLUMNS)?,
-        "no keys" => out.push_str("join.on is empty")?,
+        "no keys" => write_no_keys(out, query)?,
         "repeated key" => write_repeated_key(out, query)?,
         "predicate depth" => write_depth(out, query)?,
         "option range" => write_range(out, query)?,
@@ -99,7 +100,15 @@ fn write_len_of(
     }
 }
 
-/// Puts last which key of a join a side names twice.
+/// Puts last that a join or a group-by has no key.
+fn write_no_keys(out: &mut String, query: &Value) -> Result<(), AllocError> {
+    out.push_str(match right_of(query) {
+        Some(_) if pairs_of(query).is_empty() => "join.on is empty",
+        _ => "group.keys is empty",
+    })
+}
+
+/// Puts last which key of a join a side names twice; or else which one a group-by does.
 fn write_repeated_key(out: &mut String, query: &Value) -> Result<(), AllocError> {
     let pairs = pairs_of(query);
     let mut number: usize = 0;
@@ -115,7 +124,7 @@ fn write_repeated_key(out: &mut String, query: &Value) -> Result<(), AllocError>
         }
         number = number.saturating_add(1);
     }
-    Ok(())
+    write_repeated(out, query)
 }
 
 /// Whether one of so many first pairs has the name on this side.

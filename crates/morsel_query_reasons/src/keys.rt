@@ -2,6 +2,7 @@
 //!
 //! What is written is a path from the query down, as `left.slice[0]`, and what is wrong there.
 
+use crate::aggs::write_aggs;
 use crate::nearest::{meant, write_nearest};
 use crate::parts::write_filter;
 use crate::shown::{show, show_name, show_value};
@@ -39,6 +40,8 @@ enum Kind {
     JoinOrder,
     /// How the rows of a join are found.
     JoinHow,
+    /// A list of `[op, name, output]`.
+    Aggs,
     /// An object, which is looked at by itself.
     Object,
 }
@@ -47,9 +50,10 @@ enum Kind {
 type KeyRule = (&'static str, Kind, bool);
 
 /// The keys of a query.
-const QUERY: [KeyRule; 4] = [
+const QUERY: [KeyRule; 5] = [
     ("left", Kind::Object, true),
     ("join", Kind::Object, false),
+    ("group", Kind::Object, false),
     ("sink", Kind::Object, true),
     ("options", Kind::Object, false),
 ];
@@ -78,6 +82,9 @@ const JOIN: [KeyRule; 8] = [
     ("suffix", Kind::Text, false),
     ("how", Kind::JoinHow, false),
 ];
+
+/// The keys of a group-by.
+const GROUP: [KeyRule; 2] = [("keys", Kind::Texts, true), ("aggs", Kind::Aggs, false)];
 
 /// The words of the kinds of joins, of the orders of their rows, and of how these are found.
 const JOIN_KINDS: [&str; 4] = ["inner", "left", "right", "full"];
@@ -132,6 +139,11 @@ pub fn write_keys(alloc: Global, out: &mut String, query: &Value) -> Result<(), 
     }
     if let Some(join) = query.get("join")
         && write_join_keys(alloc, out, join)?
+    {
+        return Ok(());
+    }
+    if let Some(group) = query.get("group")
+        && write_object(alloc, out, group, "group.", &GROUP)?
     {
         return Ok(());
     }
@@ -301,6 +313,7 @@ fn write_kind(alloc: Global, out: &mut String, tree: &Value, kind: Kind) -> Resu
         Kind::JoinKind => write_word(alloc, out, tree, "kind of joins", &JOIN_KINDS),
         Kind::JoinOrder => write_word(alloc, out, tree, "order", &JOIN_ORDERS),
         Kind::JoinHow => write_word(alloc, out, tree, "way to join", &JOIN_HOWS),
+        Kind::Aggs => write_aggs(alloc, out, tree),
         Kind::Object => write_unless(out, tree, tree.is_object(), "object"),
     }
 }

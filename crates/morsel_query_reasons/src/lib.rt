@@ -4,8 +4,11 @@
 //! proved of it is that it is safe and returns.
 #![tactic(auto)]
 
+mod aggs;
 mod dialect;
+mod groups;
 mod invalid;
+mod joined;
 mod keys;
 mod mismatch;
 mod names;
@@ -16,6 +19,7 @@ mod shown;
 mod table;
 mod unsaid;
 
+pub use aggs::write_sums;
 pub use dialect::CsvForm;
 pub use invalid::{write_columns, write_flaw_of, write_sink};
 pub use keys::write_keys;

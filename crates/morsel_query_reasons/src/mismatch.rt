@@ -1,5 +1,6 @@
-//! Which comparison of a filter does not fit its column, and which pair of keys is of two types.
+//! Which comparison of a filter does not fit its column, which pair of keys is of two types, and which sum is of no numbers.
 
+use crate::groups::{list_of_group, side_grouped, text_in};
 use crate::keys::items_of;
 use crate::names::write_scan_path;
 use crate::scans::{PlacedScan, left_of, name_on, pairs_of, right_of};
@@ -44,7 +45,7 @@ fn first_text(tree: &Value) -> Option<&str> {
     tree.get(0)?.as_str()
 }
 
-/// Puts last which comparison does not fit the column of this name, or which key of a join its pair.
+/// Puts last which comparison does not fit the column of this name, or which key of a join its pair, or which sum is of it.
 pub fn write_mismatch(
     alloc: Global,
     out: &mut String,
@@ -57,15 +58,45 @@ pub fn write_mismatch(
     if write_mismatch_of(alloc, out, query, left, name)? {
         return Ok(());
     }
-    let Some(right) = right_of(query) else {
-        return Err(Unsaid);
-    };
-    if write_mismatch_of(alloc, out, query, right, name)?
-        || write_pair(alloc, out, query, left, right, name)?
+    if let Some(right) = right_of(query)
+        && (write_mismatch_of(alloc, out, query, right, name)?
+            || write_pair(alloc, out, query, left, right, name)?)
     {
         return Ok(());
     }
+    if write_summed(alloc, out, query, name)? {
+        return Ok(());
+    }
     Err(Unsaid)
+}
+
+/// Puts last which sum is of the column of this name, which has no numbers, and answers whether one is.
+fn write_summed(
+    alloc: Global,
+    out: &mut String,
+    query: &Value,
+    name: &str,
+) -> Result<bool, Unsaid> {
+    let Some((side, before)) = side_grouped(query, name) else {
+        return Ok(false);
+    };
+    let Some(kind) = kind_named(alloc, side.scan, before)? else {
+        return Ok(false);
+    };
+    if kind == ColType::Int {
+        return Ok(false);
+    }
+    let mut number: usize = 0;
+    for agg in list_of_group(query, "aggs") {
+        if text_in(agg, 0) == Some("sum") && text_in(agg, 1) == Some(name) {
+            write!(out, "group.aggs[{number}]: ")?;
+            show_name(out, name)?;
+            write!(out, " is {}, and sum takes an int", word_of(kind))?;
+            return Ok(true);
+        }
+        number = number.saturating_add(1);
+    }
+    Ok(false)
 }
 
 /// Puts last which comparison of a scan's filter does not fit the column of this name, and answers whether one does not.

@@ -1,5 +1,7 @@
 //! Names that meet no column, or more than one.
 
+use crate::groups::{write_grouped, write_no_grouped};
+use crate::joined::write_joined;
 use crate::nearest::write_nearest;
 use crate::scans::{PlacedScan, left_of, name_on, pairs_of, right_of};
 use crate::shown::show_name;
@@ -10,7 +12,7 @@ use std::alloc::{AllocError, Global};
 
 /// Some of the columns of a scan.
 #[derive(Clone, Copy, Debug, PartialEq, Eq)]
-enum Columns {
+pub enum Columns {
     /// Those of its files.
     Files,
     /// Those of which its filter may speak: the row index, those of its files, and the path.
@@ -20,7 +22,7 @@ enum Columns {
 }
 
 /// The name that a list at a key begins with.
-fn first_of<'t>(scan: &'t Value, key: &str) -> Option<&'t str> {
+pub fn first_of<'t>(scan: &'t Value, key: &str) -> Option<&'t str> {
     scan.get(key)?.get(0)?.as_str()
 }
 
@@ -33,7 +35,7 @@ fn name_in(item: &Value) -> Option<&str> {
 }
 
 /// How many items of a list at a key have this name.
-fn times_in(scan: &Value, key: &str, name: &str) -> usize {
+pub fn times_in(scan: &Value, key: &str, name: &str) -> usize {
     let mut times: usize = 0;
     if let Some(items) = items_at(scan, key) {
         for item in items {
@@ -46,7 +48,7 @@ fn times_in(scan: &Value, key: &str, name: &str) -> usize {
 }
 
 /// Whether a scan keeps the column of its files that has this name.
-fn is_kept(scan: &Value, name: &str) -> bool {
+pub fn is_kept(scan: &Value, name: &str) -> bool {
     match items_at(scan, "columns") {
         Some(items) => items.is_empty() || times_in(scan, "columns", name) > 0,
         None => true,
@@ -54,7 +56,7 @@ fn is_kept(scan: &Value, name: &str) -> bool {
 }
 
 /// The names of these columns of a scan.
-fn names_of(alloc: Global, scan: &Value, which: Columns) -> Result<Vec<&str>, Unsaid> {
+pub fn names_of(alloc: Global, scan: &Value, which: Columns) -> Result<Vec<&str>, Unsaid> {
     let mut names = Vec::new(alloc);
     if let Some(name) = first_of(scan, "row_index")
         && which != Columns::Files
@@ -104,13 +106,14 @@ pub fn write_no_column(
     if write_no_column_of(alloc, out, query, left, name)? {
         return Ok(());
     }
-    let Some(right) = right_of(query) else {
-        return Err(Unsaid);
-    };
-    if write_no_column_of(alloc, out, query, right, name)?
-        || write_no_key(alloc, out, query, left, 0, name)?
-        || write_no_key(alloc, out, query, right, 1, name)?
+    if let Some(right) = right_of(query)
+        && (write_no_column_of(alloc, out, query, right, name)?
+            || write_no_key(alloc, out, query, left, 0, name)?
+            || write_no_key(alloc, out, query, right, 1, name)?)
     {
+        return Ok(());
+    }
+    if write_no_grouped(alloc, out, query, name)? {
         return Ok(());
     }
     Err(Unsaid)
@@ -208,7 +211,7 @@ fn write_no_key(
 }
 
 /// The number of the first pair of keys that has this name on this side.
-fn place_of_key(pairs: &[Value], side: usize, name: &str) -> Option<usize> {
+pub fn place_of_key(pairs: &[Value], side: usize, name: &str) -> Option<usize> {
     let mut at: usize = 0;
     for pair in pairs {
         if name_on(pair, side) == Some(name) {
@@ -220,20 +223,27 @@ fn place_of_key(pairs: &[Value], side: usize, name: &str) -> Option<usize> {
 }
 
 /// Puts last which places of a query have this name.
-pub fn write_duplicate(out: &mut String, query: &Value, name: &str) -> Result<(), Unsaid> {
+pub fn write_duplicate(
+    alloc: Global,
+    out: &mut String,
+    query: &Value,
+    name: &str,
+) -> Result<(), Unsaid> {
     let Some(left) = left_of(query) else {
         return Err(Unsaid);
     };
     if write_twice(out, left, name)? {
         return Ok(());
     }
-    let Some(right) = right_of(query) else {
-        return Err(Unsaid);
-    };
-    if !write_twice(out, right, name)? {
-        write_joined(out, query, left, right, name)?;
+    if let Some(right) = right_of(query)
+        && (write_twice(out, right, name)? || write_joined(alloc, out, query, left, right, name)?)
+    {
+        return Ok(());
     }
-    Ok(())
+    if write_grouped(alloc, out, query, name)? {
+        return Ok(());
+    }
+    Err(Unsaid)
 }
 
 /// Puts last which places of a scan have this name, where it has two of them, and answers whether it has.
@@ -303,7 +313,7 @@ fn write_items(
 }
 
 /// Puts the places of a scan last that name a column so, behind so many others, and answers how many they are with these.
-fn write_columns(
+pub fn write_columns(
     out: &mut String,
     side: PlacedScan<'_>,
     name: &str,
@@ -319,83 +329,4 @@ fn write_columns(
         found = found.saturating_add(1);
     }
     Ok(found)
-}
-
-/// Puts last which columns of the sides of a join have this name among those of its rows.
-fn write_joined(
-    out: &mut String,
-    query: &Value,
-    left: PlacedScan<'_>,
-    right: PlacedScan<'_>,
-    name: &str,
-) -> Result<(), Unsaid> {
-    let suffix = suffix_of(query);
-    show_name(out, name)?;
-    out.push_str(" is named by")?;
-    let mut found: usize = 0;
-    if is_column(left.scan, name) {
-        found = write_columns(out, left, name, 0)?;
-    }
-    if is_column(right.scan, name) && keeps_name(query, left, name) {
-        found = write_columns(out, right, name, found)?;
-    }
-    if let Some(before) = name.strip_suffix(suffix)
-        && is_column(right.scan, before)
-        && has_suffix(query, left, before)
-    {
-        write_columns(out, right, before, found)?;
-        out.push_str(" with the suffix ")?;
-        show_name(out, suffix)?;
-    }
-    Ok(())
-}
-
-/// Whether a right column of this name has it in a join's rows.
-fn keeps_name(query: &Value, left: PlacedScan<'_>, name: &str) -> bool {
-    if is_coalesced(query, name) {
-        return kind_is_right(query);
-    }
-    !is_column(left.scan, name)
-}
-
-/// Whether a right column of this name has it with the suffix in a join's rows.
-fn has_suffix(query: &Value, left: PlacedScan<'_>, name: &str) -> bool {
-    !is_coalesced(query, name) && is_column(left.scan, name)
-}
-
-/// Whether the right column of this name and a left one become one.
-fn is_coalesced(query: &Value, name: &str) -> bool {
-    match query.get("join") {
-        Some(join) => join.get("coalesce") != Some(&Value::Bool(false)) && is_key(query, name),
-        None => false,
-    }
-}
-
-/// Whether a join keeps the lone right rows alone.
-fn kind_is_right(query: &Value) -> bool {
-    match query.get("join") {
-        Some(join) => text_at(join, "kind") == Some("right"),
-        None => false,
-    }
-}
-
-/// What is put behind the name of a right column that a left one has too.
-fn suffix_of(query: &Value) -> &str {
-    let found = match query.get("join") {
-        Some(join) => text_at(join, "suffix"),
-        None => None,
-    };
-    found.unwrap_or("_right")
-}
-
-/// Whether a column of a scan's rows has this name.
-fn is_column(scan: &Value, name: &str) -> bool {
-    first_of(scan, "row_index") == Some(name)
-        || text_at(scan, "path") == Some(name)
-        || times_in(scan, "schema", name) > 0 && is_kept(scan, name)
-}
-
-/// Whether a right key of a query's join has this name.
-fn is_key(query: &Value, name: &str) -> bool {
-    place_of_key(pairs_of(query), 1, name).is_some()
 }

@@ -5,14 +5,14 @@ use Rattle.morsel_meaning.specs.declared.fault.Fault.TheVariants as faults
 use Rattle.morsel_meaning.specs.declared.fault.Why.{Why}
 use Rattle.morsel_meaning.specs.declared.fault.Why.TheVariants as whys
 use Rattle.morsel_query.specs.RunOptions.{AreInRange}
-use Rattle.morsel_query.specs.QueryFlaws.{AreSound, IsFlaw}
+use Rattle.morsel_query.specs.QueryFlaws.{AreSound, IsFlaw, keys_of_group}
 use Rattle.morsel_query.proofs.SoundLemmas.{sound_has_no_flaw}
 use Rattle.morsel_query_text.specs.Written.{WrittenScan, WrittenJoin, WrittenQuery}
 use Rattle.morsel_query_text.specs.TextFlaws.{HasScan, HasNoBytes, IsTooDeep, right_scans, sides_written, keys_written, HasTextFlaw, IsFlawless}
 use Rattle.morsel_query_text.specs.Answers.{HasReadingFlaw, IsReadable, RefusesReading, IsRightReadable, RefusesRight, RefusesFlaw}
 
 -- a flaw of the sides, the keys or the sink's name is one of the query
-pub side_flaw_is : (query : WrittenQuery) (out : List ℕ) (why : Why) → IsFlaw (sides_written query) (keys_written query) out why → HasTextFlaw query out why
+pub side_flaw_is : (query : WrittenQuery) (out : List ℕ) (why : Why) → IsFlaw (sides_written query) (keys_written query) (keys_of_group query.group) out why → HasTextFlaw query out why
 side_flaw_is query out whys.ParseBytes flaw = absurd flaw
 side_flaw_is query out whys.PredDepth flaw = absurd flaw
 side_flaw_is query out whys.OptionRange flaw = absurd flaw
@@ -113,18 +113,18 @@ none_right P None readable none has = has
 none_right P (Some join) readable none has = elim has [ inl here ↦ none join.right readable here | inr there ↦ there ]
 
 -- a query has no flaw whose options are in range, whose sides, keys and sink have none, and whose scans have none
-pub flawless_is : (query : WrittenQuery) (out : List ℕ) → ((AreInRange query.options → ⊥) → ⊥) → AreSound (sides_written query) (keys_written query) out
+pub flawless_is : (query : WrittenQuery) (out : List ℕ) → ((AreInRange query.options → ⊥) → ⊥) → AreSound (sides_written query) (keys_written query) (keys_of_group query.group) out
     → IsReadable query.left → IsRightReadable query.join → IsFlawless query out
 flawless_is query out range sound left right whys.OptionRange flaw = range flaw
 flawless_is query out range sound left right whys.ParseBytes flaw =
     elim flaw [ inl here ↦ left whys.ParseBytes here | inr there ↦ none_right (λ scan. HasNoBytes scan.format) query.join right (λ scan is. is whys.ParseBytes) there ]
 flawless_is query out range sound left right whys.PredDepth flaw =
     elim flaw [ inl here ↦ left whys.PredDepth here | inr there ↦ none_right (λ scan. IsTooDeep scan.filter) query.join right (λ scan is. is whys.PredDepth) there ]
-flawless_is query out range sound left right whys.NoSource flaw = sound_has_no_flaw (sides_written query) (keys_written query) out whys.NoSource sound flaw
-flawless_is query out range sound left right whys.ManySources flaw = sound_has_no_flaw (sides_written query) (keys_written query) out whys.ManySources sound flaw
-flawless_is query out range sound left right whys.NoColumn flaw = sound_has_no_flaw (sides_written query) (keys_written query) out whys.NoColumn sound flaw
-flawless_is query out range sound left right whys.SinkIsSource flaw = sound_has_no_flaw (sides_written query) (keys_written query) out whys.SinkIsSource sound flaw
+flawless_is query out range sound left right whys.NoSource flaw = sound_has_no_flaw (sides_written query) (keys_written query) (keys_of_group query.group) out whys.NoSource sound flaw
+flawless_is query out range sound left right whys.ManySources flaw = sound_has_no_flaw (sides_written query) (keys_written query) (keys_of_group query.group) out whys.ManySources sound flaw
+flawless_is query out range sound left right whys.NoColumn flaw = sound_has_no_flaw (sides_written query) (keys_written query) (keys_of_group query.group) out whys.NoColumn sound flaw
+flawless_is query out range sound left right whys.SinkIsSource flaw = sound_has_no_flaw (sides_written query) (keys_written query) (keys_of_group query.group) out whys.SinkIsSource sound flaw
 flawless_is query out range sound left right whys.BlockFiles flaw = flaw
-flawless_is query out range sound left right whys.NoKeys flaw = sound_has_no_flaw (sides_written query) (keys_written query) out whys.NoKeys sound flaw
-flawless_is query out range sound left right whys.RepeatedKey flaw = sound_has_no_flaw (sides_written query) (keys_written query) out whys.RepeatedKey sound flaw
-flawless_is query out range sound left right whys.UnequalKeys flaw = sound_has_no_flaw (sides_written query) (keys_written query) out whys.UnequalKeys sound flaw
+flawless_is query out range sound left right whys.NoKeys flaw = sound_has_no_flaw (sides_written query) (keys_written query) (keys_of_group query.group) out whys.NoKeys sound flaw
+flawless_is query out range sound left right whys.RepeatedKey flaw = sound_has_no_flaw (sides_written query) (keys_written query) (keys_of_group query.group) out whys.RepeatedKey sound flaw
+flawless_is query out range sound left right whys.UnequalKeys flaw = sound_has_no_flaw (sides_written query) (keys_written query) (keys_of_group query.group) out whys.UnequalKeys sound flaw

@@ -8,3 +8,4 @@ pub mod AlikeLemmas
 pub mod JoinLemmas
 pub mod MadeLemmas
 pub mod OneLemmas
+pub mod GroupLemmas

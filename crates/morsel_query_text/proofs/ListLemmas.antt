@@ -6,7 +6,7 @@ use Rattle.serde_json.specs.View.{view, items_view}
 use Rattle.serde_json.specs.declared.value.Value.{Value}
 use Rattle.morsel_meaning.specs.declared.fault.Fault.{Fault}
 use Rattle.morsel_meaning.specs.declared.fault.Fault.TheVariants as faults
-use Rattle.morsel_query_text.specs.Trees.{each_as, two_items}
+use Rattle.morsel_query_text.specs.Trees.{each_as, two_items, three_items}
 use Rattle.morsel_query_text.specs.Reads.{Refused}
 
 moved : (T : Type 0) (done : List T) (v : T) (rest : Option (List T)) → option_map (λ (more : List T). done ++ more) (option_map (λ (values : List T). v ∷ values) rest) ≡ option_map (λ (more : List T). (done ++ v ∷ []) ++ more) rest
@@ -63,3 +63,19 @@ pair_is [] d e two = absurd (omega (arith, two))
 pair_is (a ∷ []) d e two = absurd (omega (arith, two))
 pair_is (a ∷ b ∷ []) d e two = refl
 pair_is (a ∷ b ∷ c ∷ items) d e two = absurd (omega (arith, two))
+
+-- a list that has another length than three is no triple
+pub no_triple : (items : List Value) → (length items ≡ 3 → ⊥) → three_items (items_view items) ≡ None
+no_triple [] not = refl
+no_triple (a ∷ []) not = refl
+no_triple (a ∷ b ∷ []) not = refl
+no_triple (a ∷ b ∷ c ∷ []) not = absurd (not refl)
+no_triple (a ∷ b ∷ c ∷ more ∷ items) not = refl
+
+-- one that has three is one
+pub triple_is : (items : List Value) (d e f : Value) → length items ≡ 3 → three_items (items_view items) ≡ Some (view (get_or items 0 d), view (get_or items 1 e), view (get_or items 2 f))
+triple_is [] d e f three = absurd (omega (arith, three))
+triple_is (a ∷ []) d e f three = absurd (omega (arith, three))
+triple_is (a ∷ b ∷ []) d e f three = absurd (omega (arith, three))
+triple_is (a ∷ b ∷ c ∷ []) d e f three = refl
+triple_is (a ∷ b ∷ c ∷ more ∷ items) d e f three = absurd (omega (arith, three))

@@ -5,10 +5,11 @@ use Rattle.std.specs.Prelude.{IfOk, IfErr}
 use Rattle.morsel_meaning.specs.declared.fault.Fault.{Fault}
 use Rattle.morsel_meaning.specs.declared.fault.Fault.TheVariants as faults
 use Rattle.morsel_meaning.specs.declared.fault.Why.{Why}
+use Rattle.morsel_group.specs.Asked.{GroupAsked}
 use Rattle.morsel_frame.specs.Refusals.{Refuses, fault_of_repeat}
 use Rattle.morsel_query.specs.RunOptions.{RunOptions}
 use Rattle.morsel_query.specs.Queries.{FileFormat, CsvFiles, FileScan, JoinPart, QueryParts}
-use Rattle.morsel_query.specs.QueryFlaws.{Side, JoinKeys, columns_given, side_of, right_sides, sides_of, keys_of, keys_of_query, IsFlaw, IsFlawFault}
+use Rattle.morsel_query.specs.QueryFlaws.{Side, JoinKeys, columns_given, side_of, right_sides, sides_of, keys_of, keys_of_query, keys_of_group, IsFlaw, IsFlawFault}
 use Rattle.morsel_sink.specs.declared.spec.SinkFormat.{SinkFormat}
 use Rattle.morsel_sink.specs.declared.spec.SinkSpec.{SinkSpec}
 use Rattle.morsel_query_text.specs.Written.{WrittenScan, WrittenJoin, WrittenQuery, format_written, scan_written, join_written, sink_written, query_written}
@@ -134,14 +135,14 @@ none_repeated query is = no_repeat (name_repeated query) is
 -- ---- the text
 
 -- a query is written as its parts are
-pub made_text : (query : QueryParts) (left : FileScan) (join : Option JoinPart) (sink : SinkSpec) (options : RunOptions) (written : WrittenScan) (joined : Option WrittenJoin) (format : SinkFormat)
-    → query ≡ record { left = left; join = join; sink = sink } → scan_written left ≡ written → option_map join_written join ≡ joined → sink.format ≡ format
-    → query_written query options ≡ record { left = written; join = joined; sink = sink_written format; options = options }
-made_text query left join sink options written joined format is a b c =
+pub made_text : (query : QueryParts) (left : FileScan) (join : Option JoinPart) (group : Option GroupAsked) (sink : SinkSpec) (options : RunOptions) (written : WrittenScan) (joined : Option WrittenJoin)
+    (format : SinkFormat) → query ≡ record { left = left; join = join; group = group; sink = sink } → scan_written left ≡ written → option_map join_written join ≡ joined → sink.format ≡ format
+    → query_written query options ≡ record { left = written; join = joined; group = group; sink = sink_written format; options = options }
+made_text query left join group sink options written joined format is a b c =
     ap (λ (q : QueryParts). query_written q options) is
-    ∙ ap (λ (w : WrittenScan). record { left = w; join = option_map join_written join; sink = sink_written sink.format; options = options }) a
-    ∙ ap (λ (j : Option WrittenJoin). record { left = written; join = j; sink = sink_written sink.format; options = options }) b
-    ∙ ap (λ (f : SinkFormat). record { left = written; join = joined; sink = sink_written f; options = options }) c
+    ∙ ap (λ (w : WrittenScan). record { left = w; join = option_map join_written join; group = group; sink = sink_written sink.format; options = options }) a
+    ∙ ap (λ (j : Option WrittenJoin). record { left = written; join = j; group = group; sink = sink_written sink.format; options = options }) b
+    ∙ ap (λ (f : SinkFormat). record { left = written; join = joined; group = group; sink = sink_written f; options = options }) c
 
 side_by : (sources : List (List ℕ)) (format : FileFormat) → ◌≡◌ {A = Side} (record { sources = sources; columns = columns_written (format_written format) }) (record { sources = sources; columns = columns_given format })
 side_by sources (CsvFiles fields options) = refl
@@ -157,11 +158,11 @@ keys_are : (join : Option JoinPart) → option_map keys_in (option_map join_writ
 keys_are None = refl
 keys_are (Some join) = refl
 
-flaw_written : (query : QueryParts) (options : RunOptions) (why : Why) → IsFlaw (sides_of query) (keys_of_query query) query.sink.name why → HasTextFlaw (query_written query options) query.sink.name why
+flaw_written : (query : QueryParts) (options : RunOptions) (why : Why) → IsFlaw (sides_of query) (keys_of_query query) (keys_of_group query.group) query.sink.name why → HasTextFlaw (query_written query options) query.sink.name why
 flaw_written query options why flaw =
     side_flaw_is (query_written query options) query.sink.name why
-    (subst (λ (keys : Option JoinKeys). IsFlaw (sides_written (query_written query options)) keys query.sink.name why) (sym (keys_are query.join))
-    (subst (λ (sides : List Side). IsFlaw sides (keys_of_query query) query.sink.name why) (sym (sides_are query.left query.join)) flaw))
+    (subst (λ (keys : Option JoinKeys). IsFlaw (sides_written (query_written query options)) keys (keys_of_group query.group) query.sink.name why) (sym (keys_are query.join))
+    (subst (λ (sides : List Side). IsFlaw sides (keys_of_query query) (keys_of_group query.group) query.sink.name why) (sym (sides_are query.left query.join)) flaw))
 
 no_flaw : (query : QueryParts) (options : RunOptions) (fault : Fault) → IsFlawless (query_written query options) query.sink.name → IsFlawFault query fault → ⊥
 no_flaw query options (faults.InvalidQuery why) flawless flaw = flawless why (flaw_written query options why flaw)

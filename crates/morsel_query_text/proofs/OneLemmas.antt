@@ -3,6 +3,8 @@ use Rattle.std.proofs.Common.{◌≡◌, ◌∙◌, ℕ, ℤ, Bool, List, Option
 use Rattle.std.specs.Prelude.{codes}
 use Rattle.serde_json.specs.Data.{Data}
 use Rattle.serde_json.specs.Find.{get}
+use Rattle.morsel_group.specs.Asked.{GroupAsked}
+use Rattle.morsel_group.specs.declared.spec.Agg.{Agg}
 use Rattle.morsel_meaning.specs.declared.value.Field.{Field}
 use Rattle.morsel_join.specs.declared.join_type.JoinType.{JoinType}
 use Rattle.morsel_join.specs.declared.join_type.MaintainOrderJoin.{MaintainOrderJoin}
@@ -12,7 +14,7 @@ use Rattle.morsel_query.specs.declared.join.JoinHow.{JoinHow}
 use Rattle.morsel_query.specs.RunOptions.{RunOptions, standard_options}
 use Rattle.morsel_query_text.specs.Trees.{FoundAs, SomeOf}
 use Rattle.morsel_query_text.specs.Written.{WrittenCsv, WrittenFormat, WrittenCsvFiles, WrittenScan, WrittenJoin, WrittenSink, WrittenNdJson, WrittenQuery, standard_csv}
-use Rattle.morsel_query_text.specs.QueryTexts.{CsvOf, FormatOf, ScanOf, JoinOf, SinkOf, OptionsOf, IsOneQuery}
+use Rattle.morsel_query_text.specs.QueryTexts.{CsvOf, FormatOf, ScanOf, JoinOf, GroupOf, SinkOf, OptionsOf, IsOneQuery}
 
 -- ---- what is found
 
@@ -71,8 +73,11 @@ options_with workers morsel_rows chunk_bytes distributor_buffer linearizer_buffe
   random_state = random_state;
 }
 
-abbrev query_with : WrittenScan → Option WrittenJoin → WrittenSink → RunOptions → WrittenQuery
-query_with left join sink options = record { left = left; join = join; sink = sink; options = options }
+abbrev group_with : List (List ℕ) → List Agg → GroupAsked
+group_with keys aggs = record { keys = keys; aggs = aggs }
+
+abbrev query_with : WrittenScan → Option WrittenJoin → Option GroupAsked → WrittenSink → RunOptions → WrittenQuery
+query_with left join group sink options = record { left = left; join = join; group = group; sink = sink; options = options }
 
 -- ---- one object
 
@@ -118,6 +123,11 @@ one_join tree a b x y =
     ∙ ap (λ (v : JoinArgs). join_with b.right b.left_keys b.right_keys v a.how) (one_args tree a b x y)
     ∙ ap (λ (v : JoinHow). join_with b.right b.left_keys b.right_keys b.args v) (one _ _ a.how b.how x.how y.how)
 
+one_group : (tree : Data) (a b : GroupAsked) → GroupOf tree a → GroupOf tree b → a ≡ b
+one_group tree a b x y =
+    ap (λ (v : List (List ℕ)). group_with v a.aggs) (one _ _ a.keys b.keys x.key_names y.key_names)
+    ∙ ap (λ (v : List Agg). group_with b.keys v) (one _ _ a.aggs b.aggs x.aggs y.aggs)
+
 one_sink : (tree : Data) (a b : WrittenSink) → SinkOf tree a → SinkOf tree b → a ≡ b
 one_sink tree WrittenNdJson WrittenNdJson x y = refl
 
@@ -134,8 +144,10 @@ one_options tree a b x y =
 
 pub one_query : IsOneQuery
 one_query tree a b x y =
-    ap (λ (v : WrittenScan). query_with v a.join a.sink a.options) (one_found WrittenScan ScanOf None (get (codes "left") tree) one_scan a.left b.left x.left y.left)
-    ∙ ap (λ (v : Option WrittenJoin). query_with b.left v a.sink a.options)
+    ap (λ (v : WrittenScan). query_with v a.join a.group a.sink a.options) (one_found WrittenScan ScanOf None (get (codes "left") tree) one_scan a.left b.left x.left y.left)
+    ∙ ap (λ (v : Option WrittenJoin). query_with b.left v a.group a.sink a.options)
     (one_found (Option WrittenJoin) (SomeOf JoinOf) (Some None) (get (codes "join") tree) (one_some WrittenJoin JoinOf one_join) a.join b.join x.join y.join)
-    ∙ ap (λ (v : WrittenSink). query_with b.left b.join v a.options) (one_found WrittenSink SinkOf None (get (codes "sink") tree) one_sink a.sink b.sink x.sink y.sink)
-    ∙ ap (λ (v : RunOptions). query_with b.left b.join b.sink v) (one_found RunOptions OptionsOf (Some standard_options) (get (codes "options") tree) one_options a.options b.options x.options y.options)
+    ∙ ap (λ (v : Option GroupAsked). query_with b.left b.join v a.sink a.options)
+    (one_found (Option GroupAsked) (SomeOf GroupOf) (Some None) (get (codes "group") tree) (one_some GroupAsked GroupOf one_group) a.group b.group x.group y.group)
+    ∙ ap (λ (v : WrittenSink). query_with b.left b.join b.group v a.options) (one_found WrittenSink SinkOf None (get (codes "sink") tree) one_sink a.sink b.sink x.sink y.sink)
+    ∙ ap (λ (v : RunOptions). query_with b.left b.join b.group b.sink v) (one_found RunOptions OptionsOf (Some standard_options) (get (codes "options") tree) one_options a.options b.options x.options y.options)

@@ -69,6 +69,7 @@ abbrev pub query_of_text : QueryText → WrittenQuery
 query_of_text query = record {
   left = scan_of_text query.left;
   join = option_map join_of_text query.join;
+  group = query.group;
   sink = sink_written query.sink;
   options = numbers_of query.options;
 }
@@ -101,6 +102,7 @@ abbrev pub query_of_flawless : FlawlessText → WrittenQuery
 query_of_flawless text = record {
   left = scan_of_parts text.left;
   join = option_map join_of_parts text.join;
+  group = text.group;
   sink = sink_written text.sink;
   options = text.options;
 }

@@ -1,12 +1,16 @@
 -- Which query a JSON tree is: a table, with a line for each key, its kind and its default. A line whose default is `None` is of a key
 -- that has to be there. No object has other keys than those of its lines.
-use Rattle.std.specs.Prelude.{◌≡◌, ℕ, true, false, codes, if◌then◌else◌, Option, Some, None, option_map, option_and_then, List, [], ◌∷◌}
+use Rattle.std.specs.Prelude.{◌≡◌, ℕ, Bool, true, false, codes, if◌then◌else◌, Option, Some, None, option_map, option_and_then, List, [], ◌∷◌}
 use Rattle.std.specs.Str.{bytes_eq}
 use Rattle.serde_json.specs.Data.{Data}
-use Rattle.serde_json.specs.Find.{as_str, as_bool}
+use Rattle.serde_json.specs.Find.{as_str, as_bool, as_array}
 use Rattle.morsel_meaning.specs.declared.value.ColType.{ColType}
 use Rattle.morsel_meaning.specs.declared.value.ColType.TheVariants as types
 use Rattle.morsel_meaning.specs.declared.value.Field.{Field}
+use Rattle.morsel_keys.specs.declared.reduction.Reduction.{Reduction}
+use Rattle.morsel_keys.specs.declared.reduction.Reduction.TheVariants as reductions
+use Rattle.morsel_group.specs.declared.spec.Agg.{Agg}
+use Rattle.morsel_group.specs.Asked.{GroupAsked}
 use Rattle.morsel_join.specs.declared.join_type.JoinType.{JoinType}
 use Rattle.morsel_join.specs.declared.join_type.JoinType.TheVariants as joins
 use Rattle.morsel_join.specs.declared.join_type.MaintainOrderJoin.{MaintainOrderJoin}
@@ -15,7 +19,7 @@ use Rattle.morsel_scan.specs.declared.spec.RowIndex.{RowIndex}
 use Rattle.morsel_query.specs.declared.join.JoinHow.{JoinHow}
 use Rattle.morsel_query.specs.declared.join.JoinHow.TheVariants as hows
 use Rattle.morsel_query.specs.RunOptions.{RunOptions, standard_options}
-use Rattle.morsel_query_text.specs.Trees.{has_only, at_key, IsAtKey, SomeOf, some_of, word_as, text_or_null, number, narrow_number, signed_number, list_of, pair_of}
+use Rattle.morsel_query_text.specs.Trees.{has_only, at_key, IsAtKey, SomeOf, some_of, word_as, text_or_null, number, narrow_number, signed_number, list_of, three_items, pair_of}
 use Rattle.morsel_query_text.specs.declared.join.KeySide.{KeySide}
 use Rattle.morsel_query_text.specs.declared.join.KeySide.TheVariants as key_sides
 use Rattle.morsel_query_text.specs.Predicates.{predicate}
@@ -64,6 +68,41 @@ name_on key_sides.Right pair = pair.1
 -- the name of a side in `[left name, right name]`
 abbrev pub key_of : KeySide → Data → Option (List ℕ)
 key_of side tree = option_map (name_on side) (pair_of as_str as_str tree)
+
+-- the reduction that a word names
+abbrev pub reduction_named : List ℕ → Option Reduction
+reduction_named word =
+    if bytes_eq word (codes "len") then Some reductions.Len
+    else (if bytes_eq word (codes "sum") then Some reductions.Sum
+    else (if bytes_eq word (codes "min") then Some reductions.Min
+    else (if bytes_eq word (codes "max") then Some reductions.Max
+    else (if bytes_eq word (codes "first") then Some reductions.First else (if bytes_eq word (codes "last") then Some reductions.Last else None)))))
+
+-- whether a count of rows has no column, or another reduction has one
+abbrev pub has_its_column : Reduction → Option (List ℕ) → Bool
+has_its_column reductions.Len None = true
+has_its_column reductions.Len (Some name) = false
+has_its_column op None = false
+has_its_column op (Some name) = true
+
+-- a reduction of a column, into a column of this name
+abbrev pub agg_with : Reduction → Option (List ℕ) → List ℕ → Agg
+agg_with op column output = record { op = op; column = column; output = output }
+
+-- a reduction of these parts, each as what was told; none where a part is none, or it has not its column
+abbrev pub agg_of_parts : Option Reduction → Option (Option (List ℕ)) → Option (List ℕ) → Option Agg
+agg_of_parts None column output = None
+agg_of_parts (Some op) None output = None
+agg_of_parts (Some op) (Some column) None = None
+agg_of_parts (Some op) (Some column) (Some output) = if has_its_column op column then Some (agg_with op column output) else None
+
+-- a reduction of three items
+abbrev pub agg_of_three : Data × Data × Data → Option Agg
+agg_of_three three = agg_of_parts (word_as reduction_named three.0) (text_or_null three.1) (as_str three.2)
+
+-- `[op, name, output]`, with null for the name exactly where `op` is `len`
+abbrev pub agg_of : Data → Option Agg
+agg_of tree = option_and_then agg_of_three (option_and_then three_items (as_array tree))
 
 -- ---- objects
 
@@ -125,6 +164,16 @@ pub record JoinOf (tree : Data) (join : WrittenJoin) : Type 0 where
   pub suffix : at_key (codes "suffix") as_str (Some (codes "_right")) tree ≡ Some join.args.suffix
   pub how : at_key (codes "how") (word_as how_named) (Some hows.Hash) tree ≡ Some join.how
 
+-- the keys of a group-by
+abbrev pub group_keys : List (List ℕ)
+group_keys = codes "keys" ∷ codes "aggs" ∷ []
+
+-- `group`: the columns of the key, and the reductions
+pub record GroupOf (tree : Data) (group : GroupAsked) : Type 0 where
+  pub keys : has_only group_keys tree ≡ true
+  pub key_names : at_key (codes "keys") (list_of as_str) None tree ≡ Some group.keys
+  pub aggs : at_key (codes "aggs") (list_of agg_of) (Some []) tree ≡ Some group.aggs
+
 -- the keys of an NDJSON sink
 abbrev pub ndjson_keys : List (List ℕ)
 ndjson_keys = codes "format" ∷ []
@@ -155,13 +204,14 @@ pub record OptionsOf (tree : Data) (options : RunOptions) : Type 0 where
 
 -- the keys of a query
 abbrev pub query_keys : List (List ℕ)
-query_keys = codes "left" ∷ codes "join" ∷ codes "sink" ∷ codes "options" ∷ []
+query_keys = codes "left" ∷ codes "join" ∷ codes "group" ∷ codes "sink" ∷ codes "options" ∷ []
 
 -- a query
 pub record QueryOf (tree : Data) (query : WrittenQuery) : Type 0 where
   pub keys : has_only query_keys tree ≡ true
   pub left : IsAtKey (codes "left") ScanOf None tree query.left
   pub join : IsAtKey (codes "join") (SomeOf JoinOf) (Some None) tree query.join
+  pub group : IsAtKey (codes "group") (SomeOf GroupOf) (Some None) tree query.group
   pub sink : IsAtKey (codes "sink") SinkOf None tree query.sink
   pub options : IsAtKey (codes "options") OptionsOf (Some standard_options) tree query.options
 

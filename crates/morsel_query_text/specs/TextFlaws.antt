@@ -10,7 +10,7 @@ use Rattle.morsel_meaning.specs.declared.fault.Why.TheVariants.{OptionRange, Par
 use Rattle.morsel_frame.specs.Names.{first_repeated}
 use Rattle.morsel_grammar.specs.Dialect.{Dialect, IsDialect}
 use Rattle.morsel_query.specs.RunOptions.{AreInRange}
-use Rattle.morsel_query.specs.QueryFlaws.{Side, JoinKeys, IsFlaw}
+use Rattle.morsel_query.specs.QueryFlaws.{Side, JoinKeys, IsFlaw, keys_of_group}
 use Rattle.morsel_query_text.specs.Predicates.{tree_levels}
 use Rattle.morsel_query_text.specs.Written.{WrittenCsv, WrittenFormat, WrittenCsvFiles, WrittenScan, WrittenJoin, WrittenQuery, csv_written}
 
@@ -72,7 +72,7 @@ abbrev pub HasTextFlaw : WrittenQuery → List ℕ → Why → Type 0
 HasTextFlaw query out OptionRange = AreInRange query.options → ⊥
 HasTextFlaw query out ParseBytes = HasScan (λ scan. HasNoBytes scan.format) (scans_written query)
 HasTextFlaw query out PredDepth = HasScan (λ scan. IsTooDeep scan.filter) (scans_written query)
-HasTextFlaw query out why = IsFlaw (sides_written query) (keys_written query) out why
+HasTextFlaw query out why = IsFlaw (sides_written query) (keys_written query) (keys_of_group query.group) out why
 
 -- a query without flaws
 abbrev pub IsFlawless : WrittenQuery → List ℕ → Type 0

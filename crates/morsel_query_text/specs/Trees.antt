@@ -88,6 +88,14 @@ two_items (item a no_items) = None
 two_items (item a (item b no_items)) = Some (a, b)
 two_items (item a (item b (item c ds))) = None
 
+-- three items and no more
+abbrev pub three_items : Items → Option (Data × Data × Data)
+three_items no_items = None
+three_items (item a no_items) = None
+three_items (item a (item b no_items)) = None
+three_items (item a (item b (item c no_items))) = Some (a, b, c)
+three_items (item a (item b (item c (item d ds)))) = None
+
 -- two values
 abbrev pub both : {A B : Type 0} → Option A → Option B → Option (A × B)
 both a b = option_and_then (λ x. option_map (λ y. (x, y)) b) a

@@ -3,6 +3,7 @@ use Rattle.std.specs.Prelude.{ℕ, ℤ, Bool, Option, option_map, List, [], ◌�
 use Rattle.serde_json.specs.Data.{Data}
 use Rattle.morsel_meaning.specs.declared.value.Field.{Field}
 use Rattle.morsel_grammar.specs.Dialect.{Dialect, standard}
+use Rattle.morsel_group.specs.Asked.{GroupAsked}
 use Rattle.morsel_scan.specs.declared.spec.RowIndex.{RowIndex}
 use Rattle.morsel_query.specs.RunOptions.{RunOptions}
 use Rattle.morsel_join.specs.declared.payload.JoinArgs.{JoinArgs}
@@ -53,6 +54,7 @@ pub data WrittenSink : Type 0 where
 pub record WrittenQuery : Type 0 where
   pub left : WrittenScan
   pub join : Option WrittenJoin
+  pub group : Option GroupAsked
   pub sink : WrittenSink
   pub options : RunOptions
 
@@ -108,6 +110,7 @@ abbrev pub query_written : QueryParts → RunOptions → WrittenQuery
 query_written query options = record {
   left = scan_written query.left;
   join = option_map join_written query.join;
+  group = query.group;
   sink = sink_written query.sink.format;
   options = options;
 }

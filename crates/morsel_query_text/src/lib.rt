@@ -4,6 +4,7 @@
 #![tactic(auto)]
 
 mod csv;
+mod group;
 mod join;
 mod lists;
 mod make;

@@ -2,7 +2,7 @@
 ghost use Rattle.std.specs.Prelude.{◌≡◌, Some, None, [], IfOk, IfErr, option_map, option_and_then};
 ghost use Rattle.serde_json.specs.Find.{as_str, as_array};
 ghost use Rattle.serde_json.specs.View.{view, items_view};
-ghost use Rattle.morsel_query_text.specs.Trees.{at_key, some_of, each_as, list_of, pair_of, two_items, number, narrow_number, signed_number};
+ghost use Rattle.morsel_query_text.specs.Trees.{at_key, some_of, each_as, list_of, pair_of, three_items, two_items, number, narrow_number, signed_number};
 ghost use Rattle.morsel_query_text.specs.QueryTexts.{type_named, field, row_index};
 ghost use Rattle.morsel_query_text.specs.Reads.{Refused};
 
@@ -83,6 +83,27 @@ fn two_of(items: &[Value]) -> Option<(&Value, &Value)>
 {
     if items.len() == 2 {
         Some((&items[0], &items[1]))
+    } else {
+        None
+    }
+}
+
+/// The three values of a list that has no more.
+pub fn triple_of(tree: &Value) -> Option<(&Value, &Value, &Value)>
+    ensures { option_map (λ triple. (view triple.0.now, view triple.1.now, view triple.2.now)) result ≡ option_and_then three_items (as_array (view tree.now)) }
+{
+    match tree.as_array() {
+        Some(items) => three_of(items),
+        None => None,
+    }
+}
+
+/// The three items of a list that has no more.
+fn three_of(items: &[Value]) -> Option<(&Value, &Value, &Value)>
+    ensures { option_map (λ triple. (view triple.0.now, view triple.1.now, view triple.2.now)) result ≡ three_items (items_view items.now) }
+{
+    if items.len() == 3 {
+        Some((&items[0], &items[1], &items[2]))
     } else {
         None
     }

@@ -1,8 +1,8 @@
 //! The query of a text, where it has no flaw.
 ghost use Rattle.std.specs.Prelude.{◌≡◌, ◌∷◌, [], Some, None, IfOk, IfErr, IfSome, IsNone, IsOkUnless, option_map};
 ghost use Rattle.morsel_frame.specs.Refusals.{Refuses, fault_of_repeat};
-ghost use Rattle.morsel_query.specs.Queries.{file_scan, join_part};
-ghost use Rattle.morsel_query.specs.QueryFlaws.{AreSound, IsFlaw};
+ghost use Rattle.morsel_query.specs.Queries.{file_scan, join_part, HaveTheirColumns};
+ghost use Rattle.morsel_query.specs.QueryFlaws.{AreSound, IsFlaw, keys_of_group};
 ghost use Rattle.morsel_query_text.specs.Predicates.{pred_tree};
 ghost use Rattle.morsel_query_text.specs.Written.{join_written, scan_written};
 ghost use Rattle.morsel_query_text.specs.TextFlaws.{IsFlawless, IsTooDeep, keys_in, keys_written, name_repeated, repeat_of_format, repeat_of_scans, right_scans, side_written, sides_written};
@@ -15,9 +15,10 @@ use crate::text::QueryText;
 use morsel_expr::{Pred, PredNode};
 use morsel_frame::Schema;
 use morsel_grammar::CsvOptions;
+use morsel_group::GroupSpec;
 use morsel_join::JoinArgs;
 use morsel_meaning::{Fault, Field, Name, Why};
-use morsel_query::{JoinHow, JoinSpec, Options, Query, flaw_of_keys, flaw_of_side};
+use morsel_query::{JoinHow, JoinSpec, Options, Query, flaw_of_group, flaw_of_keys, flaw_of_side};
 use morsel_scan::{FileScanOptions, ScanFormat, ScanSpec};
 use morsel_sink::{SinkFormat, SinkSpec};
 use std::alloc::Global;
@@ -47,12 +48,14 @@ struct JoinParts {
 struct FlawlessText {
     left: ScanParts,
     join: Option<JoinParts>,
+    group: Option<GroupSpec>,
     sink: SinkFormat,
     options: Options,
 }
 
 /// The query and the options of a text. Each flaw comes before a name that a schema has twice.
 pub fn make_query(alloc: Global, text: QueryText<'_>, out: &str) -> Result<(Query, Options), Fault>
+    requires { HaveTheirColumns text.group }
     ensures ok { IfOk result (λ pair. IsMadeOf (query_of_text text.entry) out.now pair.0 pair.1) }
     ensures refused { IfErr result (RefusesMade (query_of_text text.entry) out.now) }
 {
@@ -62,7 +65,9 @@ pub fn make_query(alloc: Global, text: QueryText<'_>, out: &str) -> Result<(Quer
 
 /// A text that has no flaw; else one of its flaws.
 fn flawless_text(alloc: Global, text: QueryText<'_>, out: &str) -> Result<FlawlessText, Fault>
+    requires { HaveTheirColumns text.group }
     ensures ok { IfOk result (λ made. query_of_flawless made ≡ query_of_text text.entry) }
+    ensures columns { IfOk result (λ made. HaveTheirColumns made.group) }
     ensures flawless { IfOk result (λ made. IsFlawless (query_of_text text.entry) out.now) }
     ensures refused { IfErr result (RefusesFlaw (query_of_text text.entry) out.now) }
 {
@@ -72,6 +77,7 @@ fn flawless_text(alloc: Global, text: QueryText<'_>, out: &str) -> Result<Flawle
     let QueryText {
         left,
         join,
+        group,
         sink,
         options,
     } = text;
@@ -81,16 +87,29 @@ fn flawless_text(alloc: Global, text: QueryText<'_>, out: &str) -> Result<Flawle
     Ok(FlawlessText {
         left,
         join,
+        group,
         sink,
         options,
     })
 }
 
 /// A flaw of the sides, of the keys and of the sink's name.
-#[tactic(auto, using(morsel_query::proofs::SideLemmas::flaw_in_front, morsel_query::proofs::SideLemmas::flaw_behind, morsel_query::proofs::SideLemmas::sound_with_side))]
+#[tactic(auto, using(morsel_query::proofs::SideLemmas::flaw_before_group, morsel_query::proofs::SideLemmas::flaw_in_group, morsel_query::proofs::SideLemmas::sound_with_group))]
 fn flaw_of_text(text: &QueryText<'_>, out: &str) -> Option<Why>
-    ensures some { IfSome result (IsFlaw (sides_written (query_of_text text.now)) (keys_written (query_of_text text.now)) out.now) }
-    ensures none { IsNone result → AreSound (sides_written (query_of_text text.now)) (keys_written (query_of_text text.now)) out.now }
+    ensures some { IfSome result (IsFlaw (sides_written (query_of_text text.now)) (keys_written (query_of_text text.now)) (keys_of_group text.now.group) out.now) }
+    ensures none { IsNone result → AreSound (sides_written (query_of_text text.now)) (keys_written (query_of_text text.now)) (keys_of_group text.now.group) out.now }
+{
+    if let Some(why) = flaw_of_sides(text, out) {
+        return Some(why);
+    }
+    flaw_of_group(&text.group)
+}
+
+/// A flaw of the sides, of the keys of a join and of the sink's name.
+#[tactic(auto, using(morsel_query::proofs::SideLemmas::flaw_in_front, morsel_query::proofs::SideLemmas::flaw_behind, morsel_query::proofs::SideLemmas::sound_with_side))]
+fn flaw_of_sides(text: &QueryText<'_>, out: &str) -> Option<Why>
+    ensures some { IfSome result (IsFlaw (sides_written (query_of_text text.now)) (keys_written (query_of_text text.now)) None out.now) }
+    ensures none { IsNone result → AreSound (sides_written (query_of_text text.now)) (keys_written (query_of_text text.now)) None out.now }
 {
     if let Some(why) = flaw_of_scan(&text.left, out) {
         return Some(why);
@@ -103,8 +122,8 @@ fn flaw_of_text(text: &QueryText<'_>, out: &str) -> Option<Why>
 
 /// A flaw of a scan.
 fn flaw_of_scan(scan: &ScanText<'_>, out: &str) -> Option<Why>
-    ensures some { IfSome result (IsFlaw (side_written (scan_of_text scan.now) ∷ []) None out.now) }
-    ensures none { IsNone result → AreSound (side_written (scan_of_text scan.now) ∷ []) None out.now }
+    ensures some { IfSome result (IsFlaw (side_written (scan_of_text scan.now) ∷ []) None None out.now) }
+    ensures none { IsNone result → AreSound (side_written (scan_of_text scan.now) ∷ []) None None out.now }
 {
     flaw_of_side(&scan.files, Some(scan.fields.len()), out)
 }
@@ -112,8 +131,8 @@ fn flaw_of_scan(scan: &ScanText<'_>, out: &str) -> Option<Why>
 /// A flaw of a join, its right side included.
 #[tactic(auto, using(morsel_query::proofs::SideLemmas::flaw_in_front, morsel_query::proofs::SideLemmas::flaw_among_keys, morsel_query::proofs::SideLemmas::sound_with_keys))]
 fn flaw_of_join(join: &JoinText<'_>, out: &str) -> Option<Why>
-    ensures some { IfSome result (IsFlaw (side_written (scan_of_text join.now.right) ∷ []) (Some (keys_in (join_of_text join.now))) out.now) }
-    ensures none { IsNone result → AreSound (side_written (scan_of_text join.now.right) ∷ []) (Some (keys_in (join_of_text join.now))) out.now }
+    ensures some { IfSome result (IsFlaw (side_written (scan_of_text join.now.right) ∷ []) (Some (keys_in (join_of_text join.now))) None out.now) }
+    ensures none { IsNone result → AreSound (side_written (scan_of_text join.now.right) ∷ []) (Some (keys_in (join_of_text join.now))) None out.now }
 {
     if let Some(why) = flaw_of_scan(&join.right, out) {
         return Some(why);
@@ -182,20 +201,22 @@ fn readable_join_if(alloc: Global, join: Option<JoinText<'_>>) -> Result<Option<
 
 /// The query of a text without flaws, whose schemas have no name twice.
 fn make_flawless(alloc: Global, text: FlawlessText, out: &str) -> Result<(Query, Options), Fault>
-    requires { IsFlawless (query_of_flawless text) out.now }
+    requires flawless { IsFlawless (query_of_flawless text) out.now }
+    requires columns { HaveTheirColumns text.group }
     ensures ok { IfOk result (λ pair. IsMadeOfParts (query_of_flawless text) out.now pair.0 pair.1) }
     ensures refused { Refuses (fault_of_repeat (name_repeated (query_of_flawless text))) result }
 {
     let FlawlessText {
         left,
         join,
+        group,
         sink,
         options,
     } = text;
     let left = make_scan(alloc, left)?;
     let join = make_join_if(alloc, join)?;
     let sink = make_sink(alloc, sink, out)?;
-    Ok((Query::new(left, join, sink)?, options))
+    Ok((Query::new(left, join, group, sink)?, options))
 }
 
 /// The sink of this name.

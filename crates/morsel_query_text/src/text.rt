@@ -1,17 +1,20 @@
 //! A query as its text has it, before its flaws are looked for.
 ghost use Rattle.std.specs.Prelude.{Some, None, codes, option_map, IfOk, IfErr, IfSome, IsNone};
 ghost use Rattle.serde_json.specs.View.{view};
+ghost use Rattle.morsel_query.specs.Queries.{HaveTheirColumns};
 ghost use Rattle.morsel_query.specs.RunOptions.{RunOptions, standard_options};
 ghost use Rattle.morsel_query_text.specs.Trees.{IsAtKey, SomeOf};
 ghost use Rattle.morsel_query_text.specs.Written.{WrittenSink, sink_written};
-ghost use Rattle.morsel_query_text.specs.QueryTexts.{QueryOf, JoinOf, SinkOf, OptionsOf};
+ghost use Rattle.morsel_query_text.specs.QueryTexts.{QueryOf, JoinOf, GroupOf, SinkOf, OptionsOf};
 ghost use Rattle.morsel_query_text.specs.Borrowed.{query_of_text, join_of_text, numbers_of};
 ghost use Rattle.morsel_query_text.specs.Reads.{RefusedBy};
 
+use crate::group::read_group;
 use crate::join::{JoinText, read_join};
 use crate::options::OptionNumbers;
 use crate::scan::{ScanText, read_scan};
 use crate::trees::{has_only_keys, text_at};
+use morsel_group::GroupSpec;
 use morsel_meaning::Fault;
 use morsel_sink::SinkFormat;
 use serde_json::Value;
@@ -22,16 +25,18 @@ use std::alloc::Global;
 pub struct QueryText<'t> {
     pub left: ScanText<'t>,
     pub join: Option<JoinText<'t>>,
+    pub group: Option<GroupSpec>,
     pub sink: SinkFormat,
     pub options: OptionNumbers,
 }
 
 /// The keys of a query.
-const KEYS: [&str; 4] = ["left", "join", "sink", "options"];
+const KEYS: [&str; 5] = ["left", "join", "group", "sink", "options"];
 
 /// The query that a tree is.
 pub fn read_query(alloc: Global, tree: &Value) -> Result<QueryText<'_>, Fault>
     ensures ok { IfOk result (λ query. QueryOf (view tree.now) (query_of_text query)) }
+    ensures columns { IfOk result (λ query. HaveTheirColumns query.group) }
     ensures refused { IfErr result (RefusedBy (QueryOf (view tree.now))) }
 {
     if !has_only_keys(tree, &KEYS) {
@@ -48,9 +53,11 @@ pub fn read_query(alloc: Global, tree: &Value) -> Result<QueryText<'_>, Fault>
     };
     let left = read_scan(alloc, left)?;
     let join = join_at(alloc, tree)?;
+    let group = group_at(alloc, tree)?;
     Ok(QueryText {
         left,
         join,
+        group,
         sink,
         options,
     })
@@ -64,6 +71,19 @@ fn join_at(alloc: Global, tree: &Value) -> Result<Option<JoinText<'_>>, Fault>
 {
     match tree.get("join") {
         Some(found) => Ok(Some(read_join(alloc, found)?)),
+        None => Ok(None),
+    }
+}
+
+/// The group-by of a query; none where the key is absent.
+#[tactic(auto, using(crate::proofs::GroupLemmas::refused_group))]
+fn group_at(alloc: Global, tree: &Value) -> Result<Option<GroupSpec>, Fault>
+    ensures ok { IfOk result (λ group. IsAtKey (codes "group") (SomeOf GroupOf) (Some None) (view tree.now) group) }
+    ensures columns { IfOk result (λ group. HaveTheirColumns group) }
+    ensures refused { IfErr result (RefusedBy (IsAtKey (codes "group") (SomeOf GroupOf) (Some None) (view tree.now))) }
+{
+    match tree.get("group") {
+        Some(found) => Ok(Some(read_group(alloc, found)?)),
         None => Ok(None),
     }
 }

@@ -66,7 +66,7 @@ pub fn text_or_null_at<'t>(
 }
 
 /// A text, or none where it is null.
-fn text_or_null_of(tree: &Value) -> Option<Option<&str>>
+pub fn text_or_null_of(tree: &Value) -> Option<Option<&str>>
     ensures { option_map (λ told. option_map (λ text. text.now) told) result ≡ text_or_null (view tree.now) }
 {
     if tree.is_null() {

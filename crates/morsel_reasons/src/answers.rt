@@ -8,7 +8,7 @@ use morsel_file_lines::{bytes_from, open};
 use morsel_outside::Io;
 use morsel_query_reasons::{
     Unsaid, queried, scanned, show, write_columns, write_duplicate, write_flaw_of, write_keys,
-    write_mismatch, write_no_column, write_sink,
+    write_mismatch, write_no_column, write_sink, write_sums,
 };
 use serde_json::{Error, Value};
 use std::alloc::{AllocError, Global};
@@ -228,7 +228,8 @@ fn write_of_tree<H: Io>(
         Told::InvalidQuery(why) => write_flaw_of(out, tree, why),
         Told::ColumnNotFound(name) => write_no_column(alloc, out, tree, name),
         Told::SchemaMismatch(name) => write_mismatch(alloc, out, tree, name),
-        Told::Duplicate(name) => write_duplicate(out, tree, name),
+        Told::Duplicate(name) => write_duplicate(alloc, out, tree, name),
+        Told::SumTooLarge => Ok(write_sums(out, tree)?),
         Told::QueryText => write_keys(alloc, out, tree),
         Told::Usage => Ok(()),
     }

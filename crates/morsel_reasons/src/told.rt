@@ -35,6 +35,8 @@ pub enum Told<'l> {
     SchemaMismatch(&'l str),
     /// Two columns have this name.
     Duplicate(&'l str),
+    /// The total of a group is too large.
+    SumTooLarge,
     /// The bytes of the query file are no query.
     QueryText,
     /// The words are no command.
@@ -44,6 +46,7 @@ pub enum Told<'l> {
 /// What a line tells; none where there is no more to say of it.
 pub fn told_of(line: &str) -> Option<Told<'_>> {
     match line {
+        "error 10: sum too large" => Some(Told::SumTooLarge),
         "error 11: query text" => Some(Told::QueryText),
         "error 12: usage" => Some(Told::Usage),
         _ if line.parse::<u64>().is_ok() => Some(Told::Rows),

@@ -1,5 +1,7 @@
 //! Group-bys of rows with one column, which is their key.
-ghost use Rattle.std.specs.Prelude.{◌≡◌, None, []};
+ghost use Rattle.std.specs.Prelude.{◌≡◌, None, Some, []};
+ghost use Rattle.morsel_group_units.specs.GroupAsks.{GroupRulesSeen};
+ghost use Rattle.morsel_group_phases.specs.GroupPhases.{group_rules};
 ghost use Rattle.morsel_group_node_uses.specs.Groups.{grouped_columns};
 
 use super::jobs::Rows;
@@ -61,6 +63,7 @@ fn rules_of(rt: &impl Abort, alloc: Global) -> GroupRules
 pub fn group_of(rt: &impl Abort, alloc: Global, rows: &Rows) -> Group
     requires rows { rows.now.columns.value ≡ grouped_columns }
     ensures none { result.pipelines ≡ None }
+    ensures columns { (rules : GroupRulesSeen) → group_rules result.phase ≡ Some rules → rules.columns ≡ grouped_columns }
 {
     let rules = rules_of(rt, alloc);
     let rules = Arc::new(alloc, rules).expect(rt, "memory");

@@ -37,6 +37,16 @@ impl NotingGate {
     pub fn sweeps(&self) -> u64 {
         self.sweeps.load(Ordering::Relaxed)
     }
+
+    /// How many polls there were.
+    pub fn polls(&self) -> u64 {
+        self.polls.load(Ordering::Relaxed)
+    }
+
+    /// Whether each task that entered left.
+    pub fn all_left(&self) -> bool {
+        self.left.load(Ordering::Relaxed) == self.entered.load(Ordering::Relaxed)
+    }
 }
 
 /// The bit of a task's number.
@@ -104,11 +114,8 @@ const TWO_ROWS: Noted<'static> = Noted {
 fn six_tasks_pass_the_gate(rt: HostRuntime) {
     let gate = after_run(&rt, rt.alloc(), TWO_ROWS);
     assert_eq!(rt; gate.entered.load(Ordering::Relaxed).count_ones(), 6);
-    assert_eq!(rt;
-        gate.left.load(Ordering::Relaxed),
-        gate.entered.load(Ordering::Relaxed)
-    );
-    assert!(rt; gate.polls.load(Ordering::Relaxed) >= 12);
+    assert!(rt; gate.all_left());
+    assert!(rt; gate.polls() >= 12);
 }
 
 /// Nine rows.

@@ -1,6 +1,7 @@
 //! Queries made by hand: at the edges of their numbers and past them.
 use morsel_frame::Schema;
 use morsel_grammar::CsvOptions;
+use morsel_group::GroupSpec;
 use morsel_join::{JoinArgs, JoinType, MaintainOrderJoin};
 use morsel_meaning::{ColType, Fault, Field, Name, Why};
 use morsel_query::{JoinHow, JoinSpec, Query};
@@ -73,7 +74,7 @@ fn flaw_of(
         name: Name::new(alloc, sink)?,
         format: SinkFormat::NdJson,
     };
-    why_of(Query::new(left, None, sink))
+    why_of(Query::new(left, None, None, sink))
 }
 
 /// The flaw for which a query is refused, if it is.
@@ -123,7 +124,23 @@ fn flaw_of_join(
         name: Name::new(alloc, "o")?,
         format: SinkFormat::NdJson,
     };
-    why_of(Query::new(scan(alloc, 1, 2)?, Some(join), sink))
+    why_of(Query::new(scan(alloc, 1, 2)?, Some(join), None, sink))
+}
+
+/// The flaw for which a query with a group-by of these keys is refused, if it is.
+fn flaw_of_group(alloc: Global, keys: &[&str]) -> Result<Option<Why>, Fault> {
+    let keys = names_of(alloc, keys)?;
+    let aggs = Vec::new(alloc);
+    let sink = SinkSpec {
+        name: Name::new(alloc, "o")?,
+        format: SinkFormat::NdJson,
+    };
+    why_of(Query::new(
+        scan(alloc, 1, 2)?,
+        None,
+        Some(GroupSpec { keys, aggs }),
+        sink,
+    ))
 }
 
 #[test]
@@ -175,6 +192,19 @@ fn a_join_has_as_many_left_keys_as_right_ones_each_once(rt: HostRuntime) -> Resu
     assert_eq!(rt;
         flaw_of_join(alloc, 0, &["c0"], &["c0"])?,
         Some(Why::NoColumn)
+    );
+    Ok(())
+}
+
+#[test]
+fn a_group_has_one_key_at_least_each_once(rt: HostRuntime) -> Result<(), Fail> {
+    let alloc = rt.alloc();
+    assert_eq!(rt; flaw_of_group(alloc, &["c0"])?, None);
+    assert_eq!(rt; flaw_of_group(alloc, &["c1", "c0"])?, None);
+    assert_eq!(rt; flaw_of_group(alloc, &[])?, Some(Why::NoKeys));
+    assert_eq!(rt;
+        flaw_of_group(alloc, &["c0", "c1", "c0"])?,
+        Some(Why::RepeatedKey)
     );
     Ok(())
 }

@@ -160,7 +160,7 @@ fn is_read(rt: &impl Abort, alloc: Global, text: &str, asked: Asked<'_>, wanted:
 /// Making the query answers its parts, and checking it answers this, in words.
 fn is_made(rt: &impl Abort, alloc: Global, asked: Asked<'_>, wanted: &str, checked: &str) {
     let scan = scan_of(rt, alloc, asked);
-    let query = Query::new(scan, None, sink_of(rt, alloc)).expect(rt, "a query");
+    let query = Query::new(scan, None, None, sink_of(rt, alloc)).expect(rt, "a query");
     is_shown(rt, alloc, &query, wanted);
     is_answered(rt, alloc, check(alloc, &query), checked);
     drop(query);

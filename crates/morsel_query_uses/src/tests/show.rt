@@ -1,6 +1,7 @@
 //! Queries as these tests write them: each part by the call that gives it.
 use morsel_expr::{Pred, PredNode, Rhs};
 use morsel_grammar::CsvOptions;
+use morsel_group::{Agg, GroupSpec};
 use morsel_meaning::{Fault, Field, Name, Value};
 use morsel_query::{JoinSpec, Options, Query};
 use morsel_scan::{FileScanOptions, RowIndex, ScanFormat, ScanSpec};
@@ -171,6 +172,31 @@ fn show_join(text: &mut String, join: &Option<JoinSpec>) -> Result<(), Fault> {
     show_scan(text, &join.right)
 }
 
+/// A reduction.
+fn show_agg(text: &mut String, agg: &Agg) -> Result<(), Fault> {
+    let op = agg.op;
+    write!(text, "{op:?} ")?;
+    show_name(text, agg.column.as_ref())?;
+    let output = &agg.output;
+    write!(text, " as {output}|")?;
+    Ok(())
+}
+
+/// A group-by, where there is one.
+fn show_group(text: &mut String, group: &Option<GroupSpec>) -> Result<(), Fault> {
+    let Some(group) = group else {
+        return Ok(());
+    };
+    text.push_str("group by ")?;
+    show_names(text, &group.keys)?;
+    text.push_str(" with ")?;
+    for agg in group.aggs.as_slice() {
+        show_agg(text, agg)?;
+    }
+    text.push_str("\n")?;
+    Ok(())
+}
+
 /// A sink.
 pub fn show_sink(text: &mut String, sink: &SinkSpec) -> Result<(), Fault> {
     let SinkSpec { name, format } = sink;
@@ -183,6 +209,7 @@ pub fn is_shown(rt: &impl Abort, alloc: Global, query: &Query, wanted: &str) {
     let mut found = String::new(alloc);
     show_scan(&mut found, query.left()).expect(rt, "memory");
     show_join(&mut found, query.join()).expect(rt, "memory");
+    show_group(&mut found, query.group()).expect(rt, "memory");
     show_sink(&mut found, query.sink()).expect(rt, "memory");
     assert_eq!(rt; found.as_str(), wanted);
     drop(found);

@@ -151,3 +151,22 @@ fn what_a_join_says_is_read(rt: HostRuntime) {
         "ok",
     );
 }
+
+/// A group-by that says all that a group-by can say.
+const GROUP: &str =
+    r#"{"left":{"format":"csv","files":["a.csv"],"schema":[["k","int"],["v","text"]]},"group":{"keys":["v","k"],"aggs":[["len",null,"n"],["sum","k","s"],["min","v","a"],["max","v","b"],["first","k","c"],["last","k","d"]]},"sink":{"format":"ndjson"}}"#;
+
+/// The same, part by part.
+const GROUP_SHOWN: &str = "files(a.csv|) schema(k Int|v Text|)
+separator 44 quote Some(34) eol 10 comment none header true null <> ignores false
+columns() slice None index none path none lacking false
+filter none
+group by v|k| with Len none as n|Sum <k> as s|Min <v> as a|Max <v> as b|First <k> as c|Last <k> as d|
+sink <out.ndjson> NdJson
+";
+
+#[test]
+fn what_a_group_says_is_read(rt: HostRuntime) {
+    let numbers = [4, 100_000, 65_536, 4, 4, 16_777_216];
+    is_read(&rt, rt.alloc(), GROUP, GROUP_SHOWN, numbers, 0, "ok");
+}

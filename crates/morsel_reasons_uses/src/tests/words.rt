@@ -321,6 +321,189 @@ fn flaws_of_queries_with_a_join_are_told(rt: HostRuntime) {
     all_hold(&rt, rt.alloc(), JOIN_FLAWS);
 }
 
+/// A query with a group-by whose key is no column.
+const NO_GROUP: Case<'static> = Case {
+    words: "local q o",
+    files: &[(
+        "q",
+        br#"{"left":{"format":"csv","files":["a"],"schema":[["id","int"],["name","text"],["n","int"]]},"group":{"keys":["nme"]},"sink":{"format":"ndjson"}}"#,
+    )],
+    line: "error 7: column not found: nme",
+    told: "group.keys[0]: \"nme\" is no column: name, n, id",
+};
+
+/// Flaws of queries with a group-by.
+const GROUP_FLAWS: &[Case<'static>] = &[
+    NO_GROUP,
+    Case {
+        files: &[(
+            "q",
+            br#"{"left":{"format":"csv","files":["a"],"schema":[["id","int"],["name","text"],["n","int"]]},"group":{"keys":["name"],"aggs":[["max","v","most"]]},"sink":{"format":"ndjson"}}"#,
+        )],
+        line: "error 7: column not found: v",
+        told: "group.aggs[0][1]: \"v\" is no column: n, id, name",
+        ..NO_GROUP
+    },
+    Case {
+        files: &[(
+            "q",
+            br#"{"left":{"format":"csv","files":["a"],"schema":[["id","int"],["name","text"],["n","int"]],"columns":["id"]},"group":{"keys":["name"]},"sink":{"format":"ndjson"}}"#,
+        )],
+        line: "error 7: column not found: name",
+        told: "group.keys[0]: \"name\" is not among left.columns",
+        ..NO_GROUP
+    },
+    Case {
+        files: &[(
+            "q",
+            br#"{"left":{"format":"csv","files":["a"],"schema":[["id","int"],["name","text"],["n","int"]]},"join":{"right":{"format":"csv","files":["b"],"schema":[["id","int"],["name","text"],["city","text"]]},"on":[["id","id"]]},"group":{"keys":["cty"]},"sink":{"format":"ndjson"}}"#,
+        )],
+        line: "error 7: column not found: cty",
+        told: "group.keys[0]: \"cty\" is no column: city, id, n, name, name_right",
+        ..NO_GROUP
+    },
+    Case {
+        files: &[(
+            "q",
+            br#"{"left":{"format":"csv","files":["a"],"schema":[["id","int"],["name","text"],["n","int"]]},"group":{"keys":["n"],"aggs":[["len",null,"rows"],["sum","name","total"]]},"sink":{"format":"ndjson"}}"#,
+        )],
+        line: "error 8: schema mismatch: name",
+        told: "group.aggs[1]: \"name\" is text, and sum takes an int",
+        ..NO_GROUP
+    },
+    Case {
+        files: &[(
+            "q",
+            br#"{"left":{"format":"csv","files":["a"],"schema":[["id","int"],["name","text"],["n","int"]]},"join":{"right":{"format":"csv","files":["b"],"schema":[["id","int"],["name","text"],["city","text"]]},"on":[["id","id"]]},"group":{"keys":["n"],"aggs":[["sum","name_right","total"]]},"sink":{"format":"ndjson"}}"#,
+        )],
+        line: "error 8: schema mismatch: name_right",
+        told: "group.aggs[0]: \"name_right\" is text, and sum takes an int",
+        ..NO_GROUP
+    },
+    Case {
+        files: &[(
+            "q",
+            br#"{"left":{"format":"csv","files":["a"],"schema":[["id","int"],["name","text"],["n","int"]]},"group":{"keys":["name"],"aggs":[["sum","n","total"],["max","n","total"]]},"sink":{"format":"ndjson"}}"#,
+        )],
+        line: "error 9: duplicate column: total",
+        told: "\"total\" is named by group.aggs[0] and group.aggs[1]",
+        ..NO_GROUP
+    },
+    Case {
+        files: &[(
+            "q",
+            br#"{"left":{"format":"csv","files":["a"],"schema":[["id","int"],["name","text"],["n","int"]]},"join":{"right":{"format":"csv","files":["b"],"schema":[["id","int"],["name","text"],["city","text"]]},"on":[["id","id"]]},"group":{"keys":["name"],"aggs":[["first","name","name"]]},"sink":{"format":"ndjson"}}"#,
+        )],
+        line: "error 9: duplicate column: name",
+        told: "\"name\" is named by group.keys[0] and group.aggs[0]",
+        ..NO_GROUP
+    },
+    Case {
+        files: &[(
+            "q",
+            br#"{"left":{"format":"csv","files":["a"],"schema":[["id","int"],["name","text"],["n","int"]]},"group":{"keys":[]},"sink":{"format":"ndjson"}}"#,
+        )],
+        line: "error 4: invalid query: no keys",
+        told: "group.keys is empty",
+        ..NO_GROUP
+    },
+    Case {
+        files: &[(
+            "q",
+            br#"{"left":{"format":"csv","files":["a"],"schema":[["id","int"],["name","text"],["n","int"]]},"group":{"keys":["name","n","name"]},"sink":{"format":"ndjson"}}"#,
+        )],
+        line: "error 4: invalid query: repeated key",
+        told: "group.keys[2]: \"name\" is there twice",
+        ..NO_GROUP
+    },
+    Case {
+        files: &[(
+            "q",
+            br#"{"left":{"format":"csv","files":["a"],"schema":[["id","int"],["name","text"],["n","int"]]},"group":{"keys":["name"],"aggs":[["sum","id","ids"],["len",null,"rows"],["sum","n","total"]]},"sink":{"format":"ndjson"}}"#,
+        )],
+        line: "error 10: sum too large",
+        told: "group.aggs[0] or group.aggs[2]: the sum of a group is no number of 64 bits",
+        ..NO_GROUP
+    },
+    Case {
+        files: &[(
+            "q",
+            br#"{"left":{"format":"csv","files":["a"],"schema":[["id","int"],["name","text"],["n","int"]]},"group":{"keys":"name"},"sink":{"format":"ndjson"}}"#,
+        )],
+        line: "error 11: query text",
+        told: "group.keys: \"name\" is no list of texts",
+        ..NO_GROUP
+    },
+    Case {
+        files: &[(
+            "q",
+            br#"{"left":{"format":"csv","files":["a"],"schema":[["id","int"],["name","text"],["n","int"]]},"group":{"aggs":[]},"sink":{"format":"ndjson"}}"#,
+        )],
+        line: "error 11: query text",
+        told: "group.keys: has to be there",
+        ..NO_GROUP
+    },
+    Case {
+        files: &[(
+            "q",
+            br#"{"left":{"format":"csv","files":["a"],"schema":[["id","int"],["name","text"],["n","int"]]},"group":{"keys":["name"],"agg":[]},"sink":{"format":"ndjson"}}"#,
+        )],
+        line: "error 11: query text",
+        told: "group.agg: no such key; did you mean aggs?",
+        ..NO_GROUP
+    },
+    Case {
+        files: &[(
+            "q",
+            br#"{"left":{"format":"csv","files":["a"],"schema":[["id","int"],["name","text"],["n","int"]]},"group":{"keys":["name"],"aggs":[["len","rows"]]},"sink":{"format":"ndjson"}}"#,
+        )],
+        line: "error 11: query text",
+        told: "group.aggs[0]: a list is no [op, name, output]",
+        ..NO_GROUP
+    },
+    Case {
+        files: &[(
+            "q",
+            br#"{"left":{"format":"csv","files":["a"],"schema":[["id","int"],["name","text"],["n","int"]]},"group":{"keys":["name"],"aggs":[["avg","n","mean"]]},"sink":{"format":"ndjson"}}"#,
+        )],
+        line: "error 11: query text",
+        told: "group.aggs[0][0]: \"avg\" is no reduction: len, sum, min, max, last, first",
+        ..NO_GROUP
+    },
+    Case {
+        files: &[(
+            "q",
+            br#"{"left":{"format":"csv","files":["a"],"schema":[["id","int"],["name","text"],["n","int"]]},"group":{"keys":["name"],"aggs":[["len","n","rows"]]},"sink":{"format":"ndjson"}}"#,
+        )],
+        line: "error 11: query text",
+        told: "group.aggs[0][1]: \"n\" is no null, and len reads no column",
+        ..NO_GROUP
+    },
+    Case {
+        files: &[(
+            "q",
+            br#"{"left":{"format":"csv","files":["a"],"schema":[["id","int"],["name","text"],["n","int"]]},"group":{"keys":["name"],"aggs":[["sum",null,"total"]]},"sink":{"format":"ndjson"}}"#,
+        )],
+        line: "error 11: query text",
+        told: "group.aggs[0][1]: null is no text, and sum reads a column",
+        ..NO_GROUP
+    },
+    Case {
+        files: &[(
+            "q",
+            br#"{"left":{"format":"csv","files":["a"],"schema":[["id","int"],["name","text"],["n","int"]]},"group":{"keys":["name"],"aggs":[["sum","n",3]]},"sink":{"format":"ndjson"}}"#,
+        )],
+        line: "error 11: query text",
+        told: "group.aggs[0][2]: 3 is no text",
+        ..NO_GROUP
+    },
+];
+
+#[test]
+fn flaws_of_queries_with_a_group_are_told(rt: HostRuntime) {
+    all_hold(&rt, rt.alloc(), GROUP_FLAWS);
+}
+
 /// A text that is no JSON.
 const NO_JSON: Case<'static> = Case {
     words: "local q o",

@@ -25,16 +25,16 @@ returns-in_err-join-clause-refused c =
 pub returns-in_err-new-clause-refused : goal.returns-in_err-new-clause-refused
 returns-in_err-new-clause-refused c =
     let text = c.args.text in
-    let query = query_parts c.in_ok-left.left c.in_ok-join.join c.in_ok-sink.sink in
-    let written = made_text query (file_scan c.in_ok-left.left) (option_map join_part c.in_ok-join.join) c.in_ok-sink.sink text.options (scan_of_parts text.left) (option_map join_of_parts text.join) text.sink
+    let query = query_parts c.in_ok-left.left c.in_ok-join.join text.group c.in_ok-sink.sink in
+    let written = made_text query (file_scan c.in_ok-left.left) (option_map join_part c.in_ok-join.join) text.group c.in_ok-sink.sink text.options (scan_of_parts text.left) (option_map join_of_parts text.join) text.sink
     refl c.in_ok-left.ensures.ok c.in_ok-join.ensures.ok (ap (λ (s : SinkSpec). s.format) c.in_ok-sink.ensures.ok) in
-    absurd (never_refused query text.options (query_of_flawless text) c.args.out.now c.in_err-new.field-0.0 written (ap (λ (s : SinkSpec). s.name) c.in_ok-sink.ensures.ok) c.requires c.in_err-new.ensures.refused)
+    absurd (never_refused query text.options (query_of_flawless text) c.args.out.now c.in_err-new.field-0.0 written (ap (λ (s : SinkSpec). s.name) c.in_ok-sink.ensures.ok) c.requires.flawless c.in_err-new.ensures.refused)
 
 pub returns-clause-ok : goal.returns-clause-ok
 returns-clause-ok c =
     let text = c.args.text in
     let query = c.in_ok-new.field-0 in record {
-      text = made_text query (file_scan c.in_ok-left.left) (option_map join_part c.in_ok-join.join) c.in_ok-sink.sink text.options (scan_of_parts text.left) (option_map join_of_parts text.join) text.sink
+      text = made_text query (file_scan c.in_ok-left.left) (option_map join_part c.in_ok-join.join) text.group c.in_ok-sink.sink text.options (scan_of_parts text.left) (option_map join_of_parts text.join) text.sink
           c.in_ok-new.ensures.value c.in_ok-left.ensures.ok c.in_ok-join.ensures.ok (ap (λ (s : SinkSpec). s.format) c.in_ok-sink.ensures.ok);
       sink = ap (λ (q : QueryParts). q.sink.name) c.in_ok-new.ensures.value ∙ ap (λ (s : SinkSpec). s.name) c.in_ok-sink.ensures.ok;
       distinct = none_repeated (query_of_flawless text) (none_twice (repeat_of_format (scan_of_parts text.left).format) (repeat_of_scans (right_scans (option_map join_of_parts text.join)))

@@ -11,8 +11,8 @@ returns-in_err-flawless-clause-refused c =
     let p = err_from_is_err_and c.from_residual.result c.from_residual.ensures.1 in
     rw (p.1, p.2) (refused_early (query_of_text c.args.text) c.args.out.now c.in_err-flawless.field-0.0 c.in_err-flawless.ensures.refused)
 
-pub make_flawless-requires : goal.make_flawless-requires
-make_flawless-requires c = subst (λ (w : WrittenQuery). IsFlawless w c.args.out.now) (sym c.in_ok-flawless.ensures.ok) c.in_ok-flawless.ensures.flawless
+pub make_flawless-requires-clause-flawless : goal.make_flawless-requires-clause-flawless
+make_flawless-requires-clause-flawless c = subst (λ (w : WrittenQuery). IsFlawless w c.args.out.now) (sym c.in_ok-flawless.ensures.ok) c.in_ok-flawless.ensures.flawless
 
 pub returns-clause-ok : goal.returns-clause-ok
 returns-clause-ok c =

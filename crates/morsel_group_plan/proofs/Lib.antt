@@ -1,0 +1,7 @@
+mod NodeFacts
+mod YieldFacts
+mod CourseFacts
+mod GivingFacts
+mod LoneFacts
+mod JoinedFacts
+mod JoinedCourse

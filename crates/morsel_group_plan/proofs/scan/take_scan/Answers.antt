@@ -1,0 +1,35 @@
+use Rattle.std.proofs.Common.{Ok, Some, refl, sym, ap, subst, ◌∙◌}
+use Rattle.morsel_meaning.specs.declared.fault.Fault.TheVariants as faults
+use Rattle.morsel_scan.specs.Scans.{CsvScan}
+use Rattle.morsel_scan.specs.ScanColumns.{output_fields}
+use Rattle.morsel_scan_units.specs.LaneJobs.{LaneFor}
+use Rattle.morsel_scan_units.specs.LaneRows.{CarriesCuts}
+use Rattle.morsel_keep_run.specs.KeepRuns.{KeepsOrNot}
+use Rattle.morsel_join_plan.proofs.CourseLemmas.{stops_behind, was_kept}
+use Rattle.morsel_join_plan.proofs.PortFacts.{some_follows}
+use Rattle.morsel_join_plan.proofs.TurnFacts.{tokens_again}
+use Rattle.morsel_group_plan.proofs.CourseFacts.{takes_one}
+use Rattle.morsel_group_plan.proofs.NodeFacts.{carries_cuts}
+use Rattle.morsel_group_plan.proofs.scan.take_scan.Goals as goal
+
+pub new-taking-requires-clause-cuts : goal.new-taking-requires-clause-cuts
+new-taking-requires-clause-cuts g c =
+    carries_cuts c.args.scan.node c.args.scan.reader (g.H.Io.seen c.args.io.now) _ c.in_ok-lanes.lanes.rows _ c.in_ok-lanes.ensures.rows (c.in_ok-rules.ensures.ok ∙ c.requires.columns)
+
+pub take_rows-requires-clause-tokens : goal.take_rows-requires-clause-tokens
+take_rows-requires-clause-tokens g c = some_follows _ _ c.args.board.now c.requires.tokens (λ board hold. tokens_again _ _ c.in_ok-lanes.lanes.rows _ _ (ap (λ (lane : LaneFor). lane.tokens) c.in_ok-lanes.ensures.rows) hold)
+
+pub returns-in_default-clause-stops : goal.returns-in_default-clause-stops
+returns-in_default-clause-stops g c =
+    stops_behind (record { scan = c.args.scan.node; reader = c.args.scan.reader }) (g.H.Io.seen c.args.io.now) (g.H.Io.seen c.take_rows.new.io) c.in_ok-taken.given faults.OutOfMemory
+    (subst (λ (s : CsvScan). KeepsOrNot s c.args.scan.reader (g.H.Io.seen c.args.io.now) (Ok c.in_ok-taken.given) (g.H.Io.seen c.take_rows.new.io)) c.in_ok-source.ensures.ok c.in_ok-taken.ensures.keeps) refl
+
+pub returns-clause-taken : goal.returns-clause-taken
+returns-clause-taken g c = record {
+  given = c.in_ok-taken.given;
+  keeps = was_kept (record { scan = c.args.scan.node; reader = c.args.scan.reader }) (g.H.Io.seen c.args.io.now) (g.H.Io.seen c.take_rows.new.io) c.in_ok-taken.given
+      (subst (λ (s : CsvScan). KeepsOrNot s c.args.scan.reader (g.H.Io.seen c.args.io.now) (Ok c.in_ok-taken.given) (g.H.Io.seen c.take_rows.new.io)) c.in_ok-source.ensures.ok c.in_ok-taken.ensures.keeps);
+  tokens = _;
+  takes = takes_one c.new-taking.result.phase c.in_ok-taken.taken.phase c.args.rules _ c.in_ok-taken.given (c.new-taking.ensures.rules ∙ ap Some c.in_ok-rules.ensures.ok) (c.new-taking.ensures.job ∙ ap Some c.in_ok-lanes.ensures.rows)
+      c.new-taking.ensures.ends c.in_ok-taken.ensures.stays c.in-Ok.ensures.at c.in-Ok.ensures.ends;
+}

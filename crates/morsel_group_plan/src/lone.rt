@@ -1,0 +1,67 @@
+//! The kept rows of a join that none finds, taken into a group-by.
+ghost use Rattle.std.specs.Prelude.{◌≡◌, ◌∷◌, ◌++◌, [], ℕ, List, Some, IsOkUnless, OnOk, ◌<◌};
+ghost use Rattle.morsel_meaning.specs.declared.fault.Fault.TheVariants.{OutOfMemory};
+ghost use Rattle.morsel_join.specs.declared.build_side.Build.{Build};
+ghost use Rattle.morsel_join.specs.BuildSides.{kept_side};
+ghost use Rattle.morsel_probe_run.specs.ProbeRuns.{AreAllUpTo};
+ghost use Rattle.morsel_scan_units.specs.LaneJobs.{LaneFor};
+ghost use Rattle.morsel_join_plan.specs.JoinLanes.{HasAskedTo, rows_lane};
+ghost use Rattle.morsel_group_units.specs.GroupAsks.{GroupRulesSeen};
+ghost use Rattle.morsel_group_phases.specs.GroupPhases.{group_rules};
+ghost use Rattle.morsel_group_plan.specs.GroupLanes.{TakesTo};
+ghost use Rattle.morsel_group_plan.specs.JoinedLanes.{alone_lane};
+
+use crate::scan::ScanGroup;
+use morsel_end_units::keep_given;
+use morsel_group_units::GroupKeeper;
+use morsel_join_plan::ScanJoin;
+use morsel_join_units::LoneGiver;
+use morsel_load::Load;
+use morsel_meaning::Fault;
+use morsel_outside::Io;
+use morsel_ports::ComputeNode;
+use morsel_prims::{Lanes, Tokens};
+use morsel_scan_units::{AtHome, LaneJob};
+use std::alloc::Global;
+
+/// Takes the kept rows of a join that no row of the other side found into a group-by, behind all rows that it took.
+///
+/// All rows of such lanes were looked up. The lane is of these kept rows; a load of them has so many rows at most.
+pub fn take_lone_rows<L, K, H>(
+    alloc: Global,
+    join: &mut ScanJoin<L, K, H>,
+    node: &mut ScanGroup<L, K, H>,
+    alone: &LaneJob<K, H>,
+    rows: usize,
+) -> Result<(), Fault>
+where
+    L: Tokens + Lanes<Load<<L as Tokens>::Token, LaneJob<K, H>>>,
+    <L as Tokens>::Token: AtHome + Drop,
+    K: AtHome,
+    H: Io,
+    requires some { 0 < rows }
+    requires lane { (build : Build) × (given : ℕ) × (asked : LaneFor) × HasAskedTo join.old.phase build asked given × (asked ≡ rows_lane asked.scan asked.reader asked.outside asked.tokens)
+        × AreAllUpTo asked.scan asked.reader asked.outside given × (alone.now ≡ alone_lane (kept_side build) asked) × ((group : GroupRulesSeen) → group_rules node.old.phase ≡ Some group → group.columns ≡ build.rules.output) }
+    ensures took { (group : GroupRulesSeen) (ends : List (LaneFor × ℕ)) → TakesTo node.old.phase group ends → OnOk result (TakesTo node.new.phase group (ends ++ (alone.now, 1) ∷ [])) }
+    ensures pipelines { (⟦<ScanGroup<L, K, H> as ComputeNode<L, LaneJob<K, H>>>⟧.seen node.new).pipelines ≡ (⟦<ScanGroup<L, K, H> as ComputeNode<L, LaneJob<K, H>>>⟧.seen node.old).pipelines }
+    ensures units { (⟦<ScanGroup<L, K, H> as ComputeNode<L, LaneJob<K, H>>>⟧.seen node.new).units ≡ (⟦<ScanGroup<L, K, H> as ComputeNode<L, LaneJob<K, H>>>⟧.seen node.old).units }
+    ensures out_of_memory { IsOkUnless result OutOfMemory }
+{
+    node.take_from(alone)?;
+    let mut giver = join.phase.take_giver(alloc, rows)?;
+    let rules = node.phase.rules()?;
+    let mut keeper = GroupKeeper::new(alloc, &rules)?;
+    keep_given::<<L as Tokens>::Token, LaneJob<K, H>, LoneGiver, GroupKeeper>(
+        &mut giver,
+        &mut keeper,
+    )?;
+    node.phase.keep(Some(keeper));
+    let Some(to) = node.taken_to() else {
+        return Err(Fault::OutOfMemory);
+    };
+    // There is one place, of which at least one load came.
+    if to != 1 {
+        return Err(Fault::OutOfMemory);
+    }
+    Ok(())
+}
