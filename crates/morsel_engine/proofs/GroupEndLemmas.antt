@@ -27,7 +27,7 @@ use Rattle.morsel_line.specs.ScanSources.{AskNextChunks}
 use Rattle.morsel_line.specs.ScanRuns.{JobGives, MeansRows, StopsScan}
 use Rattle.morsel_group.specs.Asked.{GroupAsked}
 use Rattle.morsel_group.specs.Grouping.{Grouped}
-use Rattle.morsel_group.specs.GroupCauses.{GroupCause}
+use Rattle.morsel_group.specs.GroupCauses.{FitsGroups, GroupCause}
 use Rattle.morsel_group_units.specs.GroupAsks.{GroupRulesSeen, rules_output}
 use Rattle.morsel_emit_run.specs.EmitRuns.{WritesPlaceRows}
 use Rattle.morsel_join_plan.specs.PhaseRuns.{KeepsScan}
@@ -174,10 +174,10 @@ module _ (old now : Outside) (left : FileScan) (join : Option JoinPart) (group :
 
     -- rows are answered
     runs_ended : (count : ℕ) (rows groups : List Row) → IsFront → (TellsBytes new → MeansAskedBy left join asked_to files rows) → Grouped (shape_over left join group) rows groups
-        → (TellsBytes new → (flat_map text_by later ≡ text_of query groups) × (count ≡ length groups))
+        → FitsGroups (shape_over left join group) rows → (TellsBytes new → (flat_map text_by later ≡ text_of query groups) × (count ≡ length groups))
         → sum_by read_failures reads ≡ 0 → sum_by write_failures later ≡ 0
         → AreAskedWhole left join asked_to files → Runs old query options (Ok count) new
-    runs_ended count rows groups front means grouped wrote none_read none_write asked_whole =
+    runs_ended count rows groups front means grouped fits wrote none_read none_write asked_whole =
         let first_read = run.fine in
         let then_read : sum_by read_failures (reads ++ later) ≡ 0 = (failures_read (reads ++ later) (are_transfers (reads ++ later) either)).0 ∙ ap (sum_by read_failures) only_reads ∙ none_read in
         let read_sum = sum_by-append read_failures first (reads ++ later) in
@@ -193,7 +193,7 @@ module _ (old now : Outside) (left : FileScan) (join : Option JoinPart) (group :
           text = λ told. record {
             rows = groups;
             counted = (wrote told).1;
-            means = record { input = rows; means = means told; grouped = grouped };
+            means = record { input = rows; means = means told; grouped = grouped; fits = fits };
             made = on.made ∙ ap (with_sink old.made name) (text_then ∙ (wrote told).0);
           };
         })
@@ -340,7 +340,7 @@ module _ (old now : Outside) (left : FileScan) (join : Option JoinPart) (group :
 
     writes_groups : (result : Result ℕ Fault) (new : Outside) → WritesGroups (is_input given) (join_scan options last) (rules_of_group left join group) before between result new → Runs old query options result new
     writes_groups (Ok count) new w =
-        runs_ended k.to k.reads w.writes.actions new (stage_written (Ok count) new w) count w.rows w.groups (front_then (Ok count) new w) (λ told. (input_then (Ok count) new w told).asked_means) w.grouped
+        runs_ended k.to k.reads w.writes.actions new (stage_written (Ok count) new w) count w.rows w.groups (front_then (Ok count) new w) (λ told. (input_then (Ok count) new w told).asked_means) w.grouped w.fits
         (λ told. (wrote_so (Ok count) new w told).answers) k.fine w.writes.fine
         (gives.whole k.to (λ none. whole old now query options files last run.is_last k.to none (all_then k.all_asked)))
     writes_groups (Err fault) new w = unwritten fault new w w.last w.writes.stops

@@ -7,6 +7,7 @@ use Rattle.morsel_meaning.specs.declared.fault.ComputeKind.TheVariants as kinds
 use Rattle.morsel_meaning.specs.Values.{Row}
 use Rattle.morsel_group.specs.Asked.{GroupAsked}
 use Rattle.morsel_group.specs.Grouping.{Grouped}
+use Rattle.morsel_group.specs.GroupCauses.{FitsGroups}
 use Rattle.morsel_outside.specs.declared.events.Asked.{Asked}
 use Rattle.morsel_outside.specs.declared.events.IoEvent.{IoEvent}
 use Rattle.morsel_outside.specs.Outside.{Outside, with_more, with_sink}
@@ -87,11 +88,12 @@ abbrev pub MeansAskedBy : FileScan → Option JoinPart → SidesAsked → List (
 MeansAskedBy left None asked files rows = ScansAsked left 0 asked.left files rows
 MeansAskedBy left (Some join) asked files rows = JoinsAsked left join asked files rows
 
--- the rows are those of a group-by of rows that a query with this left side and this join means, as far as its sources were asked; the same rows for all reductions
+-- the rows are those of a group-by of rows that a query with this left side and this join means, as far as its sources were asked; the same rows for all reductions, and one that has an answer
 pub record GroupsAsked (left : FileScan) (join : Option JoinPart) (group : GroupAsked) (asked : SidesAsked) (files : List (List ℕ)) (rows : List Row) : Type 0 where
   pub input : List Row
   pub means : MeansAskedBy left join asked files input
   pub grouped : Grouped (shape_over left join group) input rows
+  pub fits : FitsGroups (shape_over left join group) input
 
 -- the rows are what a query with this left side, this join and this group-by means, as far as its sources were asked
 abbrev pub MeansAskedWith : FileScan → Option JoinPart → Option GroupAsked → SidesAsked → List (List ℕ) → List Row → Type 0

@@ -9,7 +9,7 @@ use Rattle.morsel_ports.specs.declared.node.PortState.{PortState}
 use Rattle.morsel_ports.specs.declared.node.PortState.TheVariants as states
 use Rattle.morsel_load.specs.declared.load.LoadKind.TheVariants.{Morsels}
 use Rattle.morsel_group.specs.Grouping.{Grouped}
-use Rattle.morsel_group.specs.GroupCauses.{GroupCause}
+use Rattle.morsel_group.specs.GroupCauses.{FitsGroups, GroupCause}
 use Rattle.morsel_group_units.specs.GroupAsks.{GroupRulesSeen, rules_output, rules_shape}
 use Rattle.morsel_group_phases.specs.declared.places.GroupAt.{GroupAt}
 use Rattle.morsel_group_phases.specs.declared.places.GroupAt.TheVariants as at
@@ -74,6 +74,7 @@ gives_stage before now source frame stage is keeps gives stage_is group ends tak
       are = subst (λ (lanes : List (LaneFor × ℕ)). AreRowsTo lanes given.rows) same_ends (given.took _ ends_are);
       groups = frame.rows;
       grouped = subst (λ (asked : GroupRulesSeen). Grouped (rules_shape asked) given.rows frame.rows) same given.grouped;
+      fits = subst (λ (asked : GroupRulesSeen). FitsGroups (rules_shape asked) given.rows) same given.fits;
       few = given.few;
       stage_is = stage_is ∙ ap (λ (columns : List Field). GivenRows columns frame.rows) (given.columns ∙ ap rules_output same);
     }
@@ -102,7 +103,7 @@ memory_out scan stage opened before fault after (inr w) = inr (record {
 pub wrote : (scan : JoinScan) (group : GroupRulesSeen) (ends : List (LaneFor × ℕ)) (opened before : Outside) (result : Result ℕ Fault) (after : Outside) (stage : StageSeen) → (gives : GivesStage group ends stage) → IfErr result IsLastFault
     → WritesPlaceOrNot scan.scan scan.reader opened (GivenRows (rules_output group) gives.groups) before result after → GivesGroups scan group ends opened before result after
 wrote scan group ends opened before result after stage gives last (inl left) = inl left
-wrote scan group ends opened before result after stage gives last (inr writes) = inr (inr (gives.rows, gives.groups, gives.are, gives.grouped, gives.few, writes, last))
+wrote scan group ends opened before result after stage gives last (inr writes) = inr (inr (gives.rows, gives.groups, gives.are, gives.grouped, gives.fits, gives.few, writes, last))
 
 -- the same, where any fault but that of a write was taken for want of memory
 pub wrote_last : (scan : JoinScan) (group : GroupRulesSeen) (ends : List (LaneFor × ℕ)) (opened before : Outside) (written result : Result ℕ Fault) (after : Outside) (stage : StageSeen) → (gives : GivesStage group ends stage) → IfErr result IsLastFault

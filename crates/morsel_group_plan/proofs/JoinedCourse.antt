@@ -47,8 +47,8 @@ module _ (asked : JoinScan) (side : KeptSide) (group : GroupRulesSeen) (opened b
       → GivesGroups asked group (joined_ends side (rows_lane asked.scan asked.reader opened tokens) given) opened between result after → EndsGroups (JoinGives asked side given) asked group opened between result after
   ends_joined tokens given result after are (inl left) = inl left
   ends_joined tokens given result after are (inr (inl (fault, is, same, cause))) = inr (inl (fault, is, same, record { rows = cause.rows; are = are cause.rows cause.are; cause = cause.cause }))
-  ends_joined tokens given result after are (inr (inr (rows, groups, known, grouped, few, writes, last))) =
-      inr (inr (record { rows = rows; are = are rows known; groups = groups; grouped = grouped; few = few; writes = writes; last = last }))
+  ends_joined tokens given result after are (inr (inr (rows, groups, known, grouped, fits, few, writes, last))) =
+      inr (inr (record { rows = rows; are = are rows known; groups = groups; grouped = grouped; fits = fits; few = few; writes = writes; last = last }))
 
   pub rest_grouped : {K : Type 0} {a b : _} (phase : GroupPhase K LaneFor a b) (result : Result ℕ Fault) (after : Outside) → (has : HasTakenJoined phase asked side group opened between)
       → GivesGroups asked group (joined_ends side (rows_lane asked.scan asked.reader opened has.tokens) has.given) opened between result after → GroupsRows (JoinGives asked side) asked group opened result after

@@ -9,7 +9,7 @@ use Rattle.morsel_scan_units.specs.LaneJobs.{LaneFor}
 use Rattle.morsel_scan_units.specs.LaneRows.{PlacesYield}
 use Rattle.morsel_line.specs.RowStages.{GivenRows, StageSeen}
 use Rattle.morsel_group.specs.Grouping.{Grouped}
-use Rattle.morsel_group.specs.GroupCauses.{GroupCause}
+use Rattle.morsel_group.specs.GroupCauses.{FitsGroups, GroupCause}
 use Rattle.morsel_group_units.specs.GroupAsks.{GroupRulesSeen, rules_output, rules_shape}
 use Rattle.morsel_group_phases.specs.LaneEnds.{TookFrom}
 use Rattle.morsel_group_phases.specs.declared.places.GroupAt.TheVariants as at
@@ -50,6 +50,7 @@ pub record GivesStage (group : GroupRulesSeen) (ends : List (LaneFor × ℕ)) (s
   pub are : AreRowsTo ends rows
   pub groups : List Row
   pub grouped : Grouped (rules_shape group) rows groups
+  pub fits : FitsGroups (rules_shape group) rows
   pub few : length groups ≤ length rows
   pub stage_is : stage ≡ GivenRows (rules_output group) groups
 
@@ -57,7 +58,7 @@ pub record GivesStage (group : GroupRulesSeen) (ends : List (LaneFor × ℕ)) (s
 abbrev pub GivesGroups : JoinScan → GroupRulesSeen → List (LaneFor × ℕ) → Outside → Outside → Result ℕ Fault → Outside → Type 0
 GivesGroups scan group ends opened before result after = IsLeftSo before result after
     ⊎ ((fault : Fault) × (result ≡ Err fault) × (after ≡ before) × HasCauseTo group ends fault)
-    ⊎ ((rows : List Row) × (groups : List Row) × AreRowsTo ends rows × Grouped (rules_shape group) rows groups × (length groups ≤ length rows)
+    ⊎ ((rows : List Row) × (groups : List Row) × AreRowsTo ends rows × Grouped (rules_shape group) rows groups × FitsGroups (rules_shape group) rows × (length groups ≤ length rows)
     × WritesPlace scan.scan scan.reader opened (GivenRows (rules_output group) groups) before result after × IfErr result IsLastFault)
 
 -- few sweeps were made for each row of the group-by, of which there are no more than rows, where it is told what the files contain

@@ -12,7 +12,7 @@ use Rattle.morsel_line.specs.RowStages.{GivenRows}
 use Rattle.morsel_line.specs.ScanJobs.{IsJobPiece}
 use Rattle.morsel_line.specs.ScanRuns.{JobGives, job_of}
 use Rattle.morsel_group.specs.Grouping.{Grouped}
-use Rattle.morsel_group.specs.GroupCauses.{GroupCause}
+use Rattle.morsel_group.specs.GroupCauses.{FitsGroups, GroupCause}
 use Rattle.morsel_group_units.specs.GroupAsks.{GroupRulesSeen, rules_output, rules_shape}
 use Rattle.morsel_keep_run.specs.KeepRuns.{KeepsScan}
 use Rattle.morsel_emit_run.specs.EmitRuns.{WritesPlace}
@@ -30,12 +30,13 @@ IsLastFault faults.OutOfMemory = Unit {0}
 IsLastFault faults.WriteFault = Unit {0}
 IsLastFault fault = ⊥
 
--- of the rows that were taken the group-by is these rows, which were written
+-- of the rows that were taken the group-by has an answer, and it is these rows, which were written
 pub record WritesGroups (is_input : List (List ℕ) → List Row → Type 0) (scan : JoinScan) (group : GroupRulesSeen) (opened before : Outside) (result : Result ℕ Fault) (after : Outside) : Type 0 where
   pub rows : List Row
   pub are : (files : List (List ℕ)) → HasGivenRows scan.scan files opened scan.reader → is_input files rows
   pub groups : List Row
   pub grouped : Grouped (rules_shape group) rows groups
+  pub fits : FitsGroups (rules_shape group) rows
   pub few : length groups ≤ length rows
   pub writes : WritesPlace scan.scan scan.reader opened (GivenRows (rules_output group) groups) before result after
   pub last : IfErr result IsLastFault
