@@ -54,8 +54,8 @@ pub gave : (scan : JoinScan) (group : GroupRulesSeen) (opened between : Outside)
 gave scan group opened between tokens given result after (inl left) = inl left
 gave scan group opened between tokens given result after (inr (inl (fault, is, same, cause))) =
     inr (inl (fault, is, same, record { rows = cause.rows; are = took_scan scan.scan scan.reader opened tokens given cause.rows cause.are; cause = cause.cause }))
-gave scan group opened between tokens given result after (inr (inr (rows, groups, are, grouped, fits, few, writes))) =
-    inr (inr (record { rows = rows; are = took_scan scan.scan scan.reader opened tokens given rows are; groups = groups; grouped = grouped; fits = fits; few = few; writes = writes }))
+gave scan group opened between tokens given result after (inr (inr (rows, groups, are, grouped, fits, few, writes, last))) =
+    inr (inr (record { rows = rows; are = took_scan scan.scan scan.reader opened tokens given rows are; groups = groups; grouped = grouped; fits = fits; few = few; writes = writes; last = last }))
 
 pub grouped_scan : {K : Type 0} {a b : _} (phase : GroupPhase K LaneFor a b) (scan : JoinScan) (group : GroupRulesSeen) (opened between : Outside) (result : Result ℕ Fault) (after : Outside) → (has : HasTakenScan phase scan group opened between)
     → GivesGroups scan group ((rows_lane scan.scan scan.reader opened has.tokens, has.given) ∷ []) opened between result after → GroupsScan scan group opened result after
