@@ -1,6 +1,7 @@
 use Rattle.std.proofs.Common.{rules, ◌≡◌, ◌++◌, ◌∷◌, [], All, List, None, IsSome, length, get_or, refl, arith, ap, ◌∙◌, sym, subst, append_assoc, append-nil}
 use Rattle.std.specs.Prelude.{Option, option_map}
 use Rattle.std.specs.Vec.Iter.{into_iter_items}
+use Rattle.std.proofs.lemmas.Bool.{false≢true}
 use Rattle.std.proofs.lemmas.List.{nil_from_length}
 use Rattle.std.proofs.lemmas.List.Elements.{All-get_or, All-nil, All-push}
 use Rattle.morsel_group.specs.Locals.{AreSameGroupBy, HasShape, HasTakenRows, HaveTaken, HeldGroups, held_in}
@@ -77,4 +78,5 @@ returns-clause-ended c at within none =
     let empty : into_iter_items c.loop-local.local-iterator ≡ [] = nil_from_length (into_iter_items c.loop-local.local-iterator) (omega (arith, c.in-None.ensures.steps.0)) in
     let done : c.loop-local.yielded ≡ c.args.locals.items = sym (append-nil c.loop-local.yielded) ∙ ap (λ xs. c.loop-local.yielded ++ xs) (sym empty) ∙ c.loop-local.invariant.all in
     let each = subst (All (λ (local : Option HeldGroups). IsSome local)) done c.loop-local.invariant.each in
-    subst (λ (local : Option HeldGroups). IsSome local) none (All-get_or (λ (local : Option HeldGroups). IsSome local) c.args.locals.items at None within each)
+    let some : IsSome {T = HeldGroups} None = subst (λ (local : Option HeldGroups). IsSome local) none (All-get_or (λ (local : Option HeldGroups). IsSome local) c.args.locals.items at None within each) in
+    false≢true some
