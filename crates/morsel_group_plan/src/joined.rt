@@ -37,17 +37,17 @@ use std::sync::ledger::Ledger;
 
 /// What gives the rows of a group-by, beside it.
 #[derive(Drop)]
-struct ReadyToGive<H: Io> {
+pub struct ReadyToGive<H: Io> {
     /// The board.
-    board: PlainBoard<JoinLoad<H>>,
+    pub board: PlainBoard<JoinLoad<H>>,
     /// What the lanes are for.
-    lanes: PlaceLanes<LaneJob<PlainGroup, H>>,
+    pub lanes: PlaceLanes<LaneJob<PlainGroup, H>>,
     /// The sink.
-    sink: Arc<NDJsonSinkNode, Global>,
+    pub sink: Arc<NDJsonSinkNode, Global>,
 }
 
 /// What gives rows of these columns, where the files of a side are to be read from this outside.
-fn ready_to_give<H: Io>(
+pub fn ready_to_give<H: Io>(
     alloc: Global,
     asked: &JoinSide,
     io: &H,

@@ -19,7 +19,8 @@ ghost use Rattle.morsel_group_plan.specs.GroupLanes.{HasTakenScan};
 ghost use Rattle.morsel_group_plan.specs.GroupRuns.{GroupsScan, SweepsGroups};
 
 use crate::giving::give_groups;
-use crate::lanes::{grouped_sink, place_lanes, taken_lanes};
+use crate::joined::{ReadyToGive, ready_to_give};
+use crate::lanes::taken_lanes;
 use morsel_frame::Schema;
 use morsel_group_node::GroupByNode;
 use morsel_group_phases::GroupPhase;
@@ -237,21 +238,11 @@ pub fn write_groups<H: Io, G: Gate, Y: Ledger>(
     else {
         return Err(Fault::OutOfMemory);
     };
-    let Ok(
-        JoinBoard {
-            board: last_board,
-            group: last_tokens,
-        },
-    ) = new_board::<H>(alloc)
-    else {
-        return Err(Fault::OutOfMemory);
-    };
     let PlannedGroup { rules, output } = group;
-    let Ok(sink) = grouped_sink(alloc, output) else {
+    // The reader is to read from the outside as it is now.
+    let Ok(ready) = ready_to_give(alloc, &scan, io, output) else {
         return Err(Fault::OutOfMemory);
     };
-    // The reader is to read from the outside as it is now.
-    let lanes = place_lanes(&scan, io, &last_tokens);
     let taken = match take_scan::<PlainLanes<JoinLoad<H>>, PlainGroup, H, G, Y>(
         alloc,
         io,
@@ -267,10 +258,11 @@ pub fn write_groups<H: Io, G: Gate, Y: Ledger>(
         Ok(taken) => taken,
         Err(fault) => return Err(fault),
     };
+    let ReadyToGive { board, lanes, sink } = ready;
     give_groups::<PlainLanes<JoinLoad<H>>, PlainGroup, H, G, Y>(
         alloc,
         io,
-        &mut Some(last_board),
+        &mut Some(board),
         lanes,
         sink,
         &mut Some(taken),
