@@ -11,6 +11,7 @@ use Rattle.morsel_scan_units.specs.LaneRows.{CarriesCuts}
 use Rattle.morsel_group_units.specs.GroupAsks.{GroupRulesSeen}
 use Rattle.morsel_group_units.specs.GroupKeepers.{GroupKeeperSeen, KeepsCutsOf}
 use Rattle.morsel_group_units.specs.TakenLoads.{taken_cut}
+use Rattle.morsel_group_units.specs.declared.taken_load.TakenLoad.{TakenLoad}
 use Rattle.morsel_group_phases.specs.declared.places.GroupAt.TheVariants as at
 use Rattle.morsel_group_phases.specs.declared.phase.GroupPhase.{GroupPhase}
 use Rattle.morsel_group_phases.specs.GroupPhases.{StaysGroup, ends_of_group, frame_of_group, group_at, group_job, group_rules, past_ends}
@@ -27,9 +28,8 @@ pub alone_cuts : (side : KeptSide) (rows alone : LaneFor) (columns : List Field)
 alone_cuts side rows alone columns of_rows is have = record { kind = ap (λ (lane : LaneFor). lane.kind) is ∙ of_rows; have = ap lane_fields is ∙ sym have }
 
 -- what has taken nothing keeps loads of any job of rows of its columns
-pub keeps_none : {J : Type 0} (suits : J → LoadSeen → Type 0) (gives_cuts : J → List Field → Type 0) (keeper : GroupKeeperSeen) (rules : GroupRulesSeen) (job : J) → keeper ≡ record { rules = rules; taken = [] } → gives_cuts job rules.columns
-    → KeepsCutsOf suits gives_cuts keeper job
-keeps_none suits gives_cuts keeper rules job is cuts = subst (λ (k : GroupKeeperSeen). KeepsCutsOf suits gives_cuts k job) (sym is) (record { cuts = cuts; all = All-nil (IsCutFor suits job) })
+pub keeps_none : {J : Type 0} (suits : J → LoadSeen → Type 0) (gives_cuts : J → List Field → Type 0) (keeper : GroupKeeperSeen) (job : J) → keeper.taken ≡ [] → gives_cuts job keeper.rules.columns → KeepsCutsOf suits gives_cuts keeper job
+keeps_none suits gives_cuts keeper job none cuts = record { cuts = cuts; all = subst (λ (taken : List TakenLoad). All (IsCutFor suits job) (map taken_cut taken)) (sym none) (All-nil (IsCutFor suits job)) }
 
 -- what was kept of the job that it has
 pub kept_for : {J : Type 0} (suits : J → LoadSeen → Type 0) (gives_cuts : J → List Field → Type 0) (keeper : GroupKeeperSeen) (there : Option J) (job other : J) → there ≡ Some job → KeepsCutsOf suits gives_cuts keeper job → there ≡ Some other

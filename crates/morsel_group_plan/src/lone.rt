@@ -1,5 +1,5 @@
 //! The kept rows of a join that none finds, taken into a group-by.
-ghost use Rattle.std.specs.Prelude.{◌≡◌, ◌∷◌, ◌++◌, [], ℕ, List, Some, IsOkUnless, OnOk, ◌<◌};
+ghost use Rattle.std.specs.Prelude.{◌≡◌, ◌∷◌, ◌++◌, [], ℕ, List, Some, IfOk, IsOkUnless, OnOk, ◌<◌};
 ghost use Rattle.morsel_meaning.specs.declared.fault.Fault.TheVariants.{OutOfMemory};
 ghost use Rattle.morsel_join.specs.declared.build_side.Build.{Build};
 ghost use Rattle.morsel_join.specs.BuildSides.{kept_side};
@@ -12,17 +12,51 @@ ghost use Rattle.morsel_group_plan.specs.GroupLanes.{TakesTo};
 ghost use Rattle.morsel_group_plan.specs.JoinedLanes.{alone_lane};
 
 use crate::scan::ScanGroup;
-use morsel_end_units::keep_given;
+use morsel_end_units::{LoadKeeper, LoadsGiver, keep_given};
+use morsel_group_phases::GroupPhase;
 use morsel_group_units::GroupKeeper;
 use morsel_join_plan::ScanJoin;
 use morsel_join_units::LoneGiver;
-use morsel_load::Load;
+use morsel_load::{Load, LoadJob};
 use morsel_meaning::Fault;
 use morsel_outside::Io;
 use morsel_ports::ComputeNode;
 use morsel_prims::{Lanes, Tokens};
+use morsel_rows_job::RowsJob;
 use morsel_scan_units::{AtHome, LaneJob};
 use std::alloc::Global;
+
+/// What takes the rows of a group-by, while it takes some: it has taken none.
+fn new_keeper<K, J: RowsJob<K>>(
+    alloc: Global,
+    phase: &GroupPhase<K, J>,
+) -> Result<GroupKeeper, Fault>
+    ensures rules { IfOk result (λ keeper. group_rules phase.now ≡ Some keeper.rules) }
+    ensures none { IfOk result (λ keeper. keeper.taken ≡ []) }
+    ensures out_of_memory { IsOkUnless result OutOfMemory }
+{
+    let rules = phase.rules()?;
+    let keeper = GroupKeeper::new(alloc, &rules)?;
+    Ok(keeper)
+}
+
+/// Keeps all loads that a giver gives; answers what keeps them.
+// Apart from the kinds of both, so that no proof of a caller lets go of what they have.
+fn all_kept<T, J, G, P>(mut giver: G, mut keeper: P) -> Result<P, Fault>
+where
+    J: LoadJob<T>,
+    G: LoadsGiver<T, J> + Drop,
+    P: LoadKeeper<T, J> + Drop,
+    requires for_job { (job : J) × G.gives_for giver job × P.keeps keeper job }
+    ensures keeps { IfOk result (λ kept. (job : J) → G.gives_for giver job → P.keeps keeper job → P.keeps kept job) }
+    ensures later { IfOk result (λ kept. P.is_later keeper kept) }
+    ensures out_of_memory { IsOkUnless result OutOfMemory }
+{
+    let Ok(()) = keep_given::<T, J, G, P>(&mut giver, &mut keeper) else {
+        return Err(Fault::OutOfMemory);
+    };
+    Ok(keeper)
+}
 
 /// Takes the kept rows of a join that no row of the other side found into a group-by, behind all rows that it took.
 ///
@@ -48,12 +82,10 @@ where
     ensures out_of_memory { IsOkUnless result OutOfMemory }
 {
     node.take_from(alone)?;
-    let mut giver = join.phase.take_giver(alloc, rows)?;
-    let rules = node.phase.rules()?;
-    let mut keeper = GroupKeeper::new(alloc, &rules)?;
-    keep_given::<<L as Tokens>::Token, LaneJob<K, H>, LoneGiver, GroupKeeper>(
-        &mut giver,
-        &mut keeper,
+    let empty = new_keeper(alloc, &node.phase)?;
+    let giver = join.phase.take_giver(alloc, rows)?;
+    let keeper = all_kept::<<L as Tokens>::Token, LaneJob<K, H>, LoneGiver, GroupKeeper>(
+        giver, empty,
     )?;
     node.phase.keep(Some(keeper));
     let Some(to) = node.taken_to() else {

@@ -1,5 +1,4 @@
 use Rattle.std.proofs.Common.{◌≡◌, Some, sym, ap, subst, ◌∙◌}
-use Rattle.std.specs.Arc.{arc_value}
 use Rattle.morsel_join.specs.BuildSides.{kept_side}
 use Rattle.morsel_scan_units.specs.LaneJobs.{LaneFor}
 use Rattle.morsel_join_plan.proofs.PhaseFacts.{some_same}
@@ -13,31 +12,30 @@ take_from-requires-clause-cuts g c rules is =
     let lane = c.requires.lane in
     alone_cuts (kept_side lane.0) lane.2 c.args.alone.now rules.columns (ap (λ (l : LaneFor). l.kind) lane.4) lane.6 (lane.7 rules is)
 
-pub keep_given-requires-clause-for_job : goal.keep_given-requires-clause-for_job
-keep_given-requires-clause-for_job g c =
+pub all_kept-requires-clause-for_job : goal.all_kept-requires-clause-for_job
+all_kept-requires-clause-for_job g c =
     let lane = c.requires.lane in
-    let had = sym c.in_ok-take_from.ensures.rules ∙ c.in_ok-rules.ensures.rules in (
+    let had = sym c.in_ok-take_from.ensures.rules ∙ c.in_ok-empty.ensures.rules in (
       c.args.alone.now,
       c.in_ok-giver.ensures.gives_for lane.2 lane.2 c.args.alone.now
           (gives_there c.args.join.now.phase lane.0 lane.2 c.args.alone.now lane.2.tokens lane.1 lane.3 (ap (λ (l : LaneFor). l.kind) lane.4) (ap (λ (l : LaneFor). l.stage) lane.4) lane.5 lane.6),
-      keeps_none _ _ _ _ c.args.alone.now c.in_ok-keeper.ensures.none
+      keeps_none _ _ _ c.args.alone.now c.in_ok-empty.ensures.none
           (alone_cuts (kept_side lane.0) lane.2 c.args.alone.now _ (ap (λ (l : LaneFor). l.kind) lane.4) lane.6 (lane.7 _ had)),
     )
 
 pub keep-requires-clause-rules : goal.keep-requires-clause-rules
-keep-requires-clause-rules g c rules is =
-    c.keep_given.ensures.later.1 ∙ ap (λ (keeper : _). keeper.rules) c.in_ok-keeper.ensures.none ∙ some_same _ _ (sym c.in_ok-rules.ensures.rules ∙ is)
+keep-requires-clause-rules g c rules is = c.in_ok-keeper.ensures.later ∙ some_same _ _ (sym c.in_ok-empty.ensures.rules ∙ is)
 
 pub keep-requires-clause-suits : goal.keep-requires-clause-suits
 keep-requires-clause-suits g c job is =
     let lane = c.requires.lane in
-    let had = sym c.in_ok-take_from.ensures.rules ∙ c.in_ok-rules.ensures.rules in
+    let had = sym c.in_ok-take_from.ensures.rules ∙ c.in_ok-empty.ensures.rules in
     let gives = c.in_ok-giver.ensures.gives_for lane.2 lane.2 c.args.alone.now
     (gives_there c.args.join.now.phase lane.0 lane.2 c.args.alone.now lane.2.tokens lane.1 lane.3 (ap (λ (l : LaneFor). l.kind) lane.4) (ap (λ (l : LaneFor). l.stage) lane.4) lane.5 lane.6) in
-    let keeps = keeps_none _ _ _ _ c.args.alone.now c.in_ok-keeper.ensures.none
+    let keeps = keeps_none _ _ _ c.args.alone.now c.in_ok-empty.ensures.none
     (alone_cuts (kept_side lane.0) lane.2 c.args.alone.now _ (ap (λ (l : LaneFor). l.kind) lane.4) lane.6 (lane.7 _ had)) in
-    kept_for _ _ _ _ c.args.alone.now job c.in_ok-take_from.ensures.takes.1 (c.in_ok-keep_given.ensures.keeps c.args.alone.now gives keeps) is
+    kept_for _ _ _ _ c.args.alone.now job c.in_ok-take_from.ensures.takes.1 (c.in_ok-keeper.ensures.keeps c.args.alone.now gives keeps) is
 
 pub returns-clause-took : goal.returns-clause-took
 returns-clause-took g c =
-    took_last _ _ _ c.args.alone.now c.in-Some.to 1 c.in_ok-take_from.ensures.takes c.in_ok-take_from.ensures.rules c.in_ok-take_from.ensures.ends c.keep.ensures.same c.keep.ensures.stays c.in-Some.ensures.to c.if-to.false
+    took_last _ _ _ c.args.alone.now c.in-Some.to 1 c.in_ok-take_from.ensures.takes c.in_ok-take_from.ensures.rules c.in_ok-take_from.ensures.ends c.keep.ensures.same c.keep.ensures.stays c.in-Some.ensures.to c.if-to-ne1.false
