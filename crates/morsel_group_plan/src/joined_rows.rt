@@ -267,22 +267,58 @@ where
     ensures new { IfOk result (λ ready. ((⟦<ScanGroup<L, K, H> as ComputeNode<L, LaneJob<K, H>>>⟧.seen ready.node).pipelines ≡ None) × ((⟦<ScanGroup<L, K, H> as ComputeNode<L, LaneJob<K, H>>>⟧.seen ready.node).units ≡ 0)) }
     ensures out_of_memory { IsOkUnless result OutOfMemory }
 {
+    let per_row = kept_len(build)?;
     let lanes = found_lanes(alloc, &asked, io, tokens, build)?;
-    let stage = RowStage::alone(build.clone()?);
-    let alone = side_lane(LoadKind::Morsels, &asked, io, tokens, &stage);
-    let rules = Arc::new(alloc, rules)?;
+    let alone = lone_lane(&asked, io, tokens, build)?;
     let JoinSide { node, reader, .. } = asked;
     let source = Arc::new(alloc, node)?;
-    let per_row = kept_len(build)?;
-    let node = GroupByNode::new(alloc, rules, &lanes.found, rows);
+    let taking = new_taking::<L, K, H>(alloc, rules, &lanes.found, rows)?;
     Ok(ReadyToTake {
         lanes,
         alone,
         source,
         reader,
         per_row,
-        node,
+        node: taking,
     })
+}
+
+/// A group-by that has taken nothing; the rows that it is to take are those of this lane. A load that it makes has so many rows at most.
+fn new_taking<L, K, H>(
+    alloc: Global,
+    rules: GroupRules,
+    found: &LaneJob<K, H>,
+    rows: usize,
+) -> Result<ScanGroup<L, K, H>, Fault>
+where
+    L: Tokens + Lanes<Load<<L as Tokens>::Token, LaneJob<K, H>>>,
+    <L as Tokens>::Token: AtHome,
+    K: AtHome,
+    H: Io,
+    requires cuts { CarriesCuts found.now rules.columns }
+    requires some { 0 < rows }
+    ensures none { IfOk result (λ node. HasTakenNone node.phase rules found.now) }
+    ensures takes { (given : LaneFor) → IfOk result (λ node. FitsGroup CarriesCuts IsGivenLane node.phase found.now given) }
+    ensures new { IfOk result (λ node. ((⟦<ScanGroup<L, K, H> as ComputeNode<L, LaneJob<K, H>>>⟧.seen node).pipelines ≡ None) × ((⟦<ScanGroup<L, K, H> as ComputeNode<L, LaneJob<K, H>>>⟧.seen node).units ≡ 0)) }
+    ensures out_of_memory { IsOkUnless result OutOfMemory }
+{
+    let rules = Arc::new(alloc, rules)?;
+    let node = GroupByNode::new(alloc, rules, found, rows);
+    Ok(node)
+}
+
+/// What the lane is for of those of these kept rows that no row of a side finds.
+fn lone_lane<K: AtHome, H: Io>(
+    asked: &JoinSide,
+    io: &H,
+    tokens: &K,
+    build: &Arc<Build, Global>,
+) -> Result<LaneJob<K, H>, Fault>
+    ensures lane { IfOk result (λ lane. lane ≡ alone_lane (kept_side (arc_value build.now)) (rows_lane asked.now.node asked.now.reader (H.seen io.now) (K.home tokens.now))) }
+    ensures out_of_memory { IsOkUnless result OutOfMemory }
+{
+    let stage = RowStage::alone(build.clone()?);
+    Ok(side_lane(LoadKind::Morsels, asked, io, tokens, &stage))
 }
 
 /// Takes the kept rows of a join that no row found into a group-by, behind what the rows up to this place found; where some rows were
