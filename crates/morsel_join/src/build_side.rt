@@ -75,7 +75,7 @@ impl Build {
     }
 
     /// How many kept rows there are.
-    pub(crate) fn height(&self) -> usize
+    pub fn height(&self) -> usize
         ensures { result ≡ length self.now.kept.rows }
     {
         self.kept.height()

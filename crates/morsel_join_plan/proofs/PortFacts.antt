@@ -1,5 +1,5 @@
 -- What the ports of a join's nodes ask of their lanes.
-use Rattle.std.proofs.Common.{◌≡◌, ◌⊎◌, inl, inr, ◌∷◌, [], ℕ, List, map, Option, Some, None, Result, Ok, Err, All, IfOk, IfSome, refl, sym, ap, subst, ◌∙◌}
+use Rattle.std.proofs.Common.{◌≡◌, ◌⊎◌, inl, inr, ◌∷◌, [], List, Option, Some, None, Result, Ok, Err, All, IfOk, IfSome, refl, sym, ap, subst, ◌∙◌}
 use Rattle.std.proofs.lemmas.List.Elements.{All-cons, All-nil, All-weaker}
 use Rattle.atomic_table.specs.Seated.{TableId}
 use Rattle.morsel_meaning.specs.declared.fault.Fault.{Fault}
@@ -15,9 +15,6 @@ use Rattle.morsel_join.specs.Sides.{KeptSide}
 use Rattle.morsel_line.specs.RowStages.{AloneRows, FoundRows, ScannedRows, StageSeen, staged_columns}
 use Rattle.morsel_scan_units.specs.LaneJobs.{DecodesBetween, EncodesBetween, LaneFor, IsUnitFault, lane_fields}
 use Rattle.morsel_scan_units.specs.LaneRows.{AloneBetween, CarriesRows, FindsBetween}
-use Rattle.morsel_ports.specs.Nodes.{NodeSeen}
-use Rattle.morsel_ports.specs.declared.node.PortKind.TheVariants as kinds
-use Rattle.morsel_join_lines.specs.JoinNodes.{AreForFirst, AreForSending, GivesFor, IsGiving, IsKeeping, KeepsFor}
 use Rattle.morsel_join_tasks.specs.FedLanes.{IsFedBy}
 use Rattle.morsel_join_plan.specs.JoinLanes.{HoldsTokensAt, rows_lane}
 use Rattle.morsel_join_plan.proofs.LaneFacts.{unit_fault_behind, unit_out_of_memory}
@@ -115,26 +112,3 @@ for_each P there x is holds other other_is = subst P (some_same x other (sym is 
 pub all_some : {X : Type 0} (P : X → Type 0) (there : Option X) → ((x : X) → P x) → IfSome there P
 all_some P None every = tt
 all_some P (Some x) every = every x
-
--- the node of a join keeps what comes through its first port
-pub keeps_by_first : {J : Type 0} (pipelines : ℕ) (job : J) (recv send : List J) (seen : NodeSeen) → IsKeeping pipelines seen → AreForFirst job recv send → KeepsFor pipelines job recv send seen
-keeps_by_first pipelines job recv send seen is for = record {
-  others = for.other ∷ [];
-  unused = for.unused;
-  takes = for.takes;
-  gives = for.gives;
-  ready = is.ready;
-  none_out = is.none_out;
-  recv_kinds = is.takes;
-  send_kinds = is.gives;
-}
-
--- the node of a join gives of what it has kept
-pub gives_of_kept : {J : Type 0} (pipelines : ℕ) (job : J) (recv send : List J) (seen : NodeSeen) → IsGiving pipelines seen → AreForSending job recv send → GivesFor pipelines job recv send seen
-gives_of_kept {J} pipelines job recv send seen is for = record {
-  gives = for.gives;
-  ready = is.ready;
-  none_out = is.none_out;
-  recv_kinds = is.takes ∙ ap (map (λ (from : J). kinds.Absent)) (sym for.takes);
-  send_kinds = is.gives;
-}

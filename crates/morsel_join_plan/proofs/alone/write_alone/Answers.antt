@@ -4,7 +4,8 @@ use Rattle.morsel_scan.specs.ScanColumns.{output_fields}
 use Rattle.morsel_join.specs.BuildSides.{kept_side}
 use Rattle.morsel_line.specs.RowStages.{AloneRows, StageSeen, staged_columns}
 use Rattle.morsel_scan_units.specs.LaneJobs.{LaneFor}
-use Rattle.morsel_join_plan.proofs.PortFacts.{gives_of_kept, tokens_two}
+use Rattle.morsel_join_lines.proofs.PortLemmas.{gives_of_kept}
+use Rattle.morsel_join_plan.proofs.PortFacts.{tokens_two}
 use Rattle.morsel_join_plan.proofs.TurnFacts.{gives_there, giving_node, is_emitting, staged_again, texts_again, unswept_alone}
 use Rattle.morsel_join_plan.proofs.alone.write_alone.Goals as goal
 

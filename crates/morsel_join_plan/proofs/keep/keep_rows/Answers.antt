@@ -1,7 +1,8 @@
 use Rattle.std.proofs.Common.{sym, ap, ◌∙◌}
 use Rattle.morsel_ports.specs.Nodes.{NodeSeen}
 use Rattle.morsel_join_phases.specs.JoinTables.{recv_kinds_at, send_kinds_at}
-use Rattle.morsel_join_plan.proofs.PortFacts.{if_ok, keeps_by_first, some_here, tokens_two}
+use Rattle.morsel_join_lines.proofs.PortLemmas.{keeps_by_first}
+use Rattle.morsel_join_plan.proofs.PortFacts.{if_ok, some_here, tokens_two}
 use Rattle.morsel_join_plan.proofs.NodeFacts.{stays_same}
 use Rattle.morsel_join_plan.proofs.keep.keep_rows.Goals as goal
 

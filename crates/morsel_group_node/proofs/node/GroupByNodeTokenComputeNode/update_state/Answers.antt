@@ -1,5 +1,4 @@
-use Rattle.std.proofs.Common.{◌≡◌, ◌⊎◌, ◌∷◌, [], ◌∙◌, ap, rules, refl, subst, inl, inr}
-use Rattle.morsel_meaning.specs.declared.fault.Fault.TheVariants as faults
+use Rattle.std.proofs.Common.{◌≡◌, ◌∷◌, [], ◌∙◌, ap, rules, refl, subst}
 use Rattle.morsel_group_phases.specs.declared.places.GroupPorts.{GroupPorts}
 use Rattle.morsel_group_phases.specs.GroupPhases.{IsFaultOfGroups, KeepsGroup, group_at, has_given_groups}
 use Rattle.morsel_group_phases.specs.GroupTables.{group_answers, group_moved}

@@ -1,10 +1,8 @@
 use Rattle.std.proofs.Common.{rules, ◌≡◌, ◌++◌, ◌∷◌, [], ℕ, map, ap, ◌∙◌}
 use Rattle.std.proofs.lemmas.List.{map_push}
 use Rattle.morsel_group_phases.specs.LaneEnds.{lane_ended}
-use Rattle.morsel_group_phases.specs.SinkPhases.{sink_ends}
 use Rattle.morsel_group_phases.specs.declared.lane_end.LaneEnd.{LaneEnd}
 use Rattle.morsel_group_phases.proofs.EndLemmas.{took_closed}
-use Rattle.morsel_group_phases.proofs.sink_phase.SinkPhase.closed.Given.{Over}
 use Rattle.morsel_group_phases.proofs.sink_phase.SinkPhase.closed.Goals as goal
 
 pub returns-clause-ends : goal.returns-clause-ends
