@@ -24,7 +24,7 @@ use Rattle.morsel_group.proofs.GroupingLemmas.{key_of}
 use Rattle.morsel_group.proofs.KeyLemmas.{among-arrived, arrived-once, at_among, none_once, same_key-only}
 
 -- how many things pass, and what they weigh
-passing_len : {X : Type 0} (test : X → Bool) (xs : List X) → length (passing test xs) ≡ sum_by (λ x. if test x then 1 else 0) xs
+pub passing_len : {X : Type 0} (test : X → Bool) (xs : List X) → length (passing test xs) ≡ sum_by (λ x. if test x then 1 else 0) xs
 passing_len test [] = refl
 passing_len test (x ∷ xs) = by (test x) (passing_len test xs) ∙ sym (sum_by-cons (λ z. if test z then 1 else 0) x xs)
   where
@@ -46,7 +46,7 @@ mapped_weight f weight [] = refl
 mapped_weight f weight (x ∷ xs) = sum_by-cons weight (f x) (map f xs) ∙ ap (λ n. weight (f x) + n) (mapped_weight f weight xs) ∙ sym (sum_by-cons (λ z. weight (f z)) x xs)
 
 -- rows in the order of the input are the rows that came, each as often
-order_often : (rows : List RowAt) (weight : Row → ℕ) → sum_by weight (in_order rows) ≡ sum_by (λ r. weight r.row) rows
+pub order_often : (rows : List RowAt) (weight : Row → ℕ) → sum_by weight (in_order rows) ≡ sum_by (λ r. weight r.row) rows
 order_often rows weight = mapped_weight (λ (r : RowAt). r.row) weight (by_number (λ r. r.at) rows) ∙ numbers_often (λ (r : RowAt). r.at) rows (λ r. weight r.row)
 
 -- a key has no fewer rows among all than among some
@@ -131,7 +131,7 @@ same_total shape key value xs ys often =
     omega (arith, ints, less, more, first, second)
 
 -- too large a sum of rows is too large in whatever order they came
-sum_cause : (shape : GroupShape) (some all : List RowAt) → AsOften some all → HasLargeTotal shape (in_order some) → HasLargeTotal shape (in_order all)
+pub sum_cause : (shape : GroupShape) (some all : List RowAt) → AsOften some all → HasLargeTotal shape (in_order some) → HasLargeTotal shape (in_order all)
 sum_cause shape some all often large = record {
   place = large.place;
   agg = large.agg;

@@ -11,4 +11,5 @@ mod OthersLemmas
 mod FinishLemmas
 mod BlankLemmas
 mod CauseLemmas
+mod FitLemmas
 pub mod LocalLemmas

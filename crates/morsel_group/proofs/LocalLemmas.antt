@@ -1,6 +1,6 @@
 -- Local groups, and all of several.
 use Rattle.std.proofs.Common.{◌≡◌, ◌<◌, ◌++◌, [], ◌∷◌, List, ℕ, length, get_or, None, Some, refl, arith, ap, ◌∙◌, sym, subst, append_assoc, append-nil, inl, inr}
-use Rattle.std.specs.Prelude.{Option, option_map}
+use Rattle.std.specs.Prelude.{Option, Result, Ok, Err, OnOk, option_map}
 use Rattle.std.specs.List.{All, flat_map}
 use Rattle.std.proofs.lemmas.List.{length-append}
 use Rattle.morsel_meaning.specs.declared.fault.Fault.{Fault}
@@ -15,6 +15,11 @@ use Rattle.morsel_group.proofs.KeyLemmas.{arrived-longer}
 
 pub some_none : {X : Type 0} {x : X} → Some x ≡ None → ⊥
 some_none e = cc
+
+-- what holds anyway holds where there is an answer
+pub on_ok : {X : Type 0} (P : Type 0) (result : Result X Fault) → P → OnOk result P
+on_ok P (Ok x) holds = holds
+on_ok P (Err fault) holds = tt
 
 -- two that are one group-by that was asked for are the same
 pub same_asked : (fields : List Field) (asked : GroupAsked) (a b : Option HeldGroups) → IsGroupBy fields asked a → IsGroupBy fields asked b → AreSameGroupBy a b

@@ -1,5 +1,5 @@
 //! Local groups: what a group-by has of the rows that came to it, and the merge of several.
-ghost use Rattle.std.specs.Prelude.{◌≡◌, ◌<◌, ◌≤◌, ◌++◌, ℕ, Option, List, get_or, None, Some, Err, [], length, option_map, IfOk, IfErr, OnOk, OnErr, IsOkUnless};
+ghost use Rattle.std.specs.Prelude.{◌≡◌, ◌<◌, ◌≤◌, ◌++◌, ℕ, Option, List, get_or, None, Some, Err, [], length, option_map, IfOk, IfErr, IsSome, OnOk, OnErr, IsOkUnless};
 ghost use Rattle.std.specs.List.{flat_map};
 ghost use Rattle.morsel_keys.specs.Reductions.{input_place};
 ghost use Rattle.morsel_group.specs.Asked.{GroupShape, HaveColumns};
@@ -66,13 +66,14 @@ impl LocalGroups {
         insert_rows(&mut self.groups, frame, seq.to_u64())
     }
 
-    /// All rows of these, one at least, which are one group-by.
+    /// All rows of these, one at least, which are one group-by. Where one of them had a fault it answers one.
     pub fn combine(locals: Vec<LocalGroups>) -> Result<LocalGroups, Fault>
         requires some { 0 < length locals.items }
         requires alike { (i j : ℕ) → i < length locals.items → j < length locals.items → AreSameGroupBy (get_or locals.items i None) (get_or locals.items j None) }
         ensures same { IfOk result (λ local. StaysGroupBy (get_or locals.items 0 None) local) }
         ensures rows { (rows : List (List RowAt)) → HaveTaken locals.items rows → IfOk result (λ local. HasTakenRows local (flat_map (λ own. own) rows)) }
         ensures refused { (rows : List (List RowAt)) (shape : GroupShape) → HaveTaken locals.items rows → HasShape (get_or locals.items 0 None) shape → IfErr result (IsGroupFault shape (flat_map (λ own. own) rows)) }
+        ensures ended { (at : ℕ) → at < length locals.items → get_or locals.items at None ≡ None → IfOk result (λ local. ⊥) }
     {
         let mut whole = None;
         for local in locals {
@@ -175,6 +176,7 @@ fn joined(groups: Option<Groups>, other: Option<Groups>) -> Result<Groups, Fault
     ensures groups { IfOk result AreGroups }
     ensures alike { (held : Option HeldGroups) → AreSameGroupBy (option_map held_in other) held → IfOk result (λ next. AreSameGroupBy (Some (held_in next)) held) }
     ensures rows { (rows more : List RowAt) → HaveRowsIfAny groups rows → HasTakenRows (option_map held_in other) more → IfOk result (λ next. HasGroupedRows (held_in next) (rows ++ more)) }
+    ensures some { OnOk result (IsSome (option_map held_in other)) }
     ensures refused { (rows more : List RowAt) (shape : GroupShape) → HaveRowsIfAny groups rows → HasTakenRows (option_map held_in other) more → HasShape (option_map held_in other) shape → IfErr result (IsGroupFault shape (rows ++ more)) }
 {
     match (groups, other) {

@@ -2,6 +2,7 @@
 use Rattle.std.proofs.Common.{◌≡◌, ◌≤◌, ◌++◌, ◌∷◌, [], ℕ, List, None, Some, length, map, refl, sym, ◌∙◌, ap, subst}
 use Rattle.morsel_meaning.specs.Values.{Row, Table}
 use Rattle.morsel_group.specs.Grouping.{Grouped}
+use Rattle.morsel_group.specs.GroupCauses.{FitsGroups}
 use Rattle.morsel_group_units.specs.GroupAsks.{GroupRulesSeen, rules_output, rules_shape}
 use Rattle.morsel_group_units.specs.GroupKeepers.{AreGroupedRows}
 use Rattle.morsel_group_units.specs.TakenLoads.{greatest_place, rows_taken}
@@ -70,5 +71,6 @@ gives_groups {K} {J} yields phase source frame there frame_is are took rules rul
           subst (λ (es : List (J × ℕ)). ∥ TookFrom yields es (rows_taken source.grouped.taken) ∥₁) ends_are took;
       columns = ap (λ (t : Table). t.schema) frame_is ∙ are.columns ∙ ap rules_output same;
       grouped = subst (λ (t : Table). Grouped (rules_shape rules) (rows_taken source.grouped.taken) t.rows) (sym frame_is) grouped;
+      fits = subst (λ (r : GroupRulesSeen). FitsGroups (rules_shape r) (rows_taken source.grouped.taken)) same are.fits;
       few = subst (λ (t : Table). length t.rows ≤ length (rows_taken source.grouped.taken)) (sym frame_is) are.few;
     }

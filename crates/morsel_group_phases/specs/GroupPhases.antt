@@ -5,6 +5,7 @@ use Rattle.morsel_meaning.specs.declared.value.Field.{Field}
 use Rattle.morsel_meaning.specs.Values.{Row, Table}
 use Rattle.morsel_ports.specs.declared.node.PortState.{PortState}
 use Rattle.morsel_group.specs.Grouping.{Grouped}
+use Rattle.morsel_group.specs.GroupCauses.{FitsGroups}
 use Rattle.morsel_group_units.specs.GroupAsks.{GroupRulesSeen, rules_output, rules_shape}
 use Rattle.morsel_group_phases.specs.LaneEnds.{TookFrom, lane_ended}
 use Rattle.morsel_group_phases.specs.SinkPhases.{HasCauseOfRows, sink_ends}
@@ -86,12 +87,13 @@ IsFaultOfGroups yields (phases.Giving frame) fault = ⊥
 IsFaultOfGroups yields (phases.Given frame) fault = ⊥
 IsFaultOfGroups yields phases.Done fault = ⊥
 
--- the frame has the rows of the group-by of all rows of its lanes up to their ends
+-- the frame has the rows of the group-by of all rows of its lanes up to their ends, which has an answer
 pub record GivesGroupsOf {K J : Type 0} {a b : _} (yields : J → ℕ → List Row → Type 0) (phase : GroupPhase K J a b) (rules : GroupRulesSeen) (frame : Table) : Type 0 where
   pub rows : List Row
   pub took : (ends : List (J × ℕ)) → ends_of_group phase ≡ Some ends → ∥ TookFrom yields ends rows ∥₁
   pub columns : frame.schema ≡ rules_output rules
   pub grouped : Grouped (rules_shape rules) rows frame.rows
+  pub fits : FitsGroups (rules_shape rules) rows
   pub few : length frame.rows ≤ length rows
 
 -- what stays of a group-by while its units work: it is where it was, or done; what it still has it had before

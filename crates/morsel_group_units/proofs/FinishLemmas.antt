@@ -11,9 +11,9 @@ use Rattle.morsel_meaning.specs.Often.{AsOften}
 use Rattle.morsel_meaning.specs.Values.{Row, Table}
 use Rattle.morsel_group.specs.Asked.{GroupAsked, GroupShape}
 use Rattle.morsel_group.specs.Grouping.{Grouped, RowAt, in_order}
-use Rattle.morsel_group.specs.CauseLaws.{GroupsHaveCauses, SumsHaveCauses}
-use Rattle.morsel_group.specs.GroupCauses.{GroupCause}
-use Rattle.morsel_group.specs.Locals.{AreSameGroupBy, HasShape, HasTakenRows, HaveTaken, HeldGroups, IsGroupBy, IsGroupFault, IsSumFault, StaysGroupBy}
+use Rattle.morsel_group.specs.CauseLaws.{GroupsHaveCauses, RowsHaveGroups, SumsHaveCauses}
+use Rattle.morsel_group.specs.GroupCauses.{FitsGroups, GroupCause}
+use Rattle.morsel_group.specs.Locals.{AreFewEnough, AreSameGroupBy, HasShape, HasSums, HasTakenRows, HaveTaken, HeldGroups, IsGroupBy, IsGroupFault, IsSumFault, StaysGroupBy}
 use Rattle.morsel_group_units.specs.GroupAsks.{GroupRulesSeen, rules_output, rules_shape}
 use Rattle.morsel_group_units.specs.GroupKeepers.{AreGroupedRows}
 use Rattle.morsel_group_units.specs.TakenLoads.{PlacesRise, placed_loads, rows_taken}
@@ -68,15 +68,19 @@ cause_found groups sums rules locals held fault ordered loads asked is none rise
     by all often (inr sum) = cause_of_sums sums (rules_shape rules) (rows_in all.lists) ordered fault often rise sum
 
 -- the rows of all groups together
-pub grouped_rows : (rules : GroupRulesSeen) (locals : List (Option HeldGroups)) (held : Option Fault) (ordered loads : List TakenLoad) (asked : GroupRulesSeen) (frame : Table) → held ≡ None → loads ≡ [] → PlacesRise 0 ordered → HoldAllLoads rules locals held (ordered ++ loads) → asked ≡ rules
+pub grouped_rows : RowsHaveGroups → (rules : GroupRulesSeen) (locals : List (Option HeldGroups)) (held : Option Fault) (ordered loads : List TakenLoad) (asked : GroupRulesSeen) (frame : Table) → held ≡ None → loads ≡ [] → PlacesRise 0 ordered → HoldAllLoads rules locals held (ordered ++ loads) → asked ≡ rules
     → frame.schema ≡ rules_output asked → ((lists : List (List RowAt)) → HaveTaken locals lists → Grouped (rules_shape asked) (in_order (rows_in lists)) frame.rows) → ((lists : List (List RowAt)) → HaveTaken locals lists → length frame.rows ≤ length (rows_in lists))
+    → ((lists : List (List RowAt)) → HaveTaken locals lists → AreFewEnough (rules_shape asked) (rows_in lists)) → ((lists : List (List RowAt)) → HaveTaken locals lists → HasSums (rules_shape asked) (rows_in lists))
     → AreGroupedRows (record { rules = rules; taken = ordered; frame = frame })
-grouped_rows rules locals held ordered loads asked frame is none rise hold same columns grouped few =
+grouped_rows law rules locals held ordered loads asked frame is none rise hold same columns grouped few enough sums =
     let all : HoldAllRows rules locals (ordered ++ loads) = subst (λ (h : Option Fault). HoldAllLoads rules locals h (ordered ++ loads)) is hold in
     let often = held_often rules locals ordered loads none all in
     record {
       columns = columns ∙ ap rules_output same;
       grouped = subst (λ (rows : List Row). Grouped (rules_shape rules) rows frame.rows) (in_order_taken (rows_in all.lists) ordered often rise) (subst (λ (r : GroupRulesSeen). Grouped (rules_shape r) (in_order (rows_in all.lists)) frame.rows) same (grouped all.lists all.taken));
+      fits = subst (λ (rows : List Row). FitsGroups (rules_shape rules) rows) (in_order_taken (placed_loads ordered) ordered (λ weight. refl) rise)
+          (law (rules_shape rules) (rows_in all.lists) (placed_loads ordered) (subst (λ (r : GroupRulesSeen). AreFewEnough (rules_shape r) (rows_in all.lists)) same (enough all.lists all.taken))
+          (subst (λ (r : GroupRulesSeen). HasSums (rules_shape r) (rows_in all.lists)) same (sums all.lists all.taken)) often);
       few = let less = few all.lists all.taken in let long = as_long (rows_in all.lists) (placed_loads ordered) often in let many = many_placed ordered in omega (arith, less, long, many);
     }
 
@@ -111,3 +115,8 @@ alike_all fields asked now all i j one other = both_same fields asked (get_or no
 -- the shape of what they are together
 pub shape_together : (rules : GroupRulesSeen) (first whole : Option HeldGroups) → IsGroupBy rules.columns rules.asked first → StaysGroupBy first whole → HasShape whole (rules_shape rules)
 shape_together rules first whole is same = has_shape rules.columns rules.asked whole (group_by_same rules.columns rules.asked first whole is same)
+
+-- groups that have taken rows have few enough
+pub enough_taken : (whole : Option HeldGroups) (shape : GroupShape) (rows : List RowAt) → HasTakenRows whole rows → HasShape whole shape → AreFewEnough shape rows
+enough_taken None shape rows taken is = absurd taken
+enough_taken (Some held) shape rows taken is = subst (λ (s : GroupShape). AreFewEnough s rows) is taken.few

@@ -5,6 +5,7 @@ use Rattle.morsel_meaning.specs.declared.value.Field.{Field}
 use Rattle.morsel_meaning.specs.Values.{Table}
 use Rattle.morsel_load.specs.Loads.{LoadSeen}
 use Rattle.morsel_group.specs.Grouping.{Grouped}
+use Rattle.morsel_group.specs.GroupCauses.{FitsGroups}
 use Rattle.morsel_rows_job.specs.RowsJobs.{IsCutFor}
 use Rattle.morsel_group_units.specs.GroupAsks.{GroupRulesSeen, rules_output, rules_shape}
 use Rattle.morsel_group_units.specs.TakenLoads.{rows_taken, taken_cut}
@@ -32,8 +33,9 @@ pub record GroupedRowsSeen : Type 0 where
   pub taken : List TakenLoad
   pub frame : Table
 
--- they are the group-by of these rows
+-- they are the group-by of these rows, which has an answer
 pub record AreGroupedRows (seen : GroupedRowsSeen) : Type 0 where
   pub columns : seen.frame.schema ≡ rules_output seen.rules
   pub grouped : Grouped (rules_shape seen.rules) (rows_taken seen.taken) seen.frame.rows
+  pub fits : FitsGroups (rules_shape seen.rules) (rows_taken seen.taken)
   pub few : length seen.frame.rows ≤ length (rows_taken seen.taken)

@@ -1,8 +1,8 @@
 //! What all units of a group-by took.
-ghost use Rattle.std.specs.Prelude.{◌≡◌, ◌≤◌, ◌⊎◌, ◌++◌, ℕ, List, length, IfOk, IfErr};
+ghost use Rattle.std.specs.Prelude.{◌≡◌, ◌≤◌, ◌⊎◌, ◌++◌, ℕ, List, length, IfOk, IfErr, OnOk};
 ghost use Rattle.std.specs.List.{All, flat_map};
 ghost use Rattle.morsel_group.specs.Grouping.{Grouped, RowAt, in_order};
-ghost use Rattle.morsel_group.specs.Locals.{HaveTaken, IsGroupBy, IsGroupFault, IsSumFault};
+ghost use Rattle.morsel_group.specs.Locals.{AreFewEnough, HasSums, HaveTaken, IsGroupBy, IsGroupFault, IsSumFault};
 ghost use Rattle.morsel_group_units.specs.GroupAsks.{GroupRulesSeen, rules_output, rules_shape};
 ghost use Rattle.morsel_group_units.specs.LocalTakings.{HoldAllLoads, HoldsLoads};
 ghost use Rattle.morsel_group_units.specs.declared.taken_load.TakenLoad.{TakenLoad};
@@ -181,6 +181,8 @@ fn grouped(alloc: Global, rules: &GroupRules, mut locals: Vec<LocalGroups>) -> R
     ensures columns { IfOk result (λ frame. frame.schema ≡ rules_output rules.now) }
     ensures rows { (lists : List (List RowAt)) → HaveTaken locals.items lists → IfOk result (λ frame. Grouped (rules_shape rules.now) (in_order (flat_map (λ own. own) lists)) frame.rows) }
     ensures few { (lists : List (List RowAt)) → HaveTaken locals.items lists → IfOk result (λ frame. length frame.rows ≤ length (flat_map (λ own. own) lists)) }
+    ensures enough { (lists : List (List RowAt)) → HaveTaken locals.items lists → OnOk result (AreFewEnough (rules_shape rules.now) (flat_map (λ own. own) lists)) }
+    ensures sums { (lists : List (List RowAt)) → HaveTaken locals.items lists → OnOk result (HasSums (rules_shape rules.now) (flat_map (λ own. own) lists)) }
     ensures refused { (lists : List (List RowAt)) → HaveTaken locals.items lists → IfErr result (λ fault. IsGroupFault (rules_shape rules.now) (flat_map (λ own. own) lists) fault ⊎ IsSumFault (rules_shape rules.now) (flat_map (λ own. own) lists) fault) }
 {
     // No rows of any unit come to groups of their own.

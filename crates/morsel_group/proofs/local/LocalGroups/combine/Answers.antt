@@ -1,7 +1,9 @@
-use Rattle.std.proofs.Common.{rules, ◌≡◌, ◌++◌, ◌∷◌, [], List, None, length, get_or, refl, arith, ap, ◌∙◌, sym, subst, append_assoc, append-nil}
+use Rattle.std.proofs.Common.{rules, ◌≡◌, ◌++◌, ◌∷◌, [], All, List, None, IsSome, length, get_or, refl, arith, ap, ◌∙◌, sym, subst, append_assoc, append-nil}
 use Rattle.std.specs.Prelude.{Option, option_map}
 use Rattle.std.specs.Vec.Iter.{into_iter_items}
+use Rattle.std.proofs.lemmas.Bool.{false≢true}
 use Rattle.std.proofs.lemmas.List.{nil_from_length}
+use Rattle.std.proofs.lemmas.List.Elements.{All-get_or, All-nil, All-push}
 use Rattle.morsel_group.specs.Locals.{AreSameGroupBy, HasShape, HasTakenRows, HaveTaken, HeldGroups, held_in}
 use Rattle.morsel_group.proofs.JoinLemmas.{next_within, next_read}
 use Rattle.morsel_group.proofs.LocalLemmas.{HaveBegun, none_later, rows_more, rows_refused, whole_stays, whole_taken}
@@ -12,6 +14,7 @@ loop-local-init c = record {
   all = search rules;
   groups = tt;
   begun = refl;
+  each = All-nil (λ (local : Option HeldGroups). IsSome local);
   alike = λ k inside. tt;
   rows = λ lists taken. none_later lists taken;
 }
@@ -38,6 +41,7 @@ loop-local-preserved c =
       all = append_assoc before (local ∷ []) rest ∙ more;
       groups = c.in-Ok.ensures.groups;
       begun = tt;
+      each = All-push (λ (held : Option HeldGroups). IsSome held) before local c.loop-local.invariant.each (subst (λ (v : Option HeldGroups). IsSome v) c.local.view_is c.in-Ok.ensures.some);
       alike = λ k inside. c.in-Ok.ensures.alike (get_or c.args.locals.items k None)
           (subst (λ (v : Option HeldGroups). AreSameGroupBy v (get_or c.args.locals.items k None)) (read ∙ sym c.local.view_is) (c.requires.alike (length before) k within inside));
       rows = λ lists taken. rows_more before local c.loop-local.whole c.in-Ok.groups lists c.loop-local.invariant.rows
@@ -68,3 +72,11 @@ returns-clause-rows c lists taken =
     let done : c.loop-local.yielded ≡ c.args.locals.items = sym (append-nil c.loop-local.yielded) ∙ ap (λ xs. c.loop-local.yielded ++ xs) (sym none) ∙ c.loop-local.invariant.all in
     whole_taken c.args.locals.items c.loop-local.whole lists c.requires.some (subst (λ (ls : List (Option HeldGroups)). HaveBegun c.loop-local.whole ls) done c.loop-local.invariant.begun)
     (c.loop-local.invariant.rows lists (subst (λ (ls : List (Option HeldGroups)). HaveTaken ls lists) (sym done) taken))
+
+pub returns-clause-ended : goal.returns-clause-ended
+returns-clause-ended c at within none =
+    let empty : into_iter_items c.loop-local.local-iterator ≡ [] = nil_from_length (into_iter_items c.loop-local.local-iterator) (omega (arith, c.in-None.ensures.steps.0)) in
+    let done : c.loop-local.yielded ≡ c.args.locals.items = sym (append-nil c.loop-local.yielded) ∙ ap (λ xs. c.loop-local.yielded ++ xs) (sym empty) ∙ c.loop-local.invariant.all in
+    let each = subst (All (λ (local : Option HeldGroups). IsSome local)) done c.loop-local.invariant.each in
+    let some : IsSome {T = HeldGroups} None = subst (λ (local : Option HeldGroups). IsSome local) none (All-get_or (λ (local : Option HeldGroups). IsSome local) c.args.locals.items at None within each) in
+    false≢true some

@@ -31,6 +31,7 @@ of-requires c =
     let none : inside.loads.items ≡ [] = ap (λ (seen : TakenGroupsSeen). seen.taken) c.self.view_is ∙ c.requires.ended in
     let rise = subst (PlacesRise 0) c.deref.ensures.value c.in-Ok.ensures.rise in
     record {
-      grouped = grouped_rows (arc_value inside.rules) inside.locals.items inside.fault inside.ordered.items inside.loads.items c.deref-2.result.now c.in-Ok-grouped.frame c.in-None.is none rise c.self.invariant c.deref-2.ensures
-          c.in-Ok-grouped.ensures.columns (λ lists taken. c.in-Ok-grouped.ensures.rows lists taken) (λ lists taken. c.in-Ok-grouped.ensures.few lists taken);
+      grouped = grouped_rows c.groups_have_causes.ensures.fit (arc_value inside.rules) inside.locals.items inside.fault inside.ordered.items inside.loads.items c.deref-2.result.now c.in-Ok-grouped.frame c.in-None.is none rise c.self.invariant c.deref-2.ensures
+          c.in-Ok-grouped.ensures.columns (λ lists taken. c.in-Ok-grouped.ensures.rows lists taken) (λ lists taken. c.in-Ok-grouped.ensures.few lists taken)
+          (λ lists taken. c.in-Ok-grouped.ensures.enough lists taken) (λ lists taken. c.in-Ok-grouped.ensures.sums lists taken);
     }
