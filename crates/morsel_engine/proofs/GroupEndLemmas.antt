@@ -8,6 +8,7 @@ use Rattle.std.specs.List.{flat_map, filter, sum_by}
 use Rattle.morsel_meaning.specs.declared.fault.Fault.{Fault}
 use Rattle.morsel_meaning.specs.declared.fault.Fault.TheVariants as faults
 use Rattle.morsel_meaning.specs.declared.fault.ComputeKind.TheVariants as kinds
+use Rattle.morsel_meaning.specs.declared.value.Field.{Field}
 use Rattle.morsel_meaning.specs.Values.{Row}
 use Rattle.morsel_outside.specs.declared.events.IoEvent.{IoEvent}
 use Rattle.morsel_outside.specs.Outside.{Outside, with_sink}
@@ -28,7 +29,8 @@ use Rattle.morsel_line.specs.ScanRuns.{JobGives, MeansRows, StopsScan}
 use Rattle.morsel_group.specs.Asked.{GroupAsked}
 use Rattle.morsel_group.specs.Grouping.{Grouped}
 use Rattle.morsel_group.specs.GroupCauses.{FitsGroups, GroupCause}
-use Rattle.morsel_group_units.specs.GroupAsks.{GroupRulesSeen, rules_output}
+use Rattle.morsel_group_units.specs.GroupAsks.{GroupRulesSeen, rules_output, rules_shape}
+use Rattle.morsel_group_reads.proofs.SaysLemmas.{SaysOf}
 use Rattle.morsel_emit_run.specs.EmitRuns.{WritesPlaceRows}
 use Rattle.morsel_join_plan.specs.PhaseRuns.{KeepsScan}
 use Rattle.morsel_join_plan.specs.JoinRuns.{IsLeftSo}
@@ -76,10 +78,12 @@ valid_input old now query options files open_scan is to rows means valid =
     let same : open_rows options open_scan ≡ meant.0 = valid_rows old now query options files open_scan is valid meant.0 meant.1 in
     meant.1 ∙ ap (λ (xs : List Row). Ok xs) (sym same ∙ all)
 
--- rows of the input are what the query groups, as far as its files were asked; and over valid files what it means to group
-pub record IsInput (left : FileScan) (join : Option JoinPart) (group : GroupAsked) (name : List ℕ) (asked : SidesAsked) (files : List (List ℕ)) (rows : List Row) : Type 0 where
-  pub asked_means : MeansAskedBy left join asked files rows
-  pub valid_means : IsValid (grouped_query left join group name) files → MeansBy left join files rows
+-- a group-by of these rows says what one says of rows that the query groups, as far as its files were asked; and over valid files those are what it means to group
+pub record IsInput (left : FileScan) (join : Option JoinPart) (group : GroupAsked) (name : List ℕ) (rules : GroupRulesSeen) (asked : SidesAsked) (files : List (List ℕ)) (rows : List Row) : Type 0 where
+  pub whole : List Row  -- the same rows, with all of their columns
+  pub asked_means : MeansAskedBy left join asked files whole
+  pub valid_means : IsValid (grouped_query left join group name) files → MeansBy left join files whole
+  pub says : SaysOf (rules_shape rules) (shape_over left join group) rows whole
 
 -- the last scan of a run, which has read others before it, and what is asked of all when it is read
 pub record LastScan (old now : Outside) (left : FileScan) (join : Option JoinPart) (group : GroupAsked) (name : List ℕ) (options : RunOptions) (files : List (List ℕ)) (last : OpenScan) (first : List Action) (before : Outside)
@@ -96,11 +100,12 @@ pub record LastScan (old now : Outside) (left : FileScan) (join : Option JoinPar
       → AsksOn old (grouped_query left join group name) options files (first ++ later) (sides to)
 
 -- what its rows are, in the group-by
-pub record GivesInput (left : FileScan) (join : Option JoinPart) (group : GroupAsked) (name : List ℕ) (options : RunOptions) (files : List (List ℕ)) (last : OpenScan) (before : Outside) (sides : ℕ → SidesAsked)
-    (is_input : ℕ → List (List ℕ) → List Row → Type 0) : Type 0 where
+pub record GivesInput (left : FileScan) (join : Option JoinPart) (group : GroupAsked) (name : List ℕ) (rules : GroupRulesSeen) (options : RunOptions) (files : List (List ℕ)) (last : OpenScan) (before : Outside)
+    (sides : ℕ → SidesAsked) (is_input : ℕ → List (List ℕ) → List Row → Type 0) : Type 0 where
+  pub output : rules_output rules ≡ rules_output (rules_of_group left join group)
   pub whole : (to : ℕ) → IsAskedWhole last.scan to last.files → AreAskedWhole left join (sides to) files
   pub input : TellsBytes before → (given to : ℕ) (rows : List Row) → ((found : List Row) → JobGives (open_job options last) given found → MeansRows (open_job options last) to found)
-      → is_input given last.files rows → IsInput left join group name (sides to) files rows
+      → is_input given last.files rows → IsInput left join group name rules (sides to) files rows
 
 -- some of its files was read, and then some rows of the group-by were written
 pub record GroupStage (options : RunOptions) (before : Outside) (last : OpenScan) (to : ℕ) (reads later : List Action) (new : Outside) : Type 0 where
@@ -173,11 +178,12 @@ module _ (old now : Outside) (left : FileScan) (join : Option JoinPart) (group :
         runs_failed faults.WriteFault front (on.has_begun.all, rises) tt (λ told valid none. absurd (none.writes rises))
 
     -- rows are answered
-    runs_ended : (count : ℕ) (rows groups : List Row) → IsFront → (TellsBytes new → MeansAskedBy left join asked_to files rows) → Grouped (shape_over left join group) rows groups
-        → FitsGroups (shape_over left join group) rows → (TellsBytes new → (flat_map text_by later ≡ text_of query groups) × (count ≡ length groups))
+    runs_ended : (count : ℕ) (groups : List Row) → IsFront
+        → (TellsBytes new → (rows : List Row) × MeansAskedBy left join asked_to files rows × Grouped (shape_over left join group) rows groups × FitsGroups (shape_over left join group) rows)
+        → (TellsBytes new → (flat_map text_by later ≡ text_of query groups) × (count ≡ length groups))
         → sum_by read_failures reads ≡ 0 → sum_by write_failures later ≡ 0
         → AreAskedWhole left join asked_to files → Runs old query options (Ok count) new
-    runs_ended count rows groups front means grouped fits wrote none_read none_write asked_whole =
+    runs_ended count groups front means wrote none_read none_write asked_whole =
         let first_read = run.fine in
         let then_read : sum_by read_failures (reads ++ later) ≡ 0 = (failures_read (reads ++ later) (are_transfers (reads ++ later) either)).0 ∙ ap (sum_by read_failures) only_reads ∙ none_read in
         let read_sum = sum_by-append read_failures first (reads ++ later) in
@@ -193,7 +199,7 @@ module _ (old now : Outside) (left : FileScan) (join : Option JoinPart) (group :
           text = λ told. record {
             rows = groups;
             counted = (wrote told).1;
-            means = record { input = rows; means = means told; grouped = grouped; fits = fits };
+            means = let (rows, asked_means, grouped, fits) = means told in record { input = rows; means = asked_means; grouped = grouped; fits = fits };
             made = on.made ∙ ap (with_sink old.made name) (text_then ∙ (wrote told).0);
           };
         })
@@ -220,36 +226,47 @@ module _ (old now : Outside) (left : FileScan) (join : Option JoinPart) (group :
         (λ told valid none. out_of_memory old new query files (run.sides to) fault caused none (no_fault old now query options files last run.is_last fault valid (due told)))
 
     -- the rows have no group-by
-    group_cause : (fault : Fault) (rows : List Row) → (TellsBytes new → IsInput left join group name (run.sides to) files rows) → GroupCause (shape_over left join group) rows fault
+    group_cause : (rules : GroupRulesSeen) (fault : Fault) (rows : List Row) → (TellsBytes new → IsInput left join group name rules (run.sides to) files rows) → GroupCause (rules_shape rules) rows fault
         → HasCauseInRun old query files (run.sides to) new fault
-    group_cause (faults.ComputeError kinds.SumTooLarge file at) rows is has =
-        record { kind = (has.0, has.1); begun = (on to reads [] new stage).has_begun; cause = λ told. inr (rows, (is told).asked_means, has) }
-    group_cause (faults.ComputeError kinds.LenTooLarge file at) rows is has =
-        record { kind = (has.0, has.1); begun = (on to reads [] new stage).has_begun; cause = λ told. inr (rows, (is told).asked_means, has) }
-    group_cause (faults.ComputeError kinds.TooManyGroups file at) rows is has =
-        record { kind = (has.0, has.1); begun = (on to reads [] new stage).has_begun; cause = λ told. inr (rows, (is told).asked_means, has) }
-    group_cause (faults.ComputeError kinds.NegativeSlice file at) rows is has = absurd has
-    group_cause (faults.ComputeError kinds.NotUtf8 file at) rows is has = absurd has
-    group_cause (faults.ComputeError kinds.IllTyped file at) rows is has = absurd has
-    group_cause (faults.ComputeError kinds.TooManyRows file at) rows is has = absurd has
-    group_cause (faults.ComputeError kinds.IndexTooLarge file at) rows is has = absurd has
-    group_cause (faults.ComputeError kinds.FooterTooLarge file at) rows is has = absurd has
-    group_cause faults.OutOfMemory rows is has = absurd has
-    group_cause (faults.ReadFault file) rows is has = absurd has
-    group_cause faults.WriteFault rows is has = absurd has
-    group_cause (faults.InvalidQuery why) rows is has = absurd has
-    group_cause (faults.Malformed file at) rows is has = absurd has
-    group_cause (faults.Unsupported file code) rows is has = absurd has
-    group_cause (faults.ColumnNotFound column) rows is has = absurd has
-    group_cause (faults.SchemaMismatch column) rows is has = absurd has
-    group_cause (faults.Duplicate column) rows is has = absurd has
-    group_cause faults.QueryText rows is has = absurd has
-    group_cause faults.Usage rows is has = absurd has
+    group_cause rules (faults.ComputeError kinds.SumTooLarge file at) rows is has = record {
+      kind = (has.0, has.1);
+      begun = (on to reads [] new stage).has_begun;
+      cause = λ told. inr ((is told).whole, (is told).asked_means, (is told).says.cause (faults.ComputeError kinds.SumTooLarge file at) has);
+    }
+    group_cause rules (faults.ComputeError kinds.LenTooLarge file at) rows is has = record {
+      kind = (has.0, has.1);
+      begun = (on to reads [] new stage).has_begun;
+      cause = λ told. inr ((is told).whole, (is told).asked_means, (is told).says.cause (faults.ComputeError kinds.LenTooLarge file at) has);
+    }
+    group_cause rules (faults.ComputeError kinds.TooManyGroups file at) rows is has = record {
+      kind = (has.0, has.1);
+      begun = (on to reads [] new stage).has_begun;
+      cause = λ told. inr ((is told).whole, (is told).asked_means, (is told).says.cause (faults.ComputeError kinds.TooManyGroups file at) has);
+    }
+    group_cause rules (faults.ComputeError kinds.NegativeSlice file at) rows is has = absurd has
+    group_cause rules (faults.ComputeError kinds.NotUtf8 file at) rows is has = absurd has
+    group_cause rules (faults.ComputeError kinds.IllTyped file at) rows is has = absurd has
+    group_cause rules (faults.ComputeError kinds.TooManyRows file at) rows is has = absurd has
+    group_cause rules (faults.ComputeError kinds.IndexTooLarge file at) rows is has = absurd has
+    group_cause rules (faults.ComputeError kinds.FooterTooLarge file at) rows is has = absurd has
+    group_cause rules faults.OutOfMemory rows is has = absurd has
+    group_cause rules (faults.ReadFault file) rows is has = absurd has
+    group_cause rules faults.WriteFault rows is has = absurd has
+    group_cause rules (faults.InvalidQuery why) rows is has = absurd has
+    group_cause rules (faults.Malformed file at) rows is has = absurd has
+    group_cause rules (faults.Unsupported file code) rows is has = absurd has
+    group_cause rules (faults.ColumnNotFound column) rows is has = absurd has
+    group_cause rules (faults.SchemaMismatch column) rows is has = absurd has
+    group_cause rules (faults.Duplicate column) rows is has = absurd has
+    group_cause rules faults.QueryText rows is has = absurd has
+    group_cause rules faults.Usage rows is has = absurd has
 
-    runs_groupless : (fault : Fault) (rows : List Row) → (TellsBytes new → IsInput left join group name (run.sides to) files rows) → GroupCause (shape_over left join group) rows fault → Runs old query options (Err fault) new
-    runs_groupless fault rows is has =
-        runs_failed to reads [] new stage fault front_none (group_cause fault rows is has) (made_none fault)
-        (λ told valid none. absurd ((groups_fit (shape_over left join group) rows).0 (valid.groups_fit rows ((is told).valid_means valid)) fault has))
+    runs_groupless : (rules : GroupRulesSeen) (fault : Fault) (rows : List Row) → (TellsBytes new → IsInput left join group name rules (run.sides to) files rows) → GroupCause (rules_shape rules) rows fault
+        → Runs old query options (Err fault) new
+    runs_groupless rules fault rows is has =
+        runs_failed to reads [] new stage fault front_none (group_cause rules fault rows is has) (made_none fault)
+        (λ told valid none. let input = is told in
+        absurd ((groups_fit (shape_over left join group) input.whole).0 (valid.groups_fit input.whole (input.valid_means valid)) fault (input.says.cause fault has)))
 
   -- its files were read to their end
   pub stage_read : (result : Result ℕ Fault) (new : Outside) (k : KeepsScan (csv_scan last.scan) (reader_of options last) before result new) → GroupStage options before last k.to k.reads [] new
@@ -266,7 +283,7 @@ module _ (old now : Outside) (left : FileScan) (join : Option JoinPart) (group :
   not_read fault new k = read_failed k.to k.reads new (stage_read (Err fault) new k) fault (stops_kept (reader_of options last).sources k.reads fault k.each k.stops)
       (λ told. (k.told last.files (had_nothing old now query options files last run.is_last before run.same.0 run.same.1 (told_back before new k.leaves.held told))).due)
 
-  module _ (is_input : ℕ → List (List ℕ) → List Row → Type 0) (gives : GivesInput left join group name options files last before run.sides is_input) (given : ℕ) (between : Outside)
+  module _ (rules : GroupRulesSeen) (is_input : ℕ → List (List ℕ) → List Row → Type 0) (gives : GivesInput left join group name rules options files last before run.sides is_input) (given : ℕ) (between : Outside)
       (k : KeepsScan (csv_scan last.scan) (reader_of options last) before (Ok given) between) where
     stage_then : GroupStage options before last k.to k.reads [] between
     stage_then = stage_read (Ok given) between k
@@ -286,10 +303,10 @@ module _ (old now : Outside) (left : FileScan) (join : Option JoinPart) (group :
         ((k.told last.files (had told)).means rows given_rows)
 
     input_given : (rows : List Row) → (HasGivenRows (csv_scan last.scan) last.files before (reader_of options last) → is_input given last.files rows) → TellsBytes between
-        → IsInput left join group name (run.sides k.to) files rows
+        → IsInput left join group name rules (run.sides k.to) files rows
     input_given rows is told = gives.input (told_before told) given k.to rows (means_given told) (is (had told))
 
-    module _ (result : Result ℕ Fault) (new : Outside) (w : WritesGroups (is_input given) (join_scan options last) (rules_of_group left join group) before between result new) where
+    module _ (result : Result ℕ Fault) (new : Outside) (w : WritesGroups (is_input given) (join_scan options last) rules before between result new) where
       told_then : TellsBytes new → TellsBytes between
       told_then told = told_back between new (stays between new w.writes.actions (either_writing w.writes.actions w.writes.each) w.writes.does).held told
 
@@ -301,22 +318,22 @@ module _ (old now : Outside) (left : FileScan) (join : Option JoinPart) (group :
         asks = stage_then.asks;
       }
 
-      input_then : TellsBytes new → IsInput left join group name (run.sides k.to) files w.rows
+      input_then : TellsBytes new → IsInput left join group name rules (run.sides k.to) files w.rows
       input_then told = input_given w.rows (w.are last.files) (told_then told)
 
       wrote_so : TellsBytes new → WritesPlaceRows (GivenRows (rules_output (rules_of_group left join group)) w.groups) job w.writes.actions result
-      wrote_so told = w.writes.told last.files (had (told_then told))
+      wrote_so told = subst (λ (output : List Field). WritesPlaceRows (GivenRows output w.groups) job w.writes.actions result) gives.output (w.writes.told last.files (had (told_then told)))
 
       front_then : IsFront k.to k.reads w.writes.actions new stage_written
-      front_then told valid = let stops = wrote_so told in record {
+      front_then told valid = let stops = wrote_so told in let input = input_then told in record {
         rows = w.groups;
-        means = record { input = w.rows; means = (input_then told).valid_means valid; grouped = w.grouped };
+        means = record { input = input.whole; means = input.valid_means valid; grouped = input.says.grouped w.groups w.grouped };
         rest = stops.rest;
         front = stops.front;
       }
 
     -- not all rows of the group-by were written
-    unwritten : (fault : Fault) (new : Outside) (w : WritesGroups (is_input given) (join_scan options last) (rules_of_group left join group) before between (Err fault) new) → IsLastFault fault
+    unwritten : (fault : Fault) (new : Outside) (w : WritesGroups (is_input given) (join_scan options last) rules before between (Err fault) new) → IsLastFault fault
         → StopsWritesFor IsPieceKind w.writes.actions fault → Runs old query options (Err fault) new
     unwritten faults.OutOfMemory new w end stops = runs_out k.to k.reads w.writes.actions new (stage_written (Err faults.OutOfMemory) new w) (front_then (Err faults.OutOfMemory) new w)
     unwritten faults.WriteFault new w end (inl more) = runs_unwritten k.to k.reads w.writes.actions new (stage_written (Err faults.WriteFault) new w) (front_then (Err faults.WriteFault) new w) more
@@ -338,18 +355,19 @@ module _ (old now : Outside) (left : FileScan) (join : Option JoinPart) (group :
     all_then (inl all) = inl (all ∙ ap (λ (sizes : List ℕ). sum_by (λ n. n) (sizes_in sizes (numbers_of last))) run.same.0)
     all_then (inr past) = inr past
 
-    writes_groups : (result : Result ℕ Fault) (new : Outside) → WritesGroups (is_input given) (join_scan options last) (rules_of_group left join group) before between result new → Runs old query options result new
+    writes_groups : (result : Result ℕ Fault) (new : Outside) → WritesGroups (is_input given) (join_scan options last) rules before between result new → Runs old query options result new
     writes_groups (Ok count) new w =
-        runs_ended k.to k.reads w.writes.actions new (stage_written (Ok count) new w) count w.rows w.groups (front_then (Ok count) new w) (λ told. (input_then (Ok count) new w told).asked_means) w.grouped w.fits
+        runs_ended k.to k.reads w.writes.actions new (stage_written (Ok count) new w) count w.groups (front_then (Ok count) new w)
+        (λ told. let input = input_then (Ok count) new w told in (input.whole, input.asked_means, input.says.grouped w.groups w.grouped, input.says.fits w.fits))
         (λ told. (wrote_so (Ok count) new w told).answers) k.fine w.writes.fine
         (gives.whole k.to (λ none. whole old now query options files last run.is_last k.to none (all_then k.all_asked)))
     writes_groups (Err fault) new w = unwritten fault new w w.last w.writes.stops
 
     -- the last part of the run
-    ends_groups : (result : Result ℕ Fault) (new : Outside) → EndsGroups (is_input given) (join_scan options last) (rules_of_group left join group) before between result new → Runs old query options result new
+    ends_groups : (result : Result ℕ Fault) (new : Outside) → EndsGroups (is_input given) (join_scan options last) rules before between result new → Runs old query options result new
     ends_groups result new (inl (is, same)) = answer_as old query options result (Err faults.OutOfMemory) new between is same (read_out k.to k.reads between stage_then)
     ends_groups result new (inr (inl (fault, is, same, none))) =
-        answer_as old query options result (Err fault) new between is same (runs_groupless k.to k.reads between stage_then fault none.rows (input_given none.rows (none.are last.files)) none.cause)
+        answer_as old query options result (Err fault) new between is same (runs_groupless k.to k.reads between stage_then rules fault none.rows (input_given none.rows (none.are last.files)) none.cause)
     ends_groups result new (inr (inr w)) = writes_groups result new w
 
   -- nothing of the last scan was read
@@ -357,15 +375,15 @@ module _ (old now : Outside) (left : FileScan) (join : Option JoinPart) (group :
   stage_first = record { does = does-nothing before; reading = tt; writing = tt; asks = refl }
 
   -- the run from there
-  pub runs_rows : (is_input : ℕ → List (List ℕ) → List Row → Type 0) → GivesInput left join group name options files last before run.sides is_input → (result : Result ℕ Fault) (new : Outside)
-      → GroupsRows is_input (join_scan options last) (rules_of_group left join group) before result new → Runs old query options result new
-  runs_rows is_input gives result new groups = by groups.course
+  pub runs_rows : (rules : GroupRulesSeen) (is_input : ℕ → List (List ℕ) → List Row → Type 0) → GivesInput left join group name rules options files last before run.sides is_input → (result : Result ℕ Fault) (new : Outside)
+      → GroupsRows is_input (join_scan options last) rules before result new → Runs old query options result new
+  runs_rows rules is_input gives result new groups = by groups.course
     where
       by : IsLeftSo before result new
           ⊎ (((fault : Fault) × KeepsScan (csv_scan last.scan) (reader_of options last) before (Err fault) new × (result ≡ Err fault))
           ⊎ ((given : ℕ) × (between : Outside) × KeepsScan (csv_scan last.scan) (reader_of options last) before (Ok given) between
-          × EndsGroups (is_input given) (join_scan options last) (rules_of_group left join group) before between result new))
+          × EndsGroups (is_input given) (join_scan options last) rules before between result new))
           → Runs old query options result new
       by (inl (is, same)) = answer_as old query options result (Err faults.OutOfMemory) new before is same (read_out 0 [] before stage_first)
       by (inr (inl (fault, k, is))) = answer_as old query options result (Err fault) new new is refl (not_read fault new k)
-      by (inr (inr (given, between, k, ends))) = ends_groups is_input gives given between k result new ends
+      by (inr (inr (given, between, k, ends))) = ends_groups rules is_input gives given between k result new ends

@@ -13,7 +13,8 @@ use Rattle.morsel_read.specs.ScanReads.{CountsFromFirst, sizes_in}
 use Rattle.morsel_drive.proofs.TransferLemmas.{are_transfers}
 use Rattle.morsel_line.specs.ScanRuns.{JobGives, job_of}
 use Rattle.morsel_group.specs.Asked.{GroupAsked}
-use Rattle.morsel_group_units.specs.GroupAsks.{GroupRulesSeen}
+use Rattle.morsel_group_units.specs.GroupAsks.{GroupRulesSeen, rules_shape}
+use Rattle.morsel_group_reads.proofs.SaysLemmas.{says_itself}
 use Rattle.morsel_group_plan.specs.GroupRuns.{GroupsScan}
 use Rattle.morsel_sink.specs.declared.spec.SinkFormat.{SinkFormat}
 use Rattle.morsel_sink.specs.declared.spec.SinkFormat.TheVariants as formats
@@ -100,19 +101,22 @@ module _ (old : Outside) (left : FileScan) (group : GroupAsked) (name : List ℕ
   abbrev is_given : ℕ → List (List ℕ) → List Row → Type 0
   is_given given told rows = JobGives (job_of (csv_scan left) (reader_of options alone) told) given rows
 
-  gives_rows : GivesInput left None group name options files alone now asked_to is_given
+  gives_rows : GivesInput left None group name (rules_of_scan left group) options files alone now asked_to is_given
   gives_rows = record {
+    output = refl;
     whole = λ to all. all;
     input = λ told given to rows means is. record {
+      whole = rows;
       asked_means = means_asked old now query options files alone is_alone to rows (means rows is);
       valid_means = λ valid. valid_input old now query options files alone is_alone to rows (means rows is) valid;
+      says = says_itself (rules_shape (rules_of_scan left group)) rows;
     };
   }
 
   -- the whole run
   pub runs_course : (result : Result ℕ Fault) (new : Outside) → GroupsScan (join_scan options alone) (rules_of_scan left group) now result new → Runs old query options result new
   unfolding alone_last
-  runs_course result new groups = runs_rows old now left None group name options files alone [] now alone_last is_given gives_rows result new groups
+  runs_course result new groups = runs_rows old now left None group name options files alone [] now alone_last (rules_of_scan left group) is_given gives_rows result new groups
 
 -- a run that made its sink, whatever follows
 pub runs_grouped : (format : SinkFormat) (old : Outside) (left : FileScan) (group : GroupAsked) (name : List ℕ) (options : RunOptions) (files : List (List ℕ)) (now : Outside) (result : Result ℕ Fault) (new : Outside)

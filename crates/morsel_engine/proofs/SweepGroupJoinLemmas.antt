@@ -69,12 +69,12 @@ module _ (old now : Outside) (query : QueryParts) (options : RunOptions) (files 
 
 -- a run that made its sink
 pub swept_joined_groups : (old now new : Outside) (left : FileScan) (join : JoinPart) (group : GroupAsked) (sink : SinkSpec) (options : RunOptions) (files : List (List ℕ)) (begun : Begun old (query_joined left join (Some group) sink) files now)
-    → new.sizes ≡ now.sizes → new.held ≡ now.held → 1 ≤ greatest_width (query_joined left join (Some group) sink) → (before after : ℕ) (rules : JoinRules) → JoinFit left join (Some group) sink rules
-    → SweepsJoinedGroups now left join.right (file_numbers (length old.sizes) (length (left_files left files))) (file_numbers (length old.sizes + length left.sources) (length (right_files left files))) rules options before after
+    → new.sizes ≡ now.sizes → new.held ≡ now.held → 1 ≤ greatest_width (query_joined left join (Some group) sink) → (before after : ℕ) (rules : JoinRules) → JoinFit left join (Some group) sink rules → (read : JoinRules)
+    → SweepsJoinedGroups now left join.right (file_numbers (length old.sizes) (length (left_files left files))) (file_numbers (length old.sizes + length left.sources) (length (right_files left files))) read options before after
     → SweepsWithin old (query_joined left join (Some group) sink) options before new after
-swept_joined_groups old now new left join group sink options files begun sizes held wide before after rules fit (inl none) = swept_none old now new left join (Some group) sink options files begun sizes held wide before after none
-swept_joined_groups old now new left join group sink options files begun sizes held wide before after rules fit (inr (left_fit, right_fit, s)) =
-    swept_few old now new left join (Some group) sink options files begun sizes held wide before after sides_fit (keeps_left rules.how rules.maintain_order) (by (keeps_left rules.how rules.maintain_order) s)
+swept_joined_groups old now new left join group sink options files begun sizes held wide before after rules fit read (inl none) = swept_none old now new left join (Some group) sink options files begun sizes held wide before after none
+swept_joined_groups old now new left join group sink options files begun sizes held wide before after rules fit read (inr (left_fit, right_fit, s)) =
+    swept_few old now new left join (Some group) sink options files begun sizes held wide before after sides_fit (keeps_left read.how read.maintain_order) (by (keeps_left read.how read.maintain_order) s)
   where
     sides_fit : SidesFit left join
     sides_fit = fit_sides left join (Some group) sink rules fit left_fit right_fit

@@ -17,6 +17,7 @@ use crate::scan::scan_run;
 use morsel_frame::Schema;
 use morsel_group::GroupSpec;
 use morsel_group_plan::{PlannedGroup, write_joined_groups};
+use morsel_group_reads::columns_read;
 use morsel_group_units::GroupRules;
 use morsel_join::JoinRules;
 use morsel_local::Steps;
@@ -75,7 +76,7 @@ fn group_joined_files<H: Io, G: Gate, Y: Ledger>(
 }
 
 /// Runs a query with a join and a group-by, of these parts, that has a plan. The left side's rows have the columns, and those of the
-/// group-by the others.
+/// group-by the others. The rows of the join that are grouped have only the columns that the group-by reads.
 pub fn run_joined_groups<H: Io, G: Gate, Y: Ledger>(
     alloc: Global,
     io: &mut H,
@@ -102,6 +103,9 @@ pub fn run_joined_groups<H: Io, G: Gate, Y: Ledger>(
     ensures sweeps { SweepsWithin (H.seen io.old) (query_parts left (Some join) (Some group) sink) options.now steps.old (H.seen io.new) steps.new }
 {
     let JoinPlan { right, rules } = plan;
+    let Ok(rules) = columns_read(alloc, rules, &group) else {
+        return Err(Fault::OutOfMemory);
+    };
     let Ok(input) = copied(&rules.output) else {
         return Err(Fault::OutOfMemory);
     };

@@ -1,5 +1,5 @@
 -- The course of a group-by, put together of what its phases did.
-use Rattle.std.proofs.Common.{◌≡◌, ◌⊎◌, inl, inr, ◌∷◌, [], ◌++◌, ℕ, ◌+◌, ◌*◌, ◌≤◌, List, Option, Some, None, Result, Ok, Err, length, refl, sym, ap, subst, ◌∙◌, arith}
+use Rattle.std.proofs.Common.{◌≡◌, ◌⊎◌, inl, inr, ◌∷◌, [], ◌++◌, ℕ, ◌+◌, ◌*◌, ◌≤◌, List, Option, Some, None, Result, Ok, Err, IfErr, IsErrAnd, length, refl, sym, ap, subst, ◌∙◌, arith}
 use Rattle.atomic_table.specs.Seated.{TableId}
 use Rattle.morsel_meaning.specs.declared.fault.Fault.{Fault}
 use Rattle.morsel_meaning.specs.declared.fault.Fault.TheVariants as faults
@@ -79,3 +79,8 @@ swept_given scan opened tokens given before between after first giving = record 
         → (giving.groups ≡ 0) ⊎ ((to : ℕ) × (rows : List Row) × JobGives (job_of scan.scan scan.reader files) to rows × (giving.groups ≤ length rows))
     within files had (inl none) = inl none
     within files had (inr (rows, are, few)) = inr (given, rows, took_scan scan.scan scan.reader opened tokens given rows are files had, few)
+
+-- what holds of the fault that is due holds of the one that is answered
+pub of_due : {X : Type 0} (P : Fault → Type 0) (due : Fault) (result : Result X Fault) → IsErrAnd result (λ fault. fault ≡ due) → P due → IfErr result P
+of_due P due (Ok x) is holds = tt
+of_due P due (Err fault) is holds = subst P (sym is) holds

@@ -65,9 +65,12 @@ pub columns_kept : {K : Type 0} {a b : _} (phase : GroupPhase K LaneFor a b) (ru
     → (group : GroupRulesSeen) → group_rules phase ≡ Some group → group.columns ≡ columns
 columns_kept phase rules ends columns takes have group is = ap (λ (r : GroupRulesSeen). r.columns) (some_same group rules (sym is ∙ takes.rules_are)) ∙ have
 
+not_there : false ≡ true → ⊥
+not_there e = cc
+
 -- what follows of two facts of one that is there
 pub some_gives : {X : Type 0} (P Q : X → Type 0) (R : Type 0) (there : Option X) → IsSome there → IfSome there P → IfSome there Q → ((x : X) → P x → Q x → R) → R
-some_gives P Q R None is p q follows = absurd is
+some_gives P Q R None is p q follows = absurd (not_there is)
 some_gives P Q R (Some x) is p q follows = follows x p q
 
 -- where nothing was taken before, all lanes are those that it took rows of

@@ -50,7 +50,7 @@ pub returns-clause-reader : goal.returns-clause-reader
 returns-clause-reader g c = refl
 
 pub returns-clause-within : goal.returns-clause-within
-returns-clause-within g c = c.in_ok-per_row.ensures.within
+returns-clause-within g c = rw (sym c.deref.ensures) c.in_ok-per_row.ensures.within
 
 pub returns-clause-small : goal.returns-clause-small
 returns-clause-small g c = c.in_ok-per_row.ensures.small

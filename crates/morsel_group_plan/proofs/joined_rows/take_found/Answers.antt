@@ -11,10 +11,10 @@ use Rattle.morsel_group_plan.proofs.JoinedCourse.{kept_unswept, taken_stopped}
 use Rattle.morsel_group_plan.proofs.LoneFacts.{some_gives, takes_first}
 use Rattle.morsel_group_plan.proofs.joined_rows.take_found.Goals as goal
 
-pub look_up_in-requires-clause-rows : goal.look_up_in-requires-clause-rows
-look_up_in-requires-clause-rows g c columns is =
-    let asks = rw (sym c.in-Some.ensures.value) at c.requires.asks in
-    carries_rows _ _ _ _ c.args.lanes.now.rows columns c.requires.rows (asks columns is)
+pub look_up_in-requires : goal.look_up_in-requires
+look_up_in-requires g c = record {
+  rows = λ columns is. let asks = rw (sym c.in-Some.ensures.value) at c.requires.asks in carries_rows _ _ _ _ c.args.lanes.now.rows columns c.requires.rows (asks columns is);
+}
 
 pub take_found_by-requires-clause-finds : goal.take_found_by-requires-clause-finds
 take_found_by-requires-clause-finds g c =

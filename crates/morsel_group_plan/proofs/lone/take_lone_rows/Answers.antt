@@ -7,21 +7,23 @@ use Rattle.morsel_group_units.specs.GroupAsks.{GroupRulesSeen}
 use Rattle.morsel_group_plan.proofs.LoneFacts.{alone_cuts, keeps_none, kept_for, took_last}
 use Rattle.morsel_group_plan.proofs.lone.take_lone_rows.Goals as goal
 
-pub take_from-requires-clause-cuts : goal.take_from-requires-clause-cuts
-take_from-requires-clause-cuts g c rules is =
+pub take_from-requires : goal.take_from-requires
+take_from-requires g c =
     let lane = c.requires.lane in
-    alone_cuts (kept_side lane.0) lane.2 c.args.alone.now rules.columns (ap (λ (l : LaneFor). l.kind) lane.4) lane.6 (lane.7 rules is)
+    record { cuts = λ rules is. alone_cuts (kept_side lane.0) lane.2 c.args.alone.now rules.columns (ap (λ (l : LaneFor). l.kind) lane.4) lane.6 (lane.7 rules is) }
 
-pub all_kept-requires-clause-for_job : goal.all_kept-requires-clause-for_job
-all_kept-requires-clause-for_job g c =
+pub all_kept-requires : goal.all_kept-requires
+all_kept-requires g c =
     let lane = c.requires.lane in
-    let had = sym c.in_ok-take_from.ensures.rules ∙ c.in_ok-empty.ensures.rules in (
-      c.args.alone.now,
-      c.in_ok-giver.ensures.gives_for lane.2 lane.2 c.args.alone.now
-          (gives_there c.args.join.now.phase lane.0 lane.2 c.args.alone.now lane.2.tokens lane.1 lane.3 (ap (λ (l : LaneFor). l.kind) lane.4) (ap (λ (l : LaneFor). l.stage) lane.4) lane.5 lane.6),
-      keeps_none _ _ _ c.args.alone.now c.in_ok-empty.ensures.none
-          (alone_cuts (kept_side lane.0) lane.2 c.args.alone.now _ (ap (λ (l : LaneFor). l.kind) lane.4) lane.6 (lane.7 _ had)),
-    )
+    let had = sym c.in_ok-take_from.ensures.rules ∙ c.in_ok-empty.ensures.rules in record {
+      for_job = (
+        c.args.alone.now,
+        c.in_ok-giver.ensures.gives_for lane.2 lane.2 c.args.alone.now
+            (gives_there c.args.join.now.phase lane.0 lane.2 c.args.alone.now lane.2.tokens lane.1 lane.3 (ap (λ (l : LaneFor). l.kind) lane.4) (ap (λ (l : LaneFor). l.stage) lane.4) lane.5 lane.6),
+        keeps_none _ _ _ c.args.alone.now c.in_ok-empty.ensures.none
+            (alone_cuts (kept_side lane.0) lane.2 c.args.alone.now _ (ap (λ (l : LaneFor). l.kind) lane.4) lane.6 (lane.7 _ had)),
+      );
+    }
 
 pub keep-requires-clause-rules : goal.keep-requires-clause-rules
 keep-requires-clause-rules g c rules is = c.in_ok-keeper.ensures.later ∙ some_same _ _ (sym c.in_ok-empty.ensures.rules ∙ is)

@@ -1,4 +1,4 @@
-use Rattle.std.proofs.Common.{Ok, Some, refl, sym, ap, subst, ◌∙◌}
+use Rattle.std.proofs.Common.{Ok, Err, Some, inl, refl, sym, ap, subst, ◌∙◌}
 use Rattle.morsel_meaning.specs.declared.fault.Fault.TheVariants as faults
 use Rattle.morsel_scan.specs.Scans.{CsvScan}
 use Rattle.morsel_scan.specs.ScanColumns.{output_fields}
@@ -9,7 +9,9 @@ use Rattle.morsel_keep_run.specs.KeepRuns.{KeepsOrNot}
 use Rattle.morsel_join_plan.proofs.CourseLemmas.{stops_behind, was_kept}
 use Rattle.morsel_join_plan.proofs.PortFacts.{some_follows}
 use Rattle.morsel_join_plan.proofs.TurnFacts.{lane_again, tokens_again}
-use Rattle.morsel_group_plan.proofs.CourseFacts.{takes_one}
+use Rattle.morsel_join_plan.specs.JoinLanes.{StopsKept}
+use Rattle.morsel_group_plan.proofs.CourseFacts.{of_due, takes_one}
+use Rattle.morsel_group_plan.proofs.JoinedCourse.{taken_stopped}
 use Rattle.morsel_group_plan.proofs.NodeFacts.{carries_cuts}
 use Rattle.morsel_group_plan.proofs.scan.take_scan.Goals as goal
 
@@ -61,3 +63,20 @@ take_rows-requires-clause-new g c = c.new-taking.ensures.none
 
 pub take_rows-requires-clause-rows : goal.take_rows-requires-clause-rows
 take_rows-requires-clause-rows g c = lane_again c.in_ok-lanes.lanes.rows _ _ _ _ _ _ c.in_ok-lanes.ensures.rows c.in_ok-source.ensures.ok refl
+
+pub returns-in_err-rules-clause-stops : goal.returns-in_err-rules-clause-stops
+returns-in_err-rules-clause-stops g c =
+    of_due (λ fault. StopsKept (record { scan = c.args.scan.node; reader = c.args.scan.reader }) (g.H.Io.seen c.args.io.now) fault (g.H.Io.seen c.args.io.now)) faults.OutOfMemory
+    c.from_residual-in_err-rules.result c.from_residual-in_err-rules.ensures.1 (inl (refl, refl))
+
+pub returns-in_err-source-clause-stops : goal.returns-in_err-source-clause-stops
+returns-in_err-source-clause-stops g c =
+    of_due (λ fault. StopsKept (record { scan = c.args.scan.node; reader = c.args.scan.reader }) (g.H.Io.seen c.args.io.now) fault (g.H.Io.seen c.args.io.now)) faults.OutOfMemory
+    c.from_residual-in_err-source.result c.from_residual-in_err-source.ensures.1 (inl (refl, refl))
+
+pub returns-in_err-taken-clause-stops : goal.returns-in_err-taken-clause-stops
+returns-in_err-taken-clause-stops g c =
+    of_due (λ fault. StopsKept (record { scan = c.args.scan.node; reader = c.args.scan.reader }) (g.H.Io.seen c.args.io.now) fault (g.H.Io.seen c.take_rows.new.io)) c.in_err-taken.field-0.0
+    c.from_residual-in_err-taken.result c.from_residual-in_err-taken.ensures.1
+    (taken_stopped (record { scan = c.args.scan.node; reader = c.args.scan.reader }) (g.H.Io.seen c.args.io.now) (g.H.Io.seen c.take_rows.new.io) c.in_err-taken.field-0.0
+    (subst (λ (s : CsvScan). KeepsOrNot s c.args.scan.reader (g.H.Io.seen c.args.io.now) (Err c.in_err-taken.field-0.0) (g.H.Io.seen c.take_rows.new.io)) c.in_ok-source.ensures.ok c.in_err-taken.ensures.keeps))

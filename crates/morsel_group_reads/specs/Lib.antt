@@ -1,0 +1,2 @@
+-- What a group-by reads.
+pub mod Reads
